@@ -74,13 +74,15 @@ def kit():
 
 
 class Edit(NamedTuple):
-    """A wrong body: its crate, folder and name, its pairs of old and new texts by file, and the functions that it changes."""
+    """A wrong body: its crate, folder and name, its pairs of old and new texts by file, the functions that it changes, and the folders
+    in proofs/ of these, which those of a cycle of calls share."""
 
     crate: str
     folder: str
     name: str
     pairs: tuple
     functions: tuple
+    homes: tuple
 
     def __str__(self):
         return f"{self.crate}/{self.folder}/{self.name}"
@@ -103,7 +105,7 @@ def owner(line):
 
 
 def holder(lines, at):
-    """The impl, whether it is a trait's, and the function (or its cycle) whose text holds line AT, if one does."""
+    """The impl, whether it is a trait's, the function whose text holds line AT, and its cycle of calls, if one does."""
     found, depth, cycle = None, None, None
     for number in range(at, -1, -1):
         line = lines[number]
@@ -116,11 +118,11 @@ def holder(lines, at):
             above = CYCLE.match(lines[number - 1])
             cycle = above and f"+{above[1]}"
         elif found is not None and indent < depth and IMPL.match(line):
-            return (*owner(line), cycle or found)
+            return (*owner(line), found, cycle)
         elif found is not None and indent < depth and (trait := re.match(r"\s*(?:pub(?:\([^)]*\))? )?trait (\w+)", line)):
-            return trait[1], True, cycle or found
+            return trait[1], True, found, cycle
         if found is not None and depth == 0:
-            return "", False, cycle or found
+            return "", False, found, cycle
     return None
 
 
@@ -139,18 +141,18 @@ def home(folder, kind):
 
 
 def function_at(folder, file, lines, at):
-    """The name that the prover has for the function whose text holds line AT."""
+    """The name that the prover has for the function whose text holds line AT, and its folder in proofs/."""
     held = holder(lines, at)
     if not held:
         return None
-    kind, is_trait, function = held
-    at_home = home(folder, kind) if kind and not is_trait else module(file)
-    return "::".join([*at_home, *([kind] if kind else []), function])
+    kind, is_trait, function, cycle = held
+    above = [*(home(folder, kind) if kind and not is_trait else module(file)), *([kind] if kind else [])]
+    return "::".join([*above, function]), "/".join([*above, cycle or function])
 
 
 def read(folder, kind, path):
     """An edit, with the functions that it changes."""
-    file, old, pairs, functions = "", None, [], []
+    file, old, pairs, functions = "", None, [], {}
     texts = {}
     for line in path.read_text().split("\n"):
         if line.startswith("file: "):
@@ -158,7 +160,7 @@ def read(folder, kind, path):
         elif line.startswith("old: "):
             old = line[5:]
         elif line.startswith("function: "):
-            functions.append(line[10:].strip())
+            functions[line[10:].strip()] = line[10:].strip().replace("::", "/")
         elif line.startswith("new:") and old is not None:
             new = line[4:].removeprefix(" ")
             try:
@@ -169,8 +171,7 @@ def read(folder, kind, path):
                 raise BadEdit(f"an 'old:' text stands {text.count(old)} times in {file}")
             at = text[: text.index(old)].count("\n")
             if file.startswith("src/"):
-                named = function_at(folder, file, text.split("\n"), at)
-                functions += [named] if named and named not in functions else []
+                functions.update([it for it in [function_at(folder, file, text.split("\n"), at)] if it])
             texts[file] = text.replace(old, new)
             pairs.append((file, old, new))
             old = None
@@ -178,7 +179,7 @@ def read(folder, kind, path):
         raise BadEdit("it has no 'old:' and 'new:'")
     if not functions:
         raise BadEdit("no function holds its text, and it has no line 'function:'")
-    return Edit(folder.name, kind, path.stem, tuple(pairs), tuple(functions))
+    return Edit(folder.name, kind, path.stem, tuple(pairs), tuple(functions), tuple(functions.values()))
 
 
 def edits_of(folder):
@@ -272,12 +273,12 @@ def is_of(name, function, crate):
 def told_of(checked, edit):
     """What the prover says of the edit's functions: what is not proved, or what is wrong in a proof file."""
     folder = ROOT / "crates" / edit.crate
-    proofs = tuple(f"proofs/{name.replace('::', '/')}/" for name in edit.functions)
+    proofs = tuple(f"proofs/{home}/" for home in edit.homes)
     sources = {file: (folder / file).read_text().split("\n") for file, _, _ in edit.pairs}
     for file, line, text in TOLD.findall(checked.text):
         # (an edit is one line for one line, so that lines keep their numbers)
-        is_source = file in sources and function_at(folder, file, sources[file], min(int(line), len(sources[file])) - 1) in edit.functions
-        if file.startswith(proofs) or is_source or edit.folder == "misreadings":
+        held = file in sources and function_at(folder, file, sources[file], min(int(line), len(sources[file])) - 1)
+        if file.startswith(proofs) or held and held[0] in edit.functions or edit.folder == "misreadings":
             yield text
 
 
@@ -336,18 +337,20 @@ def batch_of(pending):
             if not batch:
                 return [edit]
             continue
-        if not taken & set(edit.functions):
-            taken |= set(edit.functions)
+        if not taken & set(edit.homes):
+            taken |= set(edit.homes)
             batch.append(edit)
     return batch
 
 
 def tries(crate, batch):
     """What each edit of a batch comes to. Those that the batch hides are tried in smaller ones."""
-    functions = [name for edit in batch for name in edit.functions]
-    checked = crate.check(batch, functions)
+    try:
+        checked = crate.check(batch, [name for edit in batch for name in edit.functions])
+    except BadEdit:
+        checked = Checked("", {}, 2)
     if not checked.functions and len(batch) > 1:
-        # (one of them cannot be read, or is in a function that the prover names otherwise)
+        # (one of them cannot be read, or two of them not together)
         half = len(batch) // 2
         return {**tries(crate, batch[:half]), **tries(crate, batch[half:])}
     told = {edit: judge(checked, edit, batch) for edit in batch}
@@ -393,10 +396,14 @@ def changed(crates, revision):
     return [it for it in crates if it.name in here or any(dep.name in above for dep in it.below())]
 
 
+# What the script is tried on: what it is, what it must be told as, its function, and its text.
 ITSELF = (
-    ("it changes nothing", "proves", (("src/action.rt", "        matches!(self, Statement::More)", "        matches!(&*self, Statement::More)"),)),
-    ("its body is right but slower", "proves", (("src/action.rt", "        matches!(self, Statement::Reject)", "        let is_reject = matches!(self, Statement::Reject); is_reject == true"),)),
-    ("its body is wrong", "refused", (("src/action.rt", "        matches!(self, Statement::Less(_))", "        matches!(self, Statement::Less(_) | Statement::More)"),)),
+    ("a body that changes nothing", "proves", "action::Statement::is_yymore",
+        (("src/action.rt", "        matches!(self, Statement::More)", "        matches!(&*self, Statement::More)"),)),
+    ("a right body that is slower", "proves", "glance::are_simple",
+        (("src/glance.rt", "        if !is_simple(statement) {", "        if !(is_simple(statement) && is_simple(statement)) {"),)),
+    ("a wrong body", "refused", "action::Statement::is_yyless",
+        (("src/action.rt", "        matches!(self, Statement::Less(_))", "        matches!(self, Statement::Less(_) | Statement::More)"),)),
 )
 
 
@@ -405,10 +412,9 @@ def itself(rtlib, crates):
     made = next(it for it in crates if it.name == "lex_machine")
     crate, failed = Crate(rtlib, made), 0
     crate.build_below()
-    functions = [("action::Statement::is_yymore",), ("action::Statement::is_reject",), ("action::Statement::is_yyless",)]
-    edits = [Edit("lex_machine", "itself", name, pairs, named) for (name, _, pairs), named in zip(ITSELF, functions)]
+    edits = [Edit("lex_machine", "itself", name, pairs, (function,), (function.replace("::", "/"),)) for name, _, function, pairs in ITSELF]
     told = tries(crate, edits)
-    for edit, (name, want, _) in zip(edits, ITSELF):
+    for edit, (name, want, _, _) in zip(edits, ITSELF):
         word, why = told[edit]
         failed += word != want
         print(f"{word:10}{name}: {why}{'' if word == want else f'; wanted: {want}'}")

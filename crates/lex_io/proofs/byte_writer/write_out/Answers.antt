@@ -1,4 +1,3 @@
-use Rattle.std.proofs.lemmas.Grind.{common_steps}
 use Rattle.std.proofs.Common.{◌-◌, ◌++◌, length, take, drop, sym, ap, subst, ◌∙◌, arith, length-take}
 use lib.Seq.{take-add, take-take}
 use Rattle.std.specs.Io.KnownBytes.{Appends}
@@ -15,9 +14,3 @@ loop-written-preserved g c =
     let most = length-take (length xs - done) (drop done xs) in
     let joined = ap (λ l. take done xs ++ l) (take-take n (length xs - done) (drop done xs) (omega arith)) ∙ sym (take-add done n xs) in
     (omega arith, subst (Appends _ _) joined (Appends-trans _ _ _ _ _ before.1 c.in-Ok.ensures.bytes))
-
-pub returns-in-Err-clause-bytes : goal.returns-in-Err-clause-bytes
-returns-in-Err-clause-bytes = grind (arith, common_steps)
-
-pub returns-in-Ok-eq0-clause-bytes : goal.returns-in-Ok-eq0-clause-bytes
-returns-in-Ok-eq0-clause-bytes = grind (arith, common_steps)

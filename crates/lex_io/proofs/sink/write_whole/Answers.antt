@@ -1,5 +1,4 @@
-use Rattle.std.proofs.lemmas.Grind.{common_steps}
-use Rattle.std.proofs.Common.{◌++◌, take, refl, arith}
+use Rattle.std.proofs.Common.{◌++◌, take, refl}
 use Rattle.std.proofs.KnownBytes.{Appends-trans}
 use Rattle.lex_io.proofs.Rests.{moved}
 use Rattle.lex_io.proofs.sink.write_whole.Goals as goal
@@ -11,12 +10,3 @@ loop-rest-preserved g c =
       moved _ so_far.0 c.loop-rest.rest.now c.in-Ok.count _ so_far.1 refl,
       Appends-trans _ _ _ _ _ so_far.2 c.in-Ok.ensures.bytes,
     )
-
-pub returns : goal.returns
-returns = grind (arith, common_steps)
-
-pub returns-in-Ok-eq0 : goal.returns-in-Ok-eq0
-returns-in-Ok-eq0 = grind (arith, common_steps)
-
-pub returns-in-Ok-eq0-2 : goal.returns-in-Ok-eq0-2
-returns-in-Ok-eq0-2 = grind (arith, common_steps)

@@ -18,21 +18,3 @@ loop-statement-preserved c =
       grind (arith, common_steps),
       subst (λ (l : List S.Statement). Each HasText 0 l) (sym views) (each_push HasText (map statement_of old) (statement_of one) c.loop-statement.invariant.1 c.in_ok-copy_statement.ensures.text),
     )
-
-pub returns-clause-same : goal.returns-clause-same
-returns-clause-same = grind (arith, common_steps)
-
-pub returns-clause-text : goal.returns-clause-text
-returns-clause-text = grind (arith, common_steps)
-
-pub returns-in_err-copy_statement-clause-same : goal.returns-in_err-copy_statement-clause-same
-returns-in_err-copy_statement-clause-same = grind (arith, common_steps)
-
-pub returns-in_err-copy_statement-clause-text : goal.returns-in_err-copy_statement-clause-text
-returns-in_err-copy_statement-clause-text = grind (arith, common_steps)
-
-pub returns-in_err-push-clause-same : goal.returns-in_err-push-clause-same
-returns-in_err-push-clause-same = grind (arith, common_steps)
-
-pub returns-in_err-push-clause-text : goal.returns-in_err-push-clause-text
-returns-in_err-push-clause-text = grind (arith, common_steps)

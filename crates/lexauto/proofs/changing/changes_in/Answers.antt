@@ -1,4 +1,3 @@
-use Rattle.std.proofs.lemmas.Grind.{common_steps}
 use Rattle.std.proofs.Common.{rules, ◌≡◌, ◌+◌, ◌-◌, ◌<◌, false, inl, inr, ap, sym, ◌∙◌, arith}
 use Rattle.std.proofs.lemmas.Bool.{cases_eq}
 use Rattle.lex_semantics.specs.ByteSets.{has, union, single}
@@ -27,6 +26,3 @@ loop-before-preserved c = record {
             ])
       ];
 }
-
-pub returns : goal.returns
-returns = grind (arith, common_steps)

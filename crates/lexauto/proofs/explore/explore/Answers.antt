@@ -1,4 +1,3 @@
-use Rattle.std.proofs.lemmas.Grind.{common_steps}
 use Rattle.std.proofs.Common.{rules, ◌≡◌, ℕ, Bool, false, [], ◌∷◌, ◌++◌, ◌+◌, ◌-◌, ◌*◌, ◌/◌, ◌%◌, ◌<◌, ◌≤◌, List, length, refl, sym, subst, ap, ◌∙◌, get_or, Err, arith}
 use Rattle.lex_semantics.specs.Text.{Ascending}
 use Rattle.lexauto.specs.Explored.{Changes, key_at, goes_by, step_by}
@@ -159,21 +158,3 @@ returns-in_err-place-clause-too_many g c = λ e.
     let full = c.in_err-place.ensures.full (ap Err same) in
     too_many step roots (look_kept c.work.table.places) keys c.work.next.items c.args.limit c.work.invariant.exploring n refl (rw kept_length low)
     (subst (λ (k : Key). Absent keys k) key full.0) (rw kept_length full.1)
-
-pub next_change-end-requires-clause-len : goal.next_change-end-requires-clause-len
-next_change-end-requires-clause-len = grind (arith, common_steps)
-
-pub returns-clause-room : goal.returns-clause-room
-returns-clause-room = grind (arith, common_steps)
-
-pub returns-clause-too_many : goal.returns-clause-too_many
-returns-clause-too_many = grind (arith, common_steps)
-
-pub target-requires-clause-len : goal.target-requires-clause-len
-target-requires-clause-len = grind (arith, common_steps)
-
-pub work-init : goal.work-init
-work-init = grind (arith, common_steps)
-
-pub work-smaller : goal.work-smaller
-work-smaller = grind (arith, common_steps)

@@ -1,4 +1,3 @@
-use Rattle.std.proofs.lemmas.Grind.{common_steps}
 use Rattle.std.proofs.Common.{rules, ◌≡◌, ℕ, List, Some, None, length, cond, Bool, refl, sym, ap, subst, ◌∙◌, inl, inr, arith, [], ◌∷◌, ◌++◌}
 use Rattle.std.specs.BTreeMap.{UpdatesBy}
 use Rattle.std.specs.Cmp.Lexicographic.{slice_cmp}
@@ -71,12 +70,3 @@ returns-clause-found c =
     let grown : kept_in c.push.new.self.items ≡ keys ++ k ∷ [] =
     ap kept_in c.in_ok-push.ensures.items ∙ kept_of_push c.args.table.now.keys.items c.args.kept ∙ ap (λ (u : Key). keys ++ u ∷ []) (ap unpacked kept ∙ says k) in
     inr (absent (look_kept m) keys k c.requires.finds none, grown)
-
-pub overflow_cast-result : goal.overflow_cast-result
-overflow_cast-result = grind (arith, common_steps)
-
-pub returns-clause-full : goal.returns-clause-full
-returns-clause-full = grind (arith, common_steps)
-
-pub returns-clause-room : goal.returns-clause-room
-returns-clause-room = grind (arith, common_steps)

@@ -1,4 +1,3 @@
-use Rattle.std.proofs.lemmas.Grind.{common_steps}
 use Rattle.std.proofs.Common.{◌≡◌, ◌<◌, ℕ, Bool, List, length, map, refl, sym, subst, ap, ◌∙◌, arith}
 use Rattle.std.specs.Prelude.{slice_index}
 use Rattle.lex_semantics.specs.Active.{lists}
@@ -50,15 +49,3 @@ returns c =
           ∙ ap (chosen moves.accepts_all) (c.in_ok-walked.ensures.accepted ∙ left_is own all last moves.count (lasts_in key) gone same moves.within)
           ∙ ap (λ (b : Bool). chosen b left) moves.whole;
     }
-
-pub pass_rules-requires-clause-cursor : goal.pass_rules-requires-clause-cursor
-pass_rules-requires-clause-cursor = grind (arith, common_steps)
-
-pub pass_rules-requires-clause-few : goal.pass_rules-requires-clause-few
-pass_rules-requires-clause-few = grind (arith, common_steps)
-
-pub pass_rules-requires-clause-owners : goal.pass_rules-requires-clause-owners
-pass_rules-requires-clause-owners = grind (arith, common_steps)
-
-pub pass_rules-requires-clause-sized : goal.pass_rules-requires-clause-sized
-pass_rules-requires-clause-sized = grind (arith, common_steps)

@@ -1,5 +1,4 @@
-use Rattle.std.proofs.lemmas.Grind.{common_steps}
-use Rattle.std.proofs.Common.{rules, ◌≡◌, ℕ, Bool, true, false, List, [], length, map, refl, sym, ap, ◌∙◌, arith}
+use Rattle.std.proofs.Common.{rules, ◌≡◌, ℕ, Bool, true, false, List, [], length, map, refl, sym, ap, ◌∙◌}
 use Rattle.std.proofs.Math.Path.{fun_ext}
 use Rattle.lex_semantics.specs.Spec.{rejects}
 use Rattle.lex_semantics.specs.Subsets.{all_positions}
@@ -43,9 +42,3 @@ returns c =
       accepted = empty ∙ none_chosen (rejects (spec_of moves.spec.now))
           ∙ ap (chosen (rejects (spec_of moves.spec.now))) (sym (none_gone all) ∙ ap (λ (f : ℕ → Bool). rules_left all f 0 0) no_lasts);
     }
-
-pub enter_rules-requires-clause-few : goal.enter_rules-requires-clause-few
-enter_rules-requires-clause-few = grind (arith, common_steps)
-
-pub enter_rules-requires-clause-sized : goal.enter_rules-requires-clause-sized
-enter_rules-requires-clause-sized = grind (arith, common_steps)

@@ -1,4 +1,3 @@
-use Rattle.std.proofs.lemmas.Grind.{common_steps}
 use Rattle.std.proofs.Common.{rules, ◌≡◌, ℕ, ◌+◌, ◌<◌, ◌∷◌, List, Vec, Global, drop, length, sym, ap, ◌∙◌, arith}
 use Rattle.std.specs.Prelude.{slice_index}
 use Rattle.std.specs.List.{filter}
@@ -48,12 +47,3 @@ loop-position-preserved c =
             ∙ ap (λ (m : List ℕ). slice_index (c.loop-position.last ∷ m) (length m)) (sym here) ∙ c.loop-position.invariant.last)
       ];
     }
-
-pub returns-clause-last : goal.returns-clause-last
-returns-clause-last = grind (arith, common_steps)
-
-pub returns-clause-number : goal.returns-clause-number
-returns-clause-number = grind (arith, common_steps)
-
-pub returns-clause-words : goal.returns-clause-words
-returns-clause-words = grind (arith, common_steps)

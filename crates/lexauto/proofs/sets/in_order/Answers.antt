@@ -1,4 +1,3 @@
-use Rattle.std.proofs.lemmas.Grind.{common_steps}
 use Rattle.std.proofs.Common.{rules, ◌≡◌, ℕ, ◌<◌, Bool, List, length, true, arith, sym, ap, subst, ◌∙◌}
 use Rattle.lex_semantics.specs.Active.{lists}
 use Rattle.lex_semantics.specs.Text.{flag, listed}
@@ -26,6 +25,3 @@ returns-clause-same c = λ i.
     let size : length marks ≡ c.args.count = ap length c.deref.ensures.value ∙ c.in_ok-marks.ensures.length in
     let low : (j : ℕ) → flag marks j ≡ true → j < length marks = λ j t. let r = ((marked_is c.args.count c.args.numbers.now j).0 (sym (same j) ∙ t)).0 in omega (arith, r, size) in
     ap (λ (l : List ℕ). lists l i) c.in_ok-numbers.ensures ∙ listed_flags (length marks) (flag marks) low i ∙ same i
-
-pub returns-then-is_in_order-clause-increases : goal.returns-then-is_in_order-clause-increases
-returns-then-is_in_order-clause-increases = grind (arith, common_steps)

@@ -1,5 +1,4 @@
-use Rattle.std.proofs.lemmas.Grind.{common_steps}
-use Rattle.std.proofs.Common.{rules, ◌≡◌, ℕ, ◌<◌, length, true, false, ◌∙◌, ap, Vec, Global, arith}
+use Rattle.std.proofs.Common.{rules, ◌≡◌, ℕ, ◌<◌, length, true, false, ◌∙◌, ap, Vec, Global}
 use Rattle.lex_semantics.specs.Text.{flag}
 use Rattle.lexauto_positions.proofs.Numbers.{number_in, number_out}
 use Rattle.lexauto.proofs.sets.numbers_of.Goals.{then-is_in+in_ok-push, else-is_in}
@@ -18,6 +17,3 @@ loop-i-preserved c =
           (let t : flag marks i ≡ false = (let f = w.if-is_in.false in search (rules, f)) in
           number_out (flag marks) c.loop-i.numbers.items c.if-is_in.numbers.items i (length marks) lt t (ap (λ (v : Vec ℕ Global). v.items) w.numbers-is) ∙ c.loop-i.invariant)
     ]
-
-pub returns : goal.returns
-returns = grind (arith, common_steps)

@@ -1,4 +1,3 @@
-use Rattle.std.proofs.lemmas.Grind.{common_steps}
 use Rattle.std.proofs.Common.{rules, ◌≡◌, ◌<◌, ℕ, List, length, inr, arith, sym, ap, subst, ◌∙◌, Err}
 use Rattle.std.proofs.lemmas.Result.{err_from_is_err_and}
 use Rattle.lexspec_actions.specs.Views.{condition_of}
@@ -46,18 +45,3 @@ loop-number-preserved c =
       len = search rules;
       room = λ h. c.in_ok-place.ensures.room (before.room h);
     }
-
-pub loop-number-init : goal.loop-number-init
-loop-number-init = grind (arith, common_steps)
-
-pub returns-clause-len : goal.returns-clause-len
-returns-clause-len = grind (arith, common_steps)
-
-pub returns-clause-room : goal.returns-clause-room
-returns-clause-room = grind (arith, common_steps)
-
-pub returns-clause-too_many : goal.returns-clause-too_many
-returns-clause-too_many = grind (arith, common_steps)
-
-pub start_key-requires : goal.start_key-requires
-start_key-requires = grind (arith, common_steps)

@@ -1,4 +1,3 @@
-use Rattle.std.proofs.lemmas.Grind.{common_steps}
 use Rattle.std.proofs.Common.{rules, ◌≡◌, ◌<◌, ◌-◌, ◌++◌, ◌∷◌, [], ℕ, List, length, map, slice_get, Option, Some, IfOk, Vec, Global, ◌&&◌, ◌||◌, not, arith, refl, sym, ap, subst, ◌∙◌}
 use Rattle.lex_semantics.specs.Spec as M
 use Rattle.lex_semantics.specs.Active.{serves}
@@ -55,9 +54,3 @@ returns c =
     append_none : (v : List ℕ) → v ++ [] ≡ v
     append_none [] = refl
     append_none (x ∷ v) = ap (λ (t : List ℕ). x ∷ t) (append_none v)
-
-pub bounds-conditions-number : goal.bounds-conditions-number
-bounds-conditions-number = grind (arith, common_steps)
-
-pub overflow_cast-i : goal.overflow_cast-i
-overflow_cast-i = grind (arith, common_steps)

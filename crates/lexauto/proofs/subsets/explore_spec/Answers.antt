@@ -1,5 +1,4 @@
-use Rattle.std.proofs.lemmas.Grind.{common_steps}
-use Rattle.std.proofs.Common.{◌≡◌, ℕ, ap, sym, ◌∙◌, Err, not, arith}
+use Rattle.std.proofs.Common.{◌≡◌, ℕ, ap, sym, ◌∙◌, Err, not}
 use Rattle.std.proofs.lemmas.Result.{err_from_is_err_and}
 use Rattle.lexspec.specs.Views.{spec_of, rules_in}
 use Rattle.lex_semantics.specs.Reading.{is_empty}
@@ -53,15 +52,3 @@ returns-clause-accepts_len c =
 
 pub returns-clause-accepted : goal.returns-clause-accepted
 returns-clause-accepted c = c.in_ok-explored.ensures.accepts.each
-
-pub add_starts-requires : goal.add_starts-requires
-add_starts-requires = grind (arith, common_steps)
-
-pub explore-requires-clause-room : goal.explore-requires-clause-room
-explore-requires-clause-room = grind (arith, common_steps)
-
-pub returns-clause-len : goal.returns-clause-len
-returns-clause-len = grind (arith, common_steps)
-
-pub returns-clause-too_many : goal.returns-clause-too_many
-returns-clause-too_many = grind (arith, common_steps)

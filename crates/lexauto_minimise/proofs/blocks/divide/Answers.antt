@@ -1,4 +1,3 @@
-use Rattle.std.proofs.lemmas.Grind.{common_steps}
 use Rattle.std.proofs.Common.{rules, ◌≡◌, ◌≢◌, ◌^◌, ℕ, suc, ◌<◌, ◌≤◌, List, length, slice_index, arith, sym, ap, subst, ◌∙◌}
 use Rattle.std.proofs.lemmas.List.{with_items_is}
 use Rattle.lexauto_minimise.proofs.Dividing.{put, put_is, put_length, put_others, put_touched, few_blocks, divided, moved_at, rest_at}
@@ -75,27 +74,3 @@ returns-clause-touched c = λ e h t.
     (omega (arith, count, h))
     (subst (λ (xs : List ℕ). slice_index xs e < slice_index (put b.middle.items c.args.number c.args.kept.from c.args.piece.from) e) f
     (subst (λ (xs : List ℕ). slice_index c.push.new.self.items e < slice_index xs e) m t))
-
-pub overflow_cast-piece : goal.overflow_cast-piece
-overflow_cast-piece = grind (arith, common_steps)
-
-pub overflow_cast-piece-2 : goal.overflow_cast-piece-2
-overflow_cast-piece-2 = grind (arith, common_steps)
-
-pub rename-requires-clause-from : goal.rename-requires-clause-from
-rename-requires-clause-from = grind (arith, common_steps)
-
-pub rename-requires-clause-known : goal.rename-requires-clause-known
-rename-requires-clause-known = grind (arith, common_steps)
-
-pub rename-requires-clause-to : goal.rename-requires-clause-to
-rename-requires-clause-to = grind (arith, common_steps)
-
-pub returns-clause-count : goal.returns-clause-count
-returns-clause-count = grind (arith, common_steps)
-
-pub returns-clause-piece_is : goal.returns-clause-piece_is
-returns-clause-piece_is = grind (arith, common_steps)
-
-pub returns-clause-states : goal.returns-clause-states
-returns-clause-states = grind (arith, common_steps)

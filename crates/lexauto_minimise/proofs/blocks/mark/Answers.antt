@@ -1,4 +1,3 @@
-use Rattle.std.proofs.lemmas.Grind.{common_steps}
 use Rattle.std.proofs.Common.{rules, arith, sym}
 use Rattle.std.proofs.lemmas.List.{get_or_read}
 use Rattle.lexauto_minimise.proofs.Swapped as marking
@@ -51,24 +50,3 @@ returns-clause-only c =
     let m = sym (get_or_read b.middle.items _ _ (omega (arith, a.middles, l, k)) c.index-middle.ensures 0) in
     let z = sym (get_or_read b.order.items _ _ (let pl = a.placed c.args.state q in omega (arith, a.orders, pl, p, c.if-place-middle.false)) c.index-other.ensures 0) in
     marking.only b.order.items b.place.items b.block.items b.first.items b.middle.items b.end.items c.args.state c.index.result.now c.index-2.result.now c.index-middle.result.now c.index-other.result.now a q p k m z c.if-place-middle.false
-
-pub index_mut-requires-4 : goal.index_mut-requires-4
-index_mut-requires-4 = grind (arith, common_steps)
-
-pub returns-clause-marks : goal.returns-clause-marks
-returns-clause-marks = grind (arith, common_steps)
-
-pub returns-clause-touches : goal.returns-clause-touches
-returns-clause-touches = grind (arith, common_steps)
-
-pub returns-then-place-middle-clause-arranged : goal.returns-then-place-middle-clause-arranged
-returns-then-place-middle-clause-arranged = grind (arith, common_steps)
-
-pub returns-then-place-middle-clause-marks : goal.returns-then-place-middle-clause-marks
-returns-then-place-middle-clause-marks = grind (arith, common_steps)
-
-pub returns-then-place-middle-clause-only : goal.returns-then-place-middle-clause-only
-returns-then-place-middle-clause-only = grind (arith, common_steps)
-
-pub returns-then-place-middle-clause-touches : goal.returns-then-place-middle-clause-touches
-returns-then-place-middle-clause-touches = grind (arith, common_steps)

@@ -1,4 +1,3 @@
-use Rattle.std.proofs.lemmas.Grind.{common_steps}
 use Rattle.std.proofs.Common.{ℕ, arith, subst}
 use Rattle.std.specs.Prelude.{slice_index}
 use Rattle.std.proofs.lemmas.List.{get_or_read}
@@ -36,30 +35,3 @@ returns-clause-cut c =
     (subst (λ (i : ℕ). ArePieces c.index-first.result.now c.index-middle.result.now i kept.from kept.to piece.from piece.to) e c.halves-pieces.ensures)) in
     let d = c.in_ok-divide.ensures in
     pieces_cut b c.divide.new.blocks a n kept.from kept.to piece.from piece.to low two d.place d.states d.count d.moved d.rest d.others d.touched
-
-pub divide-requires-clause-arranged : goal.divide-requires-clause-arranged
-divide-requires-clause-arranged = grind (arith, common_steps)
-
-pub divide-requires-clause-number : goal.divide-requires-clause-number
-divide-requires-clause-number = grind (arith, common_steps)
-
-pub divide-requires-clause-pieces : goal.divide-requires-clause-pieces
-divide-requires-clause-pieces = grind (arith, common_steps)
-
-pub halves-pieces-requires-clause-marked : goal.halves-pieces-requires-clause-marked
-halves-pieces-requires-clause-marked = grind (arith, common_steps)
-
-pub halves-pieces-requires-clause-others : goal.halves-pieces-requires-clause-others
-halves-pieces-requires-clause-others = grind (arith, common_steps)
-
-pub returns-clause-arranged : goal.returns-clause-arranged
-returns-clause-arranged = grind (arith, common_steps)
-
-pub returns-then-not-is_mixed-clause-arranged : goal.returns-then-not-is_mixed-clause-arranged
-returns-then-not-is_mixed-clause-arranged = grind (arith, common_steps)
-
-pub returns-then-not-is_mixed-clause-cut : goal.returns-then-not-is_mixed-clause-cut
-returns-then-not-is_mixed-clause-cut = grind (arith, common_steps)
-
-pub returns-then-not-is_mixed-clause-half : goal.returns-then-not-is_mixed-clause-half
-returns-then-not-is_mixed-clause-half = grind (arith, common_steps)

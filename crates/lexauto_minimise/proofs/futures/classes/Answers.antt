@@ -1,4 +1,3 @@
-use Rattle.std.proofs.lemmas.Grind.{common_steps}
 use Rattle.std.proofs.Common.{rules, ◌≡◌, ℕ, List, length, slice_index, arith, sym, subst}
 use Rattle.lexauto_minimise.specs.Columns.{AreBytes}
 use Rattle.lexauto_minimise.specs.Letters.{AreLetters}
@@ -34,30 +33,3 @@ returns-clause-coarsest c =
     (subst (λ (ls : List Letter). AreBytes table c.len.result ls) (sym c.deref.ensures.value) c.in_ok-letters.ensures) in
     by_bytes letters table labels (λ x. slice_index c.in_ok-blocks.blocks.block.items x) are c.requires.len c.requires.known
     (closed letters labels (are_letters table (length labels) letters are)) c.in_ok-blocks.ensures.coarsest
-
-pub letters_of-requires-clause-known : goal.letters_of-requires-clause-known
-letters_of-requires-clause-known = grind (arith, common_steps)
-
-pub refine-requires-clause-labels : goal.refine-requires-clause-labels
-refine-requires-clause-labels = grind (arith, common_steps)
-
-pub returns-clause-len : goal.returns-clause-len
-returns-clause-len = grind (arith, common_steps)
-
-pub returns-in_err-blocks-clause-coarsest : goal.returns-in_err-blocks-clause-coarsest
-returns-in_err-blocks-clause-coarsest = grind (arith, common_steps)
-
-pub returns-in_err-blocks-clause-len : goal.returns-in_err-blocks-clause-len
-returns-in_err-blocks-clause-len = grind (arith, common_steps)
-
-pub returns-in_err-blocks-clause-row : goal.returns-in_err-blocks-clause-row
-returns-in_err-blocks-clause-row = grind (arith, common_steps)
-
-pub returns-in_err-letters-clause-coarsest : goal.returns-in_err-letters-clause-coarsest
-returns-in_err-letters-clause-coarsest = grind (arith, common_steps)
-
-pub returns-in_err-letters-clause-len : goal.returns-in_err-letters-clause-len
-returns-in_err-letters-clause-len = grind (arith, common_steps)
-
-pub returns-in_err-letters-clause-row : goal.returns-in_err-letters-clause-row
-returns-in_err-letters-clause-row = grind (arith, common_steps)

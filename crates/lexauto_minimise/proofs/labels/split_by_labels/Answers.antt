@@ -1,5 +1,4 @@
-use Rattle.std.proofs.lemmas.Grind.{common_steps}
-use Rattle.std.proofs.Common.{◌∙◌, arith}
+use Rattle.std.proofs.Common.{◌∙◌}
 use Rattle.lexauto_minimise.proofs.Alike.{one_more}
 use Rattle.lexauto_minimise.proofs.labels.split_by_labels.Goals as goal
 
@@ -15,24 +14,3 @@ loop-label-preserved c =
       alike = one_more c.args.labels.now.row.items c.loop-label.label c.loop-label.blocks c.split.new.blocks c.loop-label.waiting.items c.split.new.waiting.items k.same_states
           c.in_ok-split.ensures.cuts v.alike;
     }
-
-pub returns-clause-arranged : goal.returns-clause-arranged
-returns-clause-arranged = grind (arith, common_steps)
-
-pub returns-clause-known : goal.returns-clause-known
-returns-clause-known = grind (arith, common_steps)
-
-pub returns-clause-untouched : goal.returns-clause-untouched
-returns-clause-untouched = grind (arith, common_steps)
-
-pub split-requires-clause-arranged : goal.split-requires-clause-arranged
-split-requires-clause-arranged = grind (arith, common_steps)
-
-pub split-requires-clause-known : goal.split-requires-clause-known
-split-requires-clause-known = grind (arith, common_steps)
-
-pub split-requires-clause-targets : goal.split-requires-clause-targets
-split-requires-clause-targets = grind (arith, common_steps)
-
-pub split-requires-clause-untouched : goal.split-requires-clause-untouched
-split-requires-clause-untouched = grind (arith, common_steps)

@@ -1,5 +1,4 @@
-use Rattle.std.proofs.lemmas.Grind.{common_steps}
-use Rattle.std.proofs.Common.{◌≡◌, ℕ, ◌+◌, List, length, slice_index, ap, sym, subst, ◌∙◌, arith}
+use Rattle.std.proofs.Common.{◌≡◌, ℕ, ◌+◌, List, length, slice_index, ap, sym, subst, ◌∙◌}
 use Rattle.lexauto_minimise.specs.declared.sources.Letter.{Letter}
 use Rattle.lexauto_minimise.specs.Columns.{HaveLetters}
 use Rattle.lexauto_minimise.proofs.FirstBytes.{pushed}
@@ -13,9 +12,3 @@ returns c =
     subst (λ (letters : List Letter). HaveLetters c.args.next.now c.args.firsts.now c.args.states letters (c.args.byte + 1)) (sym c.in_ok-push.ensures.items)
     (pushed c.args.next.now c.args.firsts.now c.args.states c.args.letters.now.items c.args.byte c.requires.letters letter c.requires.byte
     (ap (λ (xs : List ℕ). length xs) same ∙ row.len) (λ x h. ap (λ (xs : List ℕ). slice_index xs x) same ∙ row.each x h))
-
-pub chain-requires-clause-row : goal.chain-requires-clause-row
-chain-requires-clause-row = grind (arith, common_steps)
-
-pub returns-then-firsts-byte : goal.returns-then-firsts-byte
-returns-then-firsts-byte = grind (arith, common_steps)

@@ -1,5 +1,4 @@
-use Rattle.std.proofs.lemmas.Grind.{common_steps}
-use Rattle.std.proofs.Common.{rules, ◌≡◌, ℕ, ◌<◌, ◌+◌, ◌⊎◌, List, Some, length, sym, ap, subst, ◌∙◌, arith}
+use Rattle.std.proofs.Common.{rules, ◌≡◌, ℕ, ◌<◌, ◌+◌, ◌⊎◌, List, Some, length, sym, ap, subst, ◌∙◌}
 use Rattle.lexauto_minimise.specs.Lists.{look, list_at, Labelled}
 use Rattle.lexauto_minimise.proofs.Labelling.{list_is, labelled_more, labelled_all}
 use Rattle.lexauto_minimise.proofs.lists.labels_of.Goals as goal
@@ -22,9 +21,3 @@ returns c =
     let vs = c.args.lists.now in
     let all : c.loop-state.state ≡ length vs = search rules in
     labelled_all vs (look c.loop-state.firsts) c.loop-state.labels.items (subst (λ (n : ℕ). Labelled vs (look c.loop-state.firsts) c.loop-state.labels.items n) all c.loop-state.invariant)
-
-pub returns-in_err-first_with : goal.returns-in_err-first_with
-returns-in_err-first_with = grind (arith, common_steps)
-
-pub returns-in_err-push : goal.returns-in_err-push
-returns-in_err-push = grind (arith, common_steps)

@@ -1,4 +1,3 @@
-use Rattle.std.proofs.lemmas.Grind.{common_steps}
 use Rattle.std.proofs.Common.{rules, ◌≡◌, ℕ, ◌+◌, length, slice_index, arith, sym, refl, subst}
 use Rattle.lexauto_minimise.specs.Marked.{Marks}
 use Rattle.lexauto_minimise.specs.Sources.{HasBelow}
@@ -28,15 +27,3 @@ returns-clause-marks c =
     let xs = c.args.targets.now in
     let all : i ≡ length xs = search rules in
     subst (λ (n : ℕ). Marks c.args.blocks.now (λ x. HasBelow xs n (slice_index row x)) c.loop-target.blocks) all c.loop-target.invariant.marks
-
-pub loop-target-init : goal.loop-target-init
-loop-target-init = grind (arith, common_steps)
-
-pub mark_sources-requires-clause-arranged : goal.mark_sources-requires-clause-arranged
-mark_sources-requires-clause-arranged = grind (arith, common_steps)
-
-pub mark_sources-requires-clause-row : goal.mark_sources-requires-clause-row
-mark_sources-requires-clause-row = grind (arith, common_steps)
-
-pub mark_sources-requires-clause-target : goal.mark_sources-requires-clause-target
-mark_sources-requires-clause-target = grind (arith, common_steps)

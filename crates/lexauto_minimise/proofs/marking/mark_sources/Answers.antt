@@ -1,4 +1,3 @@
-use Rattle.std.proofs.lemmas.Grind.{common_steps}
 use Rattle.std.proofs.Common.{rules, ◌≡◌, ◌-◌, ◌<◌, suc, length, arith}
 use Rattle.std.proofs.lemmas.List.{get_or_read}
 use Rattle.lexauto_minimise.proofs.Chains.{goes_before, marks_before}
@@ -28,15 +27,3 @@ chain-preserved c =
       marks = marks_before row last before letter.chained c.args.target next z c.index-next-in-chain.result.now at inside here is
           c.args.blocks.now c.chain.blocks c.note_unless_alone.new.blocks v.marks c.in_ok-note_unless_alone.ensures.marks;
     }
-
-pub index-next-requires-in-chain : goal.index-next-requires-in-chain
-index-next-requires-in-chain = grind (arith, common_steps)
-
-pub note_unless_alone-requires-clause-arranged : goal.note_unless_alone-requires-clause-arranged
-note_unless_alone-requires-clause-arranged = grind (arith, common_steps)
-
-pub note_unless_alone-requires-clause-state : goal.note_unless_alone-requires-clause-state
-note_unless_alone-requires-clause-state = grind (arith, common_steps)
-
-pub returns-clause-arranged : goal.returns-clause-arranged
-returns-clause-arranged = grind (arith, common_steps)

@@ -1,4 +1,3 @@
-use Rattle.std.proofs.lemmas.Grind.{common_steps}
 use Rattle.std.proofs.Common.{◌≡◌, ℕ, ◌<◌, ◌++◌, ◌∷◌, [], List, length, slice_index, arith, sym, subst, ap, ◌∙◌, Vec, Global}
 use Rattle.std.proofs.lemmas.List.{get_or_read}
 use Rattle.lexauto_minimise.specs.Arranged.{block_of, states}
@@ -24,12 +23,3 @@ pub returns-clause-marks : goal.returns-clause-marks
 returns-clause-marks c =
     let m = c.mark.ensures in
     one_marked c.args.blocks.now c.mark.new.blocks c.args.state c.mark.result m.block m.first m.touches m.marks m.keeps m.only
-
-pub index-requires : goal.index-requires
-index-requires = grind (arith, common_steps)
-
-pub returns-clause-arranged : goal.returns-clause-arranged
-returns-clause-arranged = grind (arith, common_steps)
-
-pub returns-then-not-mark-clause-arranged : goal.returns-then-not-mark-clause-arranged
-returns-then-not-mark-clause-arranged = grind (arith, common_steps)

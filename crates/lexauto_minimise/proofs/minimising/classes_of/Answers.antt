@@ -1,4 +1,3 @@
-use Rattle.std.proofs.lemmas.Grind.{common_steps}
 use Rattle.std.proofs.Common.{◌≡◌, ℕ, List, length, slice_index, arith, subst, ◌∙◌, Vec, Global}
 use Rattle.lexauto_minimise.specs.Futures.{IsCoarsest}
 use Rattle.lexauto_minimise.specs.Letters.{bytes_machine}
@@ -21,12 +20,3 @@ returns-clause-classes c =
     (λ x y h k. l.same x y (omega (arith, h, n)) (omega (arith, k, n)))
     (λ x y h k. l.one x y (omega (arith, h, n)) (omega (arith, k, n)))
     (subst (λ (xs : List ℕ). IsCoarsest (bytes_machine xs labels) (λ x. slice_index classes x)) table c.in_ok-classes.ensures.coarsest)
-
-pub classes-requires-clause-known : goal.classes-requires-clause-known
-classes-requires-clause-known = grind (arith, common_steps)
-
-pub classes-requires-clause-labels : goal.classes-requires-clause-labels
-classes-requires-clause-labels = grind (arith, common_steps)
-
-pub returns-clause-row : goal.returns-clause-row
-returns-clause-row = grind (arith, common_steps)

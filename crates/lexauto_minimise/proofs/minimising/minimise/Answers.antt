@@ -1,5 +1,4 @@
-use Rattle.std.proofs.lemmas.Grind.{common_steps}
-use Rattle.std.proofs.Common.{ℕ, List, sym, subst, arith}
+use Rattle.std.proofs.Common.{ℕ, List, sym, subst}
 use Rattle.lexauto_dfa.specs.Invariant.{IsAutomaton}
 use Rattle.lexauto_dfa.specs.declared.dfa.Parts.{Parts}
 use Rattle.lexauto_minimise.specs.Numbers.{AreMade}
@@ -42,12 +41,3 @@ returns c =
       laws = all.laws;
       table = all.table;
     }
-
-pub parts_of-requires-clause-automaton : goal.parts_of-requires-clause-automaton
-parts_of-requires-clause-automaton = grind (arith, common_steps)
-
-pub table_of-requires-clause-automaton : goal.table_of-requires-clause-automaton
-table_of-requires-clause-automaton = grind (arith, common_steps)
-
-pub table_of-requires-clause-row : goal.table_of-requires-clause-row
-table_of-requires-clause-row = grind (arith, common_steps)

@@ -1,4 +1,3 @@
-use Rattle.std.proofs.lemmas.Grind.{common_steps}
 use Rattle.std.proofs.Common.{rules, ◌≡◌, ℕ, ◌+◌, ◌*◌, false, Bool, List, length, slice_index, slice_index_or, arith, sym, refl, ap, ◌∙◌, Vec, Global}
 use Rattle.lexauto_minimise.specs.Lists.{list_at}
 use Rattle.lexauto_minimise.proofs.ByTurns.{turns_are}
@@ -33,9 +32,3 @@ returns c =
       flags = λ k h. c.in_ok-goes_on.ensures.each k (let l = ap (λ (xs : List ℕ). length xs) ks in omega (arith, h, l))
           ∙ ap (λ (gs : List Bool). slice_index_or gs (slice_index c.deref-6.result.now k) false) fs ∙ ap (λ (xs : List ℕ). slice_index_or d.goes_on.items (slice_index xs k) false) ks;
     }
-
-pub flags_at-requires : goal.flags_at-requires
-flags_at-requires = grind (arith, common_steps)
-
-pub lists_at-requires : goal.lists_at-requires
-lists_at-requires = grind (arith, common_steps)

@@ -1,5 +1,4 @@
-use Rattle.std.proofs.lemmas.Grind.{common_steps}
-use Rattle.std.proofs.Common.{◌≡◌, ℕ, ◌<◌, List, length, slice_index, sym, ap, subst, ◌∙◌, arith}
+use Rattle.std.proofs.Common.{◌≡◌, ℕ, ◌<◌, List, length, slice_index, sym, ap, subst, ◌∙◌}
 use Rattle.lexauto_minimise.specs.Least.{by_turns}
 use Rattle.lexauto_minimise.proofs.ByTurns.{turns_below}
 use Rattle.lexauto_minimise.proofs.minimising.table_of.Goals as goal
@@ -12,12 +11,3 @@ quotient-requires-clause-starts c =
     let below = turns_below d.starts.items d.line_starts.items (length d.goes_on.items) c.requires.automaton.lines c.requires.automaton.starts_known c.requires.automaton.lines_known in
     subst (λ (n : ℕ). (i : ℕ) → i < length c.deref-3.result.now → slice_index c.deref-3.result.now i < n) (sym c.requires.len)
     (subst (λ (xs : List ℕ). (i : ℕ) → i < length xs → slice_index xs i < length d.goes_on.items) (sym is) below)
-
-pub quotient-requires-clause-classes : goal.quotient-requires-clause-classes
-quotient-requires-clause-classes = grind (arith, common_steps)
-
-pub quotient-requires-clause-table : goal.quotient-requires-clause-table
-quotient-requires-clause-table = grind (arith, common_steps)
-
-pub returns : goal.returns
-returns = grind (arith, common_steps)

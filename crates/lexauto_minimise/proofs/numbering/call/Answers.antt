@@ -1,4 +1,3 @@
-use Rattle.std.proofs.lemmas.Grind.{common_steps}
 use Rattle.std.proofs.Common.{rules, ◌≡◌, ℕ, List, length, slice_index, arith, sym, refl, subst, set}
 use Rattle.lexauto_minimise.specs.Numbers.{Numbering}
 use Rattle.lexauto_minimise.proofs.Numbered.{one_number_more, few_numbers}
@@ -19,9 +18,3 @@ returns-clause-numbers c =
     let next : c.len.result ≡ length ns.members.items = search rules in
     subst (λ (ms : List ℕ). Numbering cs (set ns.of_class.items (slice_index cs x) c.len.result) ms) (sym c.in_ok-push.ensures.items)
     (one_number_more cs ns.of_class.items ns.members.items x (slice_index cs x) c.len.result c.requires.numbers c.requires.state refl low next c.requires.none)
-
-pub index_mut-requires : goal.index_mut-requires
-index_mut-requires = grind (arith, common_steps)
-
-pub returns-clause-number : goal.returns-clause-number
-returns-clause-number = grind (arith, common_steps)

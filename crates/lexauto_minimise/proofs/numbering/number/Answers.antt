@@ -1,4 +1,3 @@
-use Rattle.std.proofs.lemmas.Grind.{common_steps}
 use Rattle.std.proofs.Common.{rules, ◌≡◌, ℕ, List, [], ◌∷◌, ◌++◌, length, slice_index, arith, ap, ◌∙◌}
 use Rattle.std.proofs.lemmas.List.{get_or_read}
 use Rattle.lexauto_minimise.specs.declared.numbering.Numbers.{Numbers}
@@ -41,21 +40,3 @@ returns-clause-number c =
             same = ap (λ (y : ℕ). slice_index cs y) (ap (λ (l : List ℕ). slice_index l k) members ∙ ap (λ (j : ℕ). slice_index ns.members.items j) found) ∙ f.1;
           })
     ]
-
-pub call-requires-clause-classes : goal.call-requires-clause-classes
-call-requires-clause-classes = grind (arith, common_steps)
-
-pub call-requires-clause-none : goal.call-requires-clause-none
-call-requires-clause-none = grind (arith, common_steps)
-
-pub call-requires-clause-numbers : goal.call-requires-clause-numbers
-call-requires-clause-numbers = grind (arith, common_steps)
-
-pub index-requires-2 : goal.index-requires-2
-index-requires-2 = grind (arith, common_steps)
-
-pub returns-clause-grown : goal.returns-clause-grown
-returns-clause-grown = grind (arith, common_steps)
-
-pub returns-clause-numbers : goal.returns-clause-numbers
-returns-clause-numbers = grind (arith, common_steps)

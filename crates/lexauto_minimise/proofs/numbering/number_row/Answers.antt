@@ -1,4 +1,3 @@
-use Rattle.std.proofs.lemmas.Grind.{common_steps}
 use Rattle.std.proofs.Common.{rules, ◌≡◌, ℕ, ◌<◌, ◌+◌, ◌-◌, ◌*◌, ◌/◌, ◌%◌, ◌++◌, ◌∷◌, [], List, length, slice_index, take, drop, arith, sym, ap, subst, ◌∙◌, inr, append_assoc}
 use Rattle.std.proofs.lemmas.List.{get_or_read, get_or-take, get_or-drop, length-append}
 use Rattle.lexauto_minimise.specs.Numbers.{AreRows, AreCalled, IsNumberOf}
@@ -41,27 +40,3 @@ loop-target-preserved c =
           (call_more (length starts) old (starts ++ rows) x k new c.in_ok-number.ensures.grown (inr (let n = length-append starts rows in omega (arith, n, test))) (v.called starts a)));
       keeps = keeps_again start old new v.keeps f;
     }
-
-pub loop-target-init : goal.loop-target-init
-loop-target-init = grind (arith, common_steps)
-
-pub number-requires-clause-classes : goal.number-requires-clause-classes
-number-requires-clause-classes = grind (arith, common_steps)
-
-pub number-requires-clause-few : goal.number-requires-clause-few
-number-requires-clause-few = grind (arith, common_steps)
-
-pub number-requires-clause-numbers : goal.number-requires-clause-numbers
-number-requires-clause-numbers = grind (arith, common_steps)
-
-pub number-requires-clause-state : goal.number-requires-clause-state
-number-requires-clause-state = grind (arith, common_steps)
-
-pub returns-clause-keeps : goal.returns-clause-keeps
-returns-clause-keeps = grind (arith, common_steps)
-
-pub returns-clause-numbers : goal.returns-clause-numbers
-returns-clause-numbers = grind (arith, common_steps)
-
-pub returns-clause-rows : goal.returns-clause-rows
-returns-clause-rows = grind (arith, common_steps)

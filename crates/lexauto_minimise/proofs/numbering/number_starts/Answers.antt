@@ -1,4 +1,3 @@
-use Rattle.std.proofs.lemmas.Grind.{common_steps}
 use Rattle.std.proofs.Common.{rules, ℕ, ◌<◌, List, length, slice_index, arith, sym, subst, inl}
 use Rattle.lexauto_minimise.specs.Numbers.{AreStarts, AreCalled, IsNumberOf}
 use Rattle.lexauto_minimise.proofs.Numbered.{starts_more, keeps_grown, keeps_again, call_more}
@@ -26,24 +25,3 @@ loop-start-preserved c =
           (call_more (length ss) old called x k new c.in_ok-number.ensures.grown (inl (omega (arith, v.len, low))) v.called);
       keeps = keeps_again c.args.numbers.now.members.items old new v.keeps f;
     }
-
-pub loop-start-init : goal.loop-start-init
-loop-start-init = grind (arith, common_steps)
-
-pub number-requires-clause-classes : goal.number-requires-clause-classes
-number-requires-clause-classes = grind (arith, common_steps)
-
-pub number-requires-clause-numbers : goal.number-requires-clause-numbers
-number-requires-clause-numbers = grind (arith, common_steps)
-
-pub number-requires-clause-state : goal.number-requires-clause-state
-number-requires-clause-state = grind (arith, common_steps)
-
-pub returns-clause-each : goal.returns-clause-each
-returns-clause-each = grind (arith, common_steps)
-
-pub returns-clause-keeps : goal.returns-clause-keeps
-returns-clause-keeps = grind (arith, common_steps)
-
-pub returns-clause-numbers : goal.returns-clause-numbers
-returns-clause-numbers = grind (arith, common_steps)

@@ -1,5 +1,4 @@
-use Rattle.std.proofs.lemmas.Grind.{common_steps}
-use Rattle.std.proofs.Common.{ℕ, inl, inr, refl, subst, arith}
+use Rattle.std.proofs.Common.{ℕ, inl, inr, refl, subst}
 use Rattle.std.specs.Prelude.{slice_index}
 use Rattle.lexauto_minimise.specs.Predecessors.{Allows, known_of}
 use Rattle.lexauto_minimise.proofs.Noting.{below_more}
@@ -11,15 +10,3 @@ loop-target-preserved c = λ t x has allows.
       | inl before ↦ c.loop-target.invariant t x before allows
       | inr same ↦ c.has_lone.ensures c.if-not-has_lone.false x (subst (λ (s : ℕ). Allows (known_of c.args.known.now s) x) same allows)
     ]
-
-pub bounds-known-target : goal.bounds-known-target
-bounds-known-target = grind (arith, common_steps)
-
-pub has_lone-requires-clause-arranged : goal.has_lone-requires-clause-arranged
-has_lone-requires-clause-arranged = grind (arith, common_steps)
-
-pub returns : goal.returns
-returns = grind (arith, common_steps)
-
-pub returns-then-not-has_lone : goal.returns-then-not-has_lone
-returns-then-not-has_lone = grind (arith, common_steps)

@@ -1,4 +1,3 @@
-use Rattle.std.proofs.lemmas.Grind.{common_steps}
 use Rattle.std.proofs.Common.{rules, ◌≡◌, ℕ, ◌<◌, List, length, slice_index, inl, inr, sym, ap, subst, ◌∙◌, arith}
 use Rattle.std.proofs.lemmas.Bool.{cases_lt}
 use Rattle.lexauto_minimise.specs.declared.predecessors.Predecessors.{Predecessors}
@@ -66,15 +65,3 @@ loop-letter-preserved c =
             (subst (λ (xs : List ℕ). Allows (known_of new (slice_index xs x)) x) (sym row) (e.allows x (omega (arith, states, h)))))
       ]);
     }
-
-pub add_row-requires-clause-row : goal.add_row-requires-clause-row
-add_row-requires-clause-row = grind (arith, common_steps)
-
-pub loop-letter-init : goal.loop-letter-init
-loop-letter-init = grind (arith, common_steps)
-
-pub returns-clause-allow : goal.returns-clause-allow
-returns-clause-allow = grind (arith, common_steps)
-
-pub returns-clause-below : goal.returns-clause-below
-returns-clause-below = grind (arith, common_steps)

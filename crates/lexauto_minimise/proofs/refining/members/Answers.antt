@@ -1,4 +1,3 @@
-use Rattle.std.proofs.lemmas.Grind.{common_steps}
 use Rattle.std.proofs.Common.{ℕ, ◌-◌, List, slice_index, take, drop, arith, sym, ap, ◌∙◌}
 use Rattle.std.proofs.lemmas.List.{get_or_read}
 use Rattle.lexauto_minimise.proofs.Stretched.{members_of}
@@ -17,6 +16,3 @@ returns-clause-of c =
     ∙ ap (λ (ys : List ℕ). take (c.index-2.result.now - c.index.result.now) (drop c.index.result.now ys)) g
     ∙ ap (λ (i : ℕ). take (c.index-2.result.now - i) (drop i b.order.items)) (sym f)
     ∙ ap (λ (i : ℕ). take (i - slice_index b.first.items c.args.number) (drop (slice_index b.first.items c.args.number) b.order.items)) (sym t))
-
-pub returns-clause-known : goal.returns-clause-known
-returns-clause-known = grind (arith, common_steps)

@@ -1,4 +1,3 @@
-use Rattle.std.proofs.lemmas.Grind.{common_steps}
 use Rattle.std.proofs.Common.{rules, ◌≡◌, ◌↔◌, ℕ, ◌-◌, ◌<◌, true, List, length, slice_index, arith, sym, ap, subst, ◌∙◌}
 use Rattle.lexauto_minimise.specs.Arranged.{states, block_of}
 use Rattle.lexauto_minimise.specs.Letters.{row_of}
@@ -51,36 +50,3 @@ loop-index-preserved c =
           (c.in_ok-split.ensures.cuts m (λ x h. subst (λ (xs : List ℕ). (m x ≡ true) ↔ Has c.args.targets.now (slice_index xs x)) row (f x (omega (arith, v.counts.same_states, h))))))
           (v.used labels coarse inside len tells u);
     }
-
-pub is_settled-requires-clause-targets : goal.is_settled-requires-clause-targets
-is_settled-requires-clause-targets = grind (arith, common_steps)
-
-pub returns-clause-arranged : goal.returns-clause-arranged
-returns-clause-arranged = grind (arith, common_steps)
-
-pub returns-clause-counts : goal.returns-clause-counts
-returns-clause-counts = grind (arith, common_steps)
-
-pub returns-clause-untouched : goal.returns-clause-untouched
-returns-clause-untouched = grind (arith, common_steps)
-
-pub returns-then-is_settled-clause-arranged : goal.returns-then-is_settled-clause-arranged
-returns-then-is_settled-clause-arranged = grind (arith, common_steps)
-
-pub returns-then-is_settled-clause-counts : goal.returns-then-is_settled-clause-counts
-returns-then-is_settled-clause-counts = grind (arith, common_steps)
-
-pub returns-then-is_settled-clause-untouched : goal.returns-then-is_settled-clause-untouched
-returns-then-is_settled-clause-untouched = grind (arith, common_steps)
-
-pub split-requires-clause-arranged : goal.split-requires-clause-arranged
-split-requires-clause-arranged = grind (arith, common_steps)
-
-pub split-requires-clause-known : goal.split-requires-clause-known
-split-requires-clause-known = grind (arith, common_steps)
-
-pub split-requires-clause-targets : goal.split-requires-clause-targets
-split-requires-clause-targets = grind (arith, common_steps)
-
-pub split-requires-clause-untouched : goal.split-requires-clause-untouched
-split-requires-clause-untouched = grind (arith, common_steps)

@@ -1,4 +1,3 @@
-use Rattle.std.proofs.lemmas.Grind.{common_steps}
 use Rattle.std.proofs.Common.{rules, ◌≡◌, ◌↔◌, ℕ, ◌<◌, ◌≤◌, ◌+◌, ◌-◌, List, length, arith, sym, subst, ◌∙◌}
 use Rattle.lexauto_minimise.specs.Arranged.{states, count, block_of, Arranged}
 use Rattle.lexauto_minimise.specs.Sources.{Has}
@@ -52,33 +51,3 @@ pub returns-clause-coarsest : goal.returns-clause-coarsest
 returns-clause-coarsest c = λ labels len r.
     let v = c.rounds.invariant in
     settled c.args.letters.now labels (states c.args.blocks.now) len c.requires.rows (block_of c.rounds.blocks) c.rounds.waiting.items (search (rules, c.in_default.ensures.cases)) (v.refining labels len r)
-
-pub members-requires-clause-arranged : goal.members-requires-clause-arranged
-members-requires-clause-arranged = grind (arith, common_steps)
-
-pub predecessors_of-requires-clause-rows : goal.predecessors_of-requires-clause-rows
-predecessors_of-requires-clause-rows = grind (arith, common_steps)
-
-pub returns-clause-arranged : goal.returns-clause-arranged
-returns-clause-arranged = grind (arith, common_steps)
-
-pub split_by_all-requires-clause-allow : goal.split_by_all-requires-clause-allow
-split_by_all-requires-clause-allow = grind (arith, common_steps)
-
-pub split_by_all-requires-clause-arranged : goal.split_by_all-requires-clause-arranged
-split_by_all-requires-clause-arranged = grind (arith, common_steps)
-
-pub split_by_all-requires-clause-below : goal.split_by_all-requires-clause-below
-split_by_all-requires-clause-below = grind (arith, common_steps)
-
-pub split_by_all-requires-clause-len : goal.split_by_all-requires-clause-len
-split_by_all-requires-clause-len = grind (arith, common_steps)
-
-pub split_by_all-requires-clause-rows : goal.split_by_all-requires-clause-rows
-split_by_all-requires-clause-rows = grind (arith, common_steps)
-
-pub split_by_all-requires-clause-targets : goal.split_by_all-requires-clause-targets
-split_by_all-requires-clause-targets = grind (arith, common_steps)
-
-pub split_by_all-requires-clause-untouched : goal.split_by_all-requires-clause-untouched
-split_by_all-requires-clause-untouched = grind (arith, common_steps)

@@ -1,4 +1,3 @@
-use Rattle.std.proofs.lemmas.Grind.{common_steps}
 use Rattle.std.proofs.Common.{rules, ◌≡◌, ℕ, ◌+◌, ◌<◌, ◌++◌, ◌∷◌, [], List, length, slice_index, slice_set, arith, refl, sym, subst, ap, ◌∙◌}
 use Rattle.std.proofs.lemmas.List.{get_or_read}
 use Rattle.lexauto_minimise.specs.Sources.{AreChains}
@@ -18,21 +17,3 @@ loop-x-preserved c =
     let items : c.push.new.self.items ≡ before ++ slice_index last (slice_index row x) ∷ [] = c.in_ok-push.ensures.items ∙ ap (λ (n : ℕ). before ++ n ∷ []) read in
     subst (λ (xs : List ℕ). AreChains row (slice_set last (slice_index row x) (x + 1)) xs (x + 1)) (sym items)
     (one_more_chained row last before x (slice_index row x) chains low refl)
-
-pub index-requires : goal.index-requires
-index-requires = grind (arith, common_steps)
-
-pub index_mut-requires : goal.index_mut-requires
-index_mut-requires = grind (arith, common_steps)
-
-pub loop-x-init : goal.loop-x-init
-loop-x-init = grind (arith, common_steps)
-
-pub overflow_add-x : goal.overflow_add-x
-overflow_add-x = grind (arith, common_steps)
-
-pub overflow_cast-x : goal.overflow_cast-x
-overflow_cast-x = grind (arith, common_steps)
-
-pub returns : goal.returns
-returns = grind (arith, common_steps)

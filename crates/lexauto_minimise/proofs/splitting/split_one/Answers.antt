@@ -1,4 +1,3 @@
-use Rattle.std.proofs.lemmas.Grind.{common_steps}
 use Rattle.std.proofs.Common.{rules, ◌≡◌, ◌^◌, ℕ, ◌<◌, ◌++◌, ◌∷◌, [], true, false, Bool, List, length, arith, sym, ap, subst, ◌∙◌}
 use Rattle.lexauto_minimise.specs.Sources.{Has}
 use Rattle.lexauto_minimise.proofs.Dividing.{few_blocks}
@@ -34,18 +33,3 @@ returns-else-branch-clause-goes_on c = λ old waited m same g.
   where
     clash : (b : Bool) → b ≡ true → b ≡ false → ⊥
     clash b h k = absurd cc
-
-pub returns-else-branch-clause-arranged : goal.returns-else-branch-clause-arranged
-returns-else-branch-clause-arranged = grind (arith, common_steps)
-
-pub returns-else-branch-clause-counts : goal.returns-else-branch-clause-counts
-returns-else-branch-clause-counts = grind (arith, common_steps)
-
-pub returns-else-branch-clause-touched : goal.returns-else-branch-clause-touched
-returns-else-branch-clause-touched = grind (arith, common_steps)
-
-pub returns-in_ok-push-clause-arranged : goal.returns-in_ok-push-clause-arranged
-returns-in_ok-push-clause-arranged = grind (arith, common_steps)
-
-pub returns-in_ok-push-clause-touched : goal.returns-in_ok-push-clause-touched
-returns-in_ok-push-clause-touched = grind (arith, common_steps)

@@ -1,4 +1,3 @@
-use Rattle.std.proofs.lemmas.Grind.{common_steps}
 use Rattle.std.proofs.Common.{rules, ◌≡◌, ◌≢◌, ℕ, ◌+◌, List, length, slice_index, arith, sym, ap, ◌∙◌}
 use Rattle.lexauto_minimise.specs.Sources.{HasFrom}
 use Rattle.lexauto_minimise.proofs.GoesOn.{ends}
@@ -32,15 +31,3 @@ returns-clause-cuts c = λ m f.
     let all : c.loop-number.number-index ≡ length c.args.touched.now = search rules in
     ends c.args.blocks.now c.loop-number.blocks c.args.waiting.now.items c.loop-number.waiting.items m v.arranged v.counts.same_states
     (λ d h t. let (i, from, low, e) = v.left d h t in omega (arith, from, low, all)) (v.going m f)
-
-pub returns-clause-untouched : goal.returns-clause-untouched
-returns-clause-untouched = grind (arith, common_steps)
-
-pub split_one-requires-clause-arranged : goal.split_one-requires-clause-arranged
-split_one-requires-clause-arranged = grind (arith, common_steps)
-
-pub split_one-requires-clause-known : goal.split_one-requires-clause-known
-split_one-requires-clause-known = grind (arith, common_steps)
-
-pub split_one-requires-clause-number : goal.split_one-requires-clause-number
-split_one-requires-clause-number = grind (arith, common_steps)

@@ -1,4 +1,3 @@
-use Rattle.std.proofs.lemmas.Grind.{common_steps}
 use Rattle.std.proofs.Common.{ℕ, length, slice_index, arith, sym, ap, subst, ◌∙◌}
 use Rattle.lexauto_minimise.specs.Numbers.{AreCalled}
 use Rattle.lexauto_minimise.proofs.Numbered.{number_kept, few_numbers}
@@ -32,24 +31,3 @@ returns c =
       rows_are = c.in_ok-table.ensures.rows;
       called = c.in_ok-table.ensures.called numbered (subst (λ (n : ℕ). AreCalled n mid numbered) (sym len) c.in_ok-starts.ensures.called);
     }
-
-pub number_rows-requires-clause-classes : goal.number_rows-requires-clause-classes
-number_rows-requires-clause-classes = grind (arith, common_steps)
-
-pub number_rows-requires-clause-len : goal.number_rows-requires-clause-len
-number_rows-requires-clause-len = grind (arith, common_steps)
-
-pub number_rows-requires-clause-numbers : goal.number_rows-requires-clause-numbers
-number_rows-requires-clause-numbers = grind (arith, common_steps)
-
-pub number_rows-requires-clause-table : goal.number_rows-requires-clause-table
-number_rows-requires-clause-table = grind (arith, common_steps)
-
-pub number_starts-requires-clause-classes : goal.number_starts-requires-clause-classes
-number_starts-requires-clause-classes = grind (arith, common_steps)
-
-pub number_starts-requires-clause-numbers : goal.number_starts-requires-clause-numbers
-number_starts-requires-clause-numbers = grind (arith, common_steps)
-
-pub number_starts-requires-clause-starts : goal.number_starts-requires-clause-starts
-number_starts-requires-clause-starts = grind (arith, common_steps)

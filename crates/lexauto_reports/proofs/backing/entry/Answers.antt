@@ -1,4 +1,3 @@
-use Rattle.std.proofs.lemmas.Grind.{common_steps}
 use Rattle.std.proofs.Common.{◌≡◌, ◌+◌, ◌*◌, [], true, Some, None, length, sym, refl, ◌∙◌, arith}
 use Rattle.std.proofs.lemmas.List.{get_or_read, nil_from_length}
 use Rattle.std.proofs.lemmas.Bool.{eqb-true}
@@ -38,6 +37,3 @@ returns-in_ok-word-in-Some c =
     let none : accepts p c.args.state ≡ [] = sym c.accepts.ensures.rules ∙ nil_from_length c.accepts.result.now (eqb-true (length c.accepts.result.now) 0 (sym c.is_empty.ensures ∙ c.if-not-is_empty.false)) in
     let f = first_word p c.args.state c.in-Some.place (words_of gs) c.args.found.now.places.items c.in_ok-word-in-Some.word.items a there word in
     (refl, (goes, none, c.in_ok-word-in-Some.word.items, f.0), f)
-
-pub returns-then-not-goes_on : goal.returns-then-not-goes_on
-returns-then-not-goes_on = grind (arith, common_steps)

@@ -1,4 +1,3 @@
-use Rattle.std.proofs.lemmas.Grind.{common_steps}
 use Rattle.std.proofs.Common.{◌≡◌, ◌∷◌, [], codes, decimal, sym, ◌++◌, ◌+◌, ◌∙◌, arith, drop, length, ap, List, ℕ, flat_map}
 use Rattle.lexauto_reports.proofs.Parts.{stopped_at, written_at, longer, appended_after, no_part}
 use Rattle.lexauto_reports.specs.ReportLines.{backup_line, backup_lines, count_line}
@@ -32,12 +31,3 @@ returns-clause-bytes g c =
     let e : backup_lines c.args.entries.now ≡ so_far.0 ++ (codes "states that back up: " ++ (c.format-count.result.now ++ (10 ∷ []))) =
     ap (λ l. l ++ count_line (length c.args.entries.now)) whole ∙ ap (λ l. so_far.0 ++ (codes "states that back up: " ++ (l ++ (10 ∷ [])))) n in
     rw e (appended_after before after so_far.0 _ c.put_all.result join c.put_all.ensures.bytes)
-
-pub loop-entry-init : goal.loop-entry-init
-loop-entry-init = grind (arith, common_steps)
-
-pub returns-clause-failures : goal.returns-clause-failures
-returns-clause-failures = grind (arith, common_steps)
-
-pub returns-in-Err-clause-failures : goal.returns-in-Err-clause-failures
-returns-in-Err-clause-failures = grind (arith, common_steps)

@@ -1,5 +1,4 @@
-use Rattle.std.proofs.lemmas.Grind.{common_steps}
-use Rattle.std.proofs.Common.{rules, ◌+◌, ◌*◌, arith}
+use Rattle.std.proofs.Common.{rules, ◌+◌, ◌*◌}
 use Rattle.std.specs.Prelude.{cond}
 use Rattle.std.proofs.lemmas.List.Sorted.{IsNonDecreasingBy-from_sort_by_key}
 use Rattle.lexauto_reports.specs.declared.warned.Warning.{Warning}
@@ -10,21 +9,3 @@ pub returns-clause-in_order : goal.returns-clause-in_order
 returns-clause-in_order c =
     let sorted = IsNonDecreasingBy-from_sort_by_key (λ (w : Warning). 2 * w.line + cond w.code 0 1) _ c.in_ok-sort_by_key.ensures.sorted (λ a r q k. search rules) in
     in_order _ (λ i j d le lt. precedes _ _ (sorted i j d le lt))
-
-pub add_rules-requires : goal.add_rules-requires
-add_rules-requires = grind (arith, common_steps)
-
-pub returns-clause-all : goal.returns-clause-all
-returns-clause-all = grind (arith, common_steps)
-
-pub returns-in_err-add_rules-clause-all : goal.returns-in_err-add_rules-clause-all
-returns-in_err-add_rules-clause-all = grind (arith, common_steps)
-
-pub returns-in_err-add_rules-clause-in_order : goal.returns-in_err-add_rules-clause-in_order
-returns-in_err-add_rules-clause-in_order = grind (arith, common_steps)
-
-pub returns-in_err-warnings-clause-all : goal.returns-in_err-warnings-clause-all
-returns-in_err-warnings-clause-all = grind (arith, common_steps)
-
-pub returns-in_err-warnings-clause-in_order : goal.returns-in_err-warnings-clause-in_order
-returns-in_err-warnings-clause-in_order = grind (arith, common_steps)

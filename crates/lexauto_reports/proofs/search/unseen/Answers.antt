@@ -1,4 +1,3 @@
-use Rattle.std.proofs.lemmas.Grind.{common_steps}
 use Rattle.std.proofs.Common.{rules, ◌≡◌, ◌<◌, ◌++◌, ◌∷◌, ◌+◌, [], ℕ, List, Option, Some, None, Vec, Global, length, set, sym, ap, subst, ◌∙◌, arith}
 use Rattle.std.proofs.lemmas.List.{take_all, get_or_read}
 use Rattle.lex_semantics.specs.Text.{Among}
@@ -48,6 +47,3 @@ pub returns-clause-all : goal.returns-clause-all
 returns-clause-all c = λ y m.
     let all = take_all c.loop-state.state-index c.args.states.now (search rules) in
     c.loop-state.invariant.all y (subst (λ (l : List ℕ). Among l y) (sym all) m)
-
-pub loop-state-init : goal.loop-state-init
-loop-state-init = grind (arith, common_steps)

@@ -1,4 +1,3 @@
-use Rattle.std.proofs.lemmas.Grind.{common_steps}
 use Rattle.std.proofs.Common.{rules, ◌≡◌, ◌<◌, ◌+◌, ◌++◌, ◌∷◌, [], ℕ, List, length, sym, subst, ◌∙◌, arith}
 use Rattle.std.proofs.lemmas.Bool.{eqb-true}
 use Rattle.std.proofs.lemmas.List.{nil_from_length, length-map}
@@ -58,12 +57,3 @@ pub returns-then-lead-byte-clause-next : goal.returns-then-lead-byte-clause-next
 returns-then-lead-byte-clause-next c =
     let gs = c.args.groups.now in
     passed_over c.args.dfa.now.parts (words_of gs) (states_of_groups gs) c.args.places.now.items c.args.place c.args.byte c.args.lead c.requires.here (let f = c.ranges.byte.fits in omega arith) c.if-lead-byte.true c.requires.alike
-
-pub add-requires : goal.add-requires
-add-requires = grind (arith, common_steps)
-
-pub index-requires : goal.index-requires
-index-requires = grind (arith, common_steps)
-
-pub returns-clause-fewer : goal.returns-clause-fewer
-returns-clause-fewer = grind (arith, common_steps)

@@ -1,4 +1,3 @@
-use Rattle.std.proofs.lemmas.Grind.{common_steps}
 use Rattle.std.proofs.Common.{rules, ◌≡◌, ◌↔◌, ◌⊎◌, ℕ, Bool, true, List, length, ◌+◌, arith, subst, sym, ap, ◌∙◌}
 use Rattle.lex_semantics.specs.Text.{flag, Among}
 use Rattle.lexauto_reports.specs.Accepted.{AcceptsBelow}
@@ -17,12 +16,3 @@ loop-state-preserved c =
       flags = subst (λ (l : List Bool). (i : ℕ) → (flag l i ≡ true) ↔ AcceptsBelow c.args.dfa.now (c.loop-state.state + 1) i) (sym same)
           (accepts_more c.args.dfa.now c.loop-state.state c.accepts.result.now c.loop-state.accepted.items new c.accepts.ensures.rules c.loop-state.invariant.flags (subst (λ (l : List Bool). (i : ℕ) → (flag new i ≡ true) ↔ ((flag l i ≡ true) ⊎ Among c.accepts.result.now i)) value c.set.ensures.flags));
     }
-
-pub loop-state-init : goal.loop-state-init
-loop-state-init = grind (arith, common_steps)
-
-pub returns-clause-flags : goal.returns-clause-flags
-returns-clause-flags = grind (arith, common_steps)
-
-pub set-requires : goal.set-requires
-set-requires = grind (arith, common_steps)

@@ -1,5 +1,4 @@
-use Rattle.std.proofs.lemmas.Grind.{common_steps}
-use Rattle.std.proofs.Common.{◌≡◌, ◌<◌, ◌+◌, ◌↔◌, ◌++◌, ◌∷◌, [], ℕ, false, List, Vec, Global, subst, sym, ap, ◌∙◌, arith}
+use Rattle.std.proofs.Common.{◌≡◌, ◌<◌, ◌+◌, ◌↔◌, ◌++◌, ◌∷◌, [], ℕ, false, List, Vec, Global, subst, sym, ap, ◌∙◌}
 use Rattle.lex_semantics.specs.Text.{Among, Ascending, flag}
 use Rattle.lexauto_reports.proofs.Accepting.{ascending_push, unset_more, unset_not}
 use Rattle.lexauto_reports.proofs.useless.unset.Goals as goal
@@ -24,9 +23,3 @@ loop-place-preserved c =
             unset = λ k. subst (λ (l : List ℕ). Among l k ↔ ((k < i + 1) × (flag flags k ≡ false))) (sym e) (unset_not flags c.loop-place.places.items i w.if-not-flags-place.false v.unset k);
           })
     ]
-
-pub returns-clause-ascending : goal.returns-clause-ascending
-returns-clause-ascending = grind (arith, common_steps)
-
-pub returns-clause-unset : goal.returns-clause-unset
-returns-clause-unset = grind (arith, common_steps)

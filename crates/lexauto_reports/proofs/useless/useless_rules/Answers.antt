@@ -1,4 +1,3 @@
-use Rattle.std.proofs.lemmas.Grind.{common_steps}
 use Rattle.std.proofs.Common.{◌≡◌, ◌<◌, ◌↔◌, Bool, false, List, length, arith, sym, subst, ◌∙◌, ap}
 use Rattle.std.proofs.lemmas.List.{length-map}
 use Rattle.lex_semantics.specs.Text.{Among, flag}
@@ -30,18 +29,3 @@ returns-clause-useless c = λ i.
     let by_flag = useless_by_flag c.args.dfa.now.parts c.args.dfa.now.lawful S c.requires.conditions c.requires.table c.in_ok-accepted.accepted.items (c.in_ok-accepted.ensures.len ∙ same) c.in_ok-accepted.ensures.flags i in
     let unset = subst (λ (l : List Bool). Among c.in_ok-useless.useless.items i ↔ ((i < length l) × (flag l i ≡ false))) c.deref.ensures.value (c.in_ok-useless.ensures.unset i) in
     (λ a. by_flag.0 (unset.0 a), λ u. unset.1 (by_flag.1 u))
-
-pub returns-clause-ascending : goal.returns-clause-ascending
-returns-clause-ascending = grind (arith, common_steps)
-
-pub returns-in_err-accepted-clause-ascending : goal.returns-in_err-accepted-clause-ascending
-returns-in_err-accepted-clause-ascending = grind (arith, common_steps)
-
-pub returns-in_err-accepted-clause-useless : goal.returns-in_err-accepted-clause-useless
-returns-in_err-accepted-clause-useless = grind (arith, common_steps)
-
-pub returns-in_err-useless-clause-ascending : goal.returns-in_err-useless-clause-ascending
-returns-in_err-useless-clause-ascending = grind (arith, common_steps)
-
-pub returns-in_err-useless-clause-useless : goal.returns-in_err-useless-clause-useless
-returns-in_err-useless-clause-useless = grind (arith, common_steps)

@@ -1,5 +1,4 @@
-use Rattle.std.proofs.lemmas.Grind.{common_steps}
-use Rattle.std.proofs.Common.{◌++◌, [], ◌∷◌, codes, sym, ap, ◌∙◌, append_assoc, List, ℕ, arith}
+use Rattle.std.proofs.Common.{◌++◌, [], ◌∷◌, codes, sym, ap, ◌∙◌, append_assoc, List, ℕ}
 use Rattle.lexauto_reports.specs.Joined.{joined}
 use Rattle.lexauto_reports.proofs.Parts.{longer, appended_after}
 use Rattle.lexkit.proofs.faults.put_line.Goals as goal
@@ -23,12 +22,3 @@ returns-clause-bytes g c =
     let join : (xs : List ℕ) → after xs → before ((codes "lex: " ++ parts) ++ xs) = λ xs. g.met.K.Sink.wrote_more _ _ c.put-2.new.self (codes "lex: " ++ parts) xs
     (g.met.K.Sink.wrote_more _ _ _ (codes "lex: ") parts c.in_default.ensures.bytes c.in_default-put_all.ensures.bytes) in
     rw (append_assoc (codes "lex: ") parts (10 ∷ [])) at (appended_after before after (codes "lex: " ++ parts) (10 ∷ []) c.put-2.result join c.put-2.ensures.bytes)
-
-pub returns-clause-failures : goal.returns-clause-failures
-returns-clause-failures = grind (arith, common_steps)
-
-pub returns-in-Err-clause-failures : goal.returns-in-Err-clause-failures
-returns-in-Err-clause-failures = grind (arith, common_steps)
-
-pub returns-in-Err-put_all-clause-failures : goal.returns-in-Err-put_all-clause-failures
-returns-in-Err-put_all-clause-failures = grind (arith, common_steps)

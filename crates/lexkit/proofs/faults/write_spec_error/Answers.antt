@@ -1,5 +1,4 @@
-use Rattle.std.proofs.lemmas.Grind.{common_steps}
-use Rattle.std.proofs.Common.{◌≡◌, ◌++◌, [], false, codes, decimal, sym, ap, ◌∙◌, rules, arith}
+use Rattle.std.proofs.Common.{◌≡◌, ◌++◌, [], false, codes, decimal, sym, ap, ◌∙◌, rules}
 use Rattle.lexspec.specs.Refusals.{kind_name}
 use Rattle.lexkit.specs.Faults.{lacks_memory, place_words}
 use Rattle.lexkit.proofs.FaultWords.{place_words-other}
@@ -20,9 +19,3 @@ returns-in_default-clause-bytes g c =
     let line : decimal c.args.error.line ≡ c.format-line.result.now = sym c.format-line.ensures.text in
     let place : place_words c.args.error.kind ≡ [] = place_words-other c.args.error.kind c.in_default.not-Pattern in
     rw (spelled, name, line, place) c.put_line-in_default.ensures.bytes
-
-pub put_line-requires-in_default : goal.put_line-requires-in_default
-put_line-requires-in_default = grind (arith, common_steps)
-
-pub returns-then-lacks_memory-clause-bytes : goal.returns-then-lacks_memory-clause-bytes
-returns-then-lacks_memory-clause-bytes = grind (arith, common_steps)

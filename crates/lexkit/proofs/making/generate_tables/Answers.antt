@@ -1,5 +1,3 @@
-use Rattle.std.proofs.Common.{arith}
-use Rattle.std.proofs.lemmas.Grind.{common_steps}
 use Rattle.lexspec.specs.Views.{spec_of, skipped_in}
 use Rattle.lexkit.proofs.Refusing.{tables_of_text}
 use Rattle.lexkit.proofs.making.generate_tables.Goals as goal
@@ -7,6 +5,3 @@ use Rattle.lexkit.proofs.making.generate_tables.Goals as goal
 pub returns : goal.returns
 returns c =
     tables_of_text c.args.options c.args.text.now (spec_of c.in_ok-spec.spec) (skipped_in c.in_ok-spec.spec) c.in_ok-spec.ensures.spells c.in_ok-spec.ensures.skipped c.tables_by.result c.tables_by.ensures
-
-pub returns-in_err-spec : goal.returns-in_err-spec
-returns-in_err-spec = grind (arith, common_steps)

@@ -1,5 +1,4 @@
-use Rattle.std.proofs.lemmas.Grind.{common_steps}
-use Rattle.std.proofs.Common.{◌≤◌, ◌∙◌, ap, sym, subst, Err, arith}
+use Rattle.std.proofs.Common.{◌≤◌, ◌∙◌, ap, sym, subst, Err}
 use Rattle.lex_semantics.specs.Spec.{Spec}
 use Rattle.lex_semantics.specs.Subsets.{Subsets}
 use Rattle.lexspec.specs.Views.{spec_of}
@@ -25,15 +24,3 @@ returns-clause-made c =
       least = m.least;
       numbered = m.numbered;
     }
-
-pub returns-clause-refused : goal.returns-clause-refused
-returns-clause-refused = grind (arith, common_steps)
-
-pub returns-in-Err-clause-made : goal.returns-in-Err-clause-made
-returns-in-Err-clause-made = grind (arith, common_steps)
-
-pub returns-in-Err-minimise-clause-made : goal.returns-in-Err-minimise-clause-made
-returns-in-Err-minimise-clause-made = grind (arith, common_steps)
-
-pub returns-in-Err-minimise-clause-refused : goal.returns-in-Err-minimise-clause-refused
-returns-in-Err-minimise-clause-refused = grind (arith, common_steps)

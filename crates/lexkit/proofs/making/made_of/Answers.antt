@@ -1,5 +1,4 @@
-use Rattle.std.proofs.lemmas.Grind.{common_steps}
-use Rattle.std.proofs.Common.{◌++◌, ◌∙◌, ℕ, List, map, ap, subst, arith}
+use Rattle.std.proofs.Common.{◌++◌, ◌∙◌, ℕ, List, map, ap, subst}
 use Rattle.std.specs.List.Sorted.{IsPermutation}
 use Rattle.lexauto_reports.specs.Warned.{of_code, of_rule}
 use Rattle.lex_semantics.specs.Spec.{Spec}
@@ -23,15 +22,3 @@ returns-clause-made c =
       warnings = (c.in_ok-warnings.ensures.in_order, (c.in_ok-useless.useless.items, c.in_ok-useless.ensures.ascending, c.in_ok-useless.ensures.useless, subst (λ (xs : List ℕ). IsPermutation (map of_code (skipped_in c.args.spec.now) ++ map (of_rule (rules_in S)) xs) c.in_ok-warnings.warnings.items) c.deref.ensures.value c.in_ok-warnings.ensures.all));
       stats = c.stats_of-stats.ensures;
     }
-
-pub pack-requires-clause-conditions : goal.pack-requires-clause-conditions
-pack-requires-clause-conditions = grind (arith, common_steps)
-
-pub pack-requires-clause-table : goal.pack-requires-clause-table
-pack-requires-clause-table = grind (arith, common_steps)
-
-pub warnings-requires : goal.warnings-requires
-warnings-requires = grind (arith, common_steps)
-
-pub returns-clause-machine : goal.returns-clause-machine
-returns-clause-machine = grind (arith, common_steps)

@@ -1,6 +1,5 @@
-use Rattle.std.proofs.Common.{◌-◌, sym, subst, arith}
+use Rattle.std.proofs.Common.{◌-◌, sym, subst}
 use Rattle.std.specs.Prelude.{nat_lt}
-use Rattle.std.proofs.lemmas.Grind.{common_steps}
 use Rattle.lex_semantics.specs.Spec.{Spec}
 use Rattle.lex_semantics.specs.TableFor.{TableFor}
 use Rattle.lexspec.specs.Views.{spec_of}
@@ -18,12 +17,3 @@ returns-clause-told g c =
     let made = c.in-Ok.ensures.made in
     c.scan_tables.ensures.told c.args.limits S (spec_is_sound S c.args.spec.now.sound) (within c.args.limits S c.in-Ok.least.subsets c.in-Ok.least.automaton made)
     (subst (λ M. TableFor M S) (sym c.in-Ok-pack.ensures.machine) made.table)
-
-pub returns-clause-not_failed : goal.returns-clause-not_failed
-returns-clause-not_failed = grind (arith, common_steps)
-
-pub returns-in-Err-pack-clause-not_failed : goal.returns-in-Err-pack-clause-not_failed
-returns-in-Err-pack-clause-not_failed = grind (arith, common_steps)
-
-pub returns-in-Err-pack-clause-told : goal.returns-in-Err-pack-clause-told
-returns-in-Err-pack-clause-told = grind (arith, common_steps)

@@ -1,5 +1,4 @@
-use Rattle.std.proofs.lemmas.Grind.{common_steps}
-use Rattle.std.proofs.Common.{Bool, refl, subst, arith}
+use Rattle.std.proofs.Common.{Bool, refl, subst}
 use Rattle.std.specs.Prelude.{nat_lt}
 use Rattle.lex_semantics.specs.Machine.{rules_of_machine}
 use Rattle.lextab_packed.specs.Views.{table_of}
@@ -49,77 +48,5 @@ returns-clause-told g c =
       };
     }
 
-pub returns-clause-ends_stay : goal.returns-clause-ends_stay
-returns-clause-ends_stay = grind (arith, common_steps)
-
-pub returns-clause-handed_on : goal.returns-clause-handed_on
-returns-clause-handed_on = grind (arith, common_steps)
-
-pub returns-clause-not_failed : goal.returns-clause-not_failed
-returns-clause-not_failed = grind (arith, common_steps)
-
-pub returns-clause-one_end : goal.returns-clause-one_end
-returns-clause-one_end = grind (arith, common_steps)
-
-pub returns-clause-read_faults : goal.returns-clause-read_faults
-returns-clause-read_faults = grind (arith, common_steps)
-
-pub returns-clause-write_faults : goal.returns-clause-write_faults
-returns-clause-write_faults = grind (arith, common_steps)
-
-pub returns-in-Err-clause-ends_stay : goal.returns-in-Err-clause-ends_stay
-returns-in-Err-clause-ends_stay = grind (arith, common_steps)
-
-pub returns-in-Err-clause-handed_on : goal.returns-in-Err-clause-handed_on
-returns-in-Err-clause-handed_on = grind (arith, common_steps)
-
-pub returns-in-Err-clause-not_failed : goal.returns-in-Err-clause-not_failed
-returns-in-Err-clause-not_failed = grind (arith, common_steps)
-
-pub returns-in-Err-clause-one_end : goal.returns-in-Err-clause-one_end
-returns-in-Err-clause-one_end = grind (arith, common_steps)
-
-pub returns-in-Err-clause-read_faults : goal.returns-in-Err-clause-read_faults
-returns-in-Err-clause-read_faults = grind (arith, common_steps)
-
 pub returns-in-Err-clause-told : goal.returns-in-Err-clause-told
 returns-in-Err-clause-told g c = (table_refusal c.args.bytes.now c.in-Err.error c.in-Err.ensures.none, refl, refl)
-
-pub returns-in-Err-clause-write_faults : goal.returns-in-Err-clause-write_faults
-returns-in-Err-clause-write_faults = grind (arith, common_steps)
-
-pub returns-in-Err-new-clause-ends_stay : goal.returns-in-Err-new-clause-ends_stay
-returns-in-Err-new-clause-ends_stay = grind (arith, common_steps)
-
-pub returns-in-Err-new-clause-handed_on : goal.returns-in-Err-new-clause-handed_on
-returns-in-Err-new-clause-handed_on = grind (arith, common_steps)
-
-pub returns-in-Err-new-clause-one_end : goal.returns-in-Err-new-clause-one_end
-returns-in-Err-new-clause-one_end = grind (arith, common_steps)
-
-pub returns-in-Err-new-clause-read_faults : goal.returns-in-Err-new-clause-read_faults
-returns-in-Err-new-clause-read_faults = grind (arith, common_steps)
-
-pub returns-in-Err-new-clause-told : goal.returns-in-Err-new-clause-told
-returns-in-Err-new-clause-told = grind (arith, common_steps)
-
-pub returns-in-Err-new-clause-write_faults : goal.returns-in-Err-new-clause-write_faults
-returns-in-Err-new-clause-write_faults = grind (arith, common_steps)
-
-pub returns-in-Err-run-clause-ends_stay : goal.returns-in-Err-run-clause-ends_stay
-returns-in-Err-run-clause-ends_stay = grind (arith, common_steps)
-
-pub returns-in-Err-run-clause-handed_on : goal.returns-in-Err-run-clause-handed_on
-returns-in-Err-run-clause-handed_on = grind (arith, common_steps)
-
-pub returns-in-Err-run-clause-not_failed : goal.returns-in-Err-run-clause-not_failed
-returns-in-Err-run-clause-not_failed = grind (arith, common_steps)
-
-pub returns-in-Err-run-clause-one_end : goal.returns-in-Err-run-clause-one_end
-returns-in-Err-run-clause-one_end = grind (arith, common_steps)
-
-pub returns-in-Err-run-clause-read_faults : goal.returns-in-Err-run-clause-read_faults
-returns-in-Err-run-clause-read_faults = grind (arith, common_steps)
-
-pub returns-in-Err-run-clause-write_faults : goal.returns-in-Err-run-clause-write_faults
-returns-in-Err-run-clause-write_faults = grind (arith, common_steps)

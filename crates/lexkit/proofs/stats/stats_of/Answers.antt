@@ -1,4 +1,3 @@
-use Rattle.std.proofs.lemmas.Grind.{common_steps}
 use Rattle.std.proofs.Common.{rules, ◌≡◌, ◌≤◌, ◌<◌, ◌^◌, ◌∙◌, length, map, min, arith, ap, sym, subst}
 use Rattle.lex_semantics.specs.Subsets.{all_positions}
 use Rattle.std.proofs.lemmas.List.{length-map}
@@ -42,12 +41,3 @@ returns c =
       slots = omega (arith, is, checks, nexts, least);
       bytes = c.file_length.ensures;
     }
-
-pub overflow_cast-result : goal.overflow_cast-result
-overflow_cast-result = grind (arith, common_steps)
-
-pub overflow_cast-result-2 : goal.overflow_cast-result-2
-overflow_cast-result-2 = grind (arith, common_steps)
-
-pub overflow_cast-result-3 : goal.overflow_cast-result-3
-overflow_cast-result-3 = grind (arith, common_steps)

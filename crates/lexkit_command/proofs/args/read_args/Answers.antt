@@ -1,5 +1,4 @@
-use Rattle.std.proofs.lemmas.Grind.{common_steps}
-use Rattle.std.proofs.Common.{rules, ◌≡◌, ◌∙◌, ap, map, string_bytes, sym, arith}
+use Rattle.std.proofs.Common.{rules, ◌≡◌, ◌∙◌, ap, map, string_bytes, sym}
 use Rattle.std.proofs.lemmas.Result.{IfErr-weaker, IfOk-weaker}
 use Rattle.clap.specs.Words.{app_of, is_simple_and_free}
 use Rattle.lexkit_command.specs.CommandLine.{lex_app}
@@ -25,9 +24,3 @@ returns-clause-refused c =
     let is : app_of c.in_ok-command.command ≡ lex_app = c.in_ok-command.ensures in
     IfErr-weaker c.job_of.result _ _ (λ e h usage job asks. h usage job
     (asks_by words _ _ _ job is c.in_ok-matches.ensures.matches c.has_separator.ensures asks)) c.job_of.ensures.refused
-
-pub returns-clause-named : goal.returns-clause-named
-returns-clause-named = grind (arith, common_steps)
-
-pub returns-then-has_value_behind_equals-clause-refused : goal.returns-then-has_value_behind_equals-clause-refused
-returns-then-has_value_behind_equals-clause-refused = grind (arith, common_steps)

@@ -1,4 +1,3 @@
-use Rattle.std.proofs.lemmas.Grind.{common_steps}
 use Rattle.std.proofs.Common.{◌≡◌, arith}
 use Rattle.lexkit_command.proofs.CommandLine.{adds_row}
 use Rattle.lexkit_command.proofs.args.with_flags.Goals as goal
@@ -11,6 +10,3 @@ pub returns : goal.returns
 returns c =
     let all : c.loop-name.name-index ≡ 7 = omega arith in
     rw all at c.loop-name.invariant
-
-pub flag-requires-text-id : goal.flag-requires-text-id
-flag-requires-text-id = grind (arith, common_steps)

@@ -1,5 +1,4 @@
-use Rattle.std.proofs.lemmas.Grind.{common_steps}
-use Rattle.std.proofs.Common.{rules, ◌≡◌, ◌∙◌, ap, false, map, sym, arith}
+use Rattle.std.proofs.Common.{rules, ◌≡◌, ◌∙◌, ap, false, map, sym}
 use Rattle.std.specs.Prelude.{string_bytes}
 use Rattle.std.proofs.lemmas.Result.{IfErr-weaker, IfOk-weaker}
 use Rattle.clap.specs.Words.{app_of, is_simple_and_free}
@@ -30,12 +29,3 @@ returns-clause-refused c =
     let plain : has_help (map string_bytes c.args.words.now) ≡ false = first_of (cc, search rules) in
     IfErr-weaker c.look_of.result _ _ (λ e h usage look asks. h usage look
     (asks_by words _ _ look is plain c.in_ok-matches.ensures.matches asks)) c.look_of.ensures.refused
-
-pub returns-in_err-command-clause-asked : goal.returns-in_err-command-clause-asked
-returns-in_err-command-clause-asked = grind (arith, common_steps)
-
-pub returns-then-has_help-clause-asked : goal.returns-then-has_help-clause-asked
-returns-then-has_help-clause-asked = grind (arith, common_steps)
-
-pub returns-then-has_help-clause-refused : goal.returns-then-has_help-clause-refused
-returns-then-has_help-clause-refused = grind (arith, common_steps)

@@ -1,4 +1,3 @@
-use Rattle.std.proofs.lemmas.Grind.{common_steps}
 use Rattle.std.proofs.Common.{◌≡◌, [], inl, inr, sym, ◌∙◌, ap, subst, arith}
 use Rattle.std.proofs.lemmas.Bool.{cases_lt, eqb-true}
 use Rattle.std.proofs.lemmas.List.{nil_from_length}
@@ -26,30 +25,3 @@ returns-clause-none g c = λ _. scans_apart M (g.M.Machine.laws c.args.machine.n
 
     empty : c.eof.result.now.print.items ≡ []
     empty = nil_from_length c.eof.result.now.print.items (omega (arith, eqb-true _ 0 (sym c.is_empty.ensures ∙ c.if-not-is_empty.false), c.eof.result.now.print.ok.0))
-
-pub returns-clause-some : goal.returns-clause-some
-returns-clause-some = grind (arith, common_steps)
-
-pub returns-in-Some-2-clause-none : goal.returns-in-Some-2-clause-none
-returns-in-Some-2-clause-none = grind (arith, common_steps)
-
-pub returns-in-Some-2-clause-some : goal.returns-in-Some-2-clause-some
-returns-in-Some-2-clause-some = grind (arith, common_steps)
-
-pub returns-in-Some-clause-none : goal.returns-in-Some-clause-none
-returns-in-Some-clause-none = grind (arith, common_steps)
-
-pub returns-in-Some-clause-some : goal.returns-in-Some-clause-some
-returns-in-Some-clause-some = grind (arith, common_steps)
-
-pub returns-in_err-obstacle-clause-none : goal.returns-in_err-obstacle-clause-none
-returns-in_err-obstacle-clause-none = grind (arith, common_steps)
-
-pub returns-in_err-obstacle-clause-some : goal.returns-in_err-obstacle-clause-some
-returns-in_err-obstacle-clause-some = grind (arith, common_steps)
-
-pub returns-then-not-is_empty-clause-none : goal.returns-then-not-is_empty-clause-none
-returns-then-not-is_empty-clause-none = grind (arith, common_steps)
-
-pub returns-then-not-is_empty-clause-some : goal.returns-then-not-is_empty-clause-some
-returns-then-not-is_empty-clause-some = grind (arith, common_steps)

@@ -1,4 +1,3 @@
-use Rattle.std.proofs.lemmas.Grind.{common_steps}
 use Rattle.std.proofs.Common.{◌≡◌, ℕ, ◌≤◌, Bool, true, false, List, [], ◌∷◌, sym, ◌∙◌, ap, subst, arith}
 use Rattle.lex_semantics.specs.Text.{Among}
 use Rattle.lex_semantics.specs.Machine.{Machine}
@@ -59,12 +58,3 @@ returns-clause-none g c = λ _. lines_end M n c.args.condition found reached (c.
         both : (line : Bool) → TakesLine M c.args.condition false → TakesLine M c.args.condition true → TakesLine M c.args.condition line
         both false h k = h
         both true h k = k
-
-pub obstacle_among-requires-clause-found : goal.obstacle_among-requires-clause-found
-obstacle_among-requires-clause-found = grind (arith, common_steps)
-
-pub returns-in-Some-clause-none : goal.returns-in-Some-clause-none
-returns-in-Some-clause-none = grind (arith, common_steps)
-
-pub returns-then-not-takes_line-clause-none : goal.returns-then-not-takes_line-clause-none
-returns-then-not-takes_line-clause-none = grind (arith, common_steps)

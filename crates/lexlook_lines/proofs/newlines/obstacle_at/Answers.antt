@@ -1,5 +1,4 @@
-use Rattle.std.proofs.lemmas.Grind.{common_steps}
-use Rattle.std.proofs.Common.{◌≡◌, false, None, refl, sym, ◌∙◌, subst, arith}
+use Rattle.std.proofs.Common.{◌≡◌, false, None, refl, sym, ◌∙◌, subst}
 use Rattle.lex_semantics.specs.Machine.{Machine}
 use Rattle.lexlook_lines.specs.Obstacles.{RuleBeyond, StraysAt}
 use Rattle.lexlook_lines.proofs.Fronts.{stops}
@@ -17,24 +16,3 @@ returns-in-None-clause-none g c = λ _. (subst (λ s. M.goes_on s ≡ false) c.s
       | then-goes_on+in_ok-rule+in_default w ↦ stops M (g.M.Machine.laws c.args.machine.now) c.step-next.result (subst (RuleBeyond M c.step-next.result) w.in_default.is w.in_ok-rule.ensures) (M.goes_on c.step-next.result) refl
       | else-goes_on w ↦ sym c.goes_on.ensures ∙ w.if-goes_on.false
     ]
-
-pub returns-in-None-clause-some : goal.returns-in-None-clause-some
-returns-in-None-clause-some = grind (arith, common_steps)
-
-pub returns-in-Some-clause-none : goal.returns-in-Some-clause-none
-returns-in-Some-clause-none = grind (arith, common_steps)
-
-pub returns-in-Some-clause-some : goal.returns-in-Some-clause-some
-returns-in-Some-clause-some = grind (arith, common_steps)
-
-pub returns-in-Some-straying_rule-clause-none : goal.returns-in-Some-straying_rule-clause-none
-returns-in-Some-straying_rule-clause-none = grind (arith, common_steps)
-
-pub returns-in-Some-straying_rule-clause-some : goal.returns-in-Some-straying_rule-clause-some
-returns-in-Some-straying_rule-clause-some = grind (arith, common_steps)
-
-pub returns-in_err-rule-clause-none : goal.returns-in_err-rule-clause-none
-returns-in_err-rule-clause-none = grind (arith, common_steps)
-
-pub returns-in_err-rule-clause-some : goal.returns-in_err-rule-clause-some
-returns-in_err-rule-clause-some = grind (arith, common_steps)

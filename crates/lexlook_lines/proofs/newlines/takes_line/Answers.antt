@@ -1,4 +1,3 @@
-use Rattle.std.proofs.lemmas.Grind.{common_steps}
 use Rattle.std.proofs.Common.{◌≡◌, ℕ, ◌<◌, true, false, List, [], length, get_or, inl, inr, sym, ◌∙◌, ap, subst, arith}
 use Rattle.lex_semantics.specs.Text.{Among}
 use Rattle.lex_semantics.specs.Spec.{Whole, has_reject}
@@ -60,9 +59,3 @@ loop-rule-preserved g c = λ i at whole stays. elim (among_front (M.accepts (aft
       | else-is_whole-via-then-is_whole+else-not-has_reject w ↦ differ (sym w.if-not-has_reject.false ∙ w.has_reject.ensures ∙ ap has_reject c.rule-cut.ensures.statements ∙ stays)
       | else-is_whole-via-else-is_whole w ↦ c.is_whole.ensures.no w.if-is_whole.false (c.rule-cut.ensures.cut ∙ whole)
     ]
-
-pub returns-clause-no : goal.returns-clause-no
-returns-clause-no = grind (arith, common_steps)
-
-pub returns-clause-yes : goal.returns-clause-yes
-returns-clause-yes = grind (arith, common_steps)

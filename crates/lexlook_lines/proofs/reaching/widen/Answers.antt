@@ -1,4 +1,3 @@
-use Rattle.std.proofs.lemmas.Grind.{common_steps}
 use Rattle.std.proofs.Common.{◌≡◌, ℕ, ◌<◌, length, List, Bool, sym, ◌∙◌, ap, subst, get_or, arith}
 use Rattle.lex_semantics.specs.Machine.{Machine}
 use Rattle.lexlook_lines.specs.Reaching.{Found, Added}
@@ -56,12 +55,3 @@ bytes-preserved g c = record {
 
 pub returns-clause-found : goal.returns-clause-found
 returns-clause-found g c = (let all : c.bytes.byte ≡ 256 = omega (arith, c.bytes-test.false, c.bytes.auto.byte-end) in λ from f. subst (Found (g.M.Machine.machine c.args.machine.now) (g.M.Machine.states c.args.machine.now) from from c.bytes.found.items c.bytes.marks.items c.args.place) all (c.bytes.invariant.found from f))
-
-pub bytes-init : goal.bytes-init
-bytes-init = grind (arith, common_steps)
-
-pub returns-clause-fewer : goal.returns-clause-fewer
-returns-clause-fewer = grind (arith, common_steps)
-
-pub returns-clause-longer : goal.returns-clause-longer
-returns-clause-longer = grind (arith, common_steps)

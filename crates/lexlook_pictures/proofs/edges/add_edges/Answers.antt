@@ -1,4 +1,3 @@
-use Rattle.std.proofs.lemmas.Grind.{common_steps}
 use Rattle.std.proofs.Common.{arith}
 use Rattle.std.specs.Prelude.{slice_index}
 use Rattle.lexlook_pictures.specs.Pictures.{edge_at}
@@ -14,6 +13,3 @@ loop-byte-preserved c = (
 
 pub returns-clause-text : goal.returns-clause-text
 returns-clause-text c = edges_are c.args.state (slice_index c.args.row.now) _ _ c.loop-byte.byte (omega arith) c.loop-byte.invariant.0
-
-pub returns-in_err-add_edge_at-clause-drawn : goal.returns-in_err-add_edge_at-clause-drawn
-returns-in_err-add_edge_at-clause-drawn = grind (arith, common_steps)

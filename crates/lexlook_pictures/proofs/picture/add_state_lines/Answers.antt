@@ -1,6 +1,5 @@
-use Rattle.std.proofs.lemmas.Grind.{common_steps}
 use mathlib.Core.Path.{fun_ext}
-use Rattle.std.proofs.Common.{◌≡◌, ◌++◌, ◌∙◌, ap, arith}
+use Rattle.std.proofs.Common.{◌≡◌, ◌++◌, ◌∙◌, ap}
 use Rattle.std.specs.Prelude.{slice_index}
 use Rattle.std.proofs.lemmas.Result.{on_ok_weaker}
 use Rattle.lexauto_dfa.specs.Automata.{accepts_of, next_of}
@@ -15,15 +14,3 @@ returns-clause-text c =
     let go : slice_index c.row_of.result.now ≡ next_of c.args.dfa.now s = fun_ext c.row_of.ensures.targets in
     let own : _ ≡ _ = c.in_ok-add_state.ensures ∙ ap (λ r. c.args.text.now.items ++ node_line c.args.lines.now s r) rules in
     on_ok_weaker c.add_edges.result (λ e. and_then _ _ _ _ _ own (e ∙ ap (λ f. c.add_state.new.text.items ++ edges s f) go)) c.add_edges.ensures.text
-
-pub add_edges-requires-clause-earlier : goal.add_edges-requires-clause-earlier
-add_edges-requires-clause-earlier = grind (arith, common_steps)
-
-pub add_edges-requires-clause-known : goal.add_edges-requires-clause-known
-add_edges-requires-clause-known = grind (arith, common_steps)
-
-pub add_state-requires : goal.add_state-requires
-add_state-requires = grind (arith, common_steps)
-
-pub returns-clause-drawn : goal.returns-clause-drawn
-returns-clause-drawn = grind (arith, common_steps)

@@ -1,5 +1,4 @@
-use Rattle.std.proofs.lemmas.Grind.{common_steps}
-use Rattle.std.proofs.Common.{ℕ, List, ◌++◌, map, codes, arith}
+use Rattle.std.proofs.Common.{ℕ, List, ◌++◌, map, codes}
 use Rattle.std.specs.Borrow.{Bor}
 use Rattle.std.proofs.lemmas.Result.{err_from_is_err_and}
 use Rattle.lexlook_pictures.specs.Pictures.{head, all_starts, all_states}
@@ -44,9 +43,3 @@ returns-clause-bytes g c =
     g.met.K.Sink.wrote_more c.args.sink.now c.put.new.self c.put-2.new.self _ _ c.in_ok-put.ensures.bytes
     (g.met.K.Sink.wrote_more c.put.new.self c.write_starts.new.sink c.put-2.new.self _ _ c.in_ok-write_starts.ensures.bytes
     (g.met.K.Sink.wrote_more c.write_starts.new.sink c.write_states.new.sink c.put-2.new.self _ _ c.in_ok-write_states.ensures.bytes c.in_ok-put-2.ensures.bytes))
-
-pub returns-clause-failures : goal.returns-clause-failures
-returns-clause-failures = grind (arith, common_steps)
-
-pub write_states-requires-clause-lines : goal.write_states-requires-clause-lines
-write_states-requires-clause-lines = grind (arith, common_steps)

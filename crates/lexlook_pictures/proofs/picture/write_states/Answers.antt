@@ -1,4 +1,3 @@
-use Rattle.std.proofs.lemmas.Grind.{common_steps}
 use Rattle.std.proofs.Common.{◌≡◌, ◌++◌, ◌+◌, ◌-◌, ◌<◌, arith, ◌∙◌, ap, rules}
 use Rattle.std.proofs.lemmas.Result.{err_from_is_err_and}
 use Rattle.lexauto_dfa.specs.Automata.{states_of}
@@ -33,21 +32,3 @@ loop-state-preserved g c =
       room = search rules;
       earlier = c.in_ok-add_state_lines.ensures.drawn;
     }
-
-pub add_state_lines-requires-clause-earlier : goal.add_state_lines-requires-clause-earlier
-add_state_lines-requires-clause-earlier = grind (arith, common_steps)
-
-pub add_state_lines-requires-clause-lines : goal.add_state_lines-requires-clause-lines
-add_state_lines-requires-clause-lines = grind (arith, common_steps)
-
-pub add_state_lines-requires-clause-room : goal.add_state_lines-requires-clause-room
-add_state_lines-requires-clause-room = grind (arith, common_steps)
-
-pub loop-state-init : goal.loop-state-init
-loop-state-init = grind (arith, common_steps)
-
-pub returns-clause-failures : goal.returns-clause-failures
-returns-clause-failures = grind (arith, common_steps)
-
-pub returns-in_err-table-clause-failures : goal.returns-in_err-table-clause-failures
-returns-in_err-table-clause-failures = grind (arith, common_steps)

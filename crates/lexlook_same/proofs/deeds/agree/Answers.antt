@@ -1,4 +1,3 @@
-use Rattle.std.proofs.lemmas.Grind.{common_steps}
 use Rattle.std.proofs.Common.{sym, ap, ◌∙◌, arith}
 use Rattle.std.specs.Prelude.{map}
 use Rattle.lex_semantics.specs.Machine.{Machine}
@@ -28,9 +27,3 @@ places-preserved g c = record {
   same = one_more (deed_in c.args.order.now (g.A.Machine.machine c.args.left.now)) (deed_of (g.B.Machine.machine c.args.right.now)) c.rules_at-rules.result.now c.rules_at-others.result.now c.places.at 0 0 (omega (arith, c.places-test.true)) (omega (arith, c.places-test.true, c.if-rules-others.false)) c.places.invariant.same
       (c.do_same.ensures.yes c.if-not-do_same.false);
 }
-
-pub returns-clause-yes : goal.returns-clause-yes
-returns-clause-yes = grind (arith, common_steps)
-
-pub returns-then-rules-others-clause-no : goal.returns-then-rules-others-clause-no
-returns-then-rules-others-clause-no = grind (arith, common_steps)

@@ -1,4 +1,3 @@
-use Rattle.std.proofs.lemmas.Grind.{common_steps}
 use Rattle.std.proofs.Common.{◌≡◌, ℕ, zero, suc, replicate, ◌*◌, rules, List, length, refl, sym, ap, subst, ◌∙◌, get_or, false, arith}
 use Rattle.lex_semantics.specs.Machine.{Machine}
 use Rattle.lexlook_same.specs.declared.pairs.From.TheVariants.{Start}
@@ -58,36 +57,3 @@ pairs-init g c = End.searched_none c.args.order.now c.args.all (g.A.Machine.mach
 
     none : (i : ℕ) → get_or c.in_ok-seen.seen.items i false ≡ false
     none i = ap (λ l. get_or l i false) (c.in_ok-seen.ensures.items_if_clones_equal (search rules)) ∙ all_false _ i
-
-pub overflow_add-place : goal.overflow_add-place
-overflow_add-place = grind (arith, common_steps)
-
-pub returns-clause-differ : goal.returns-clause-differ
-returns-clause-differ = grind (arith, common_steps)
-
-pub returns-in-Some-clause-same : goal.returns-in-Some-clause-same
-returns-in-Some-clause-same = grind (arith, common_steps)
-
-pub returns-in_err-pairs-clause-differ : goal.returns-in_err-pairs-clause-differ
-returns-in_err-pairs-clause-differ = grind (arith, common_steps)
-
-pub returns-in_err-pairs-clause-same : goal.returns-in_err-pairs-clause-same
-returns-in_err-pairs-clause-same = grind (arith, common_steps)
-
-pub starts-requires-clause-right : goal.starts-requires-clause-right
-starts-requires-clause-right = grind (arith, common_steps)
-
-pub text_to-requires-clause-back : goal.text_to-requires-clause-back
-text_to-requires-clause-back = grind (arith, common_steps)
-
-pub text_to-requires-clause-place : goal.text_to-requires-clause-place
-text_to-requires-clause-place = grind (arith, common_steps)
-
-pub widen-requires-clause-place : goal.widen-requires-clause-place
-widen-requires-clause-place = grind (arith, common_steps)
-
-pub widen-requires-clause-searched : goal.widen-requires-clause-searched
-widen-requires-clause-searched = grind (arith, common_steps)
-
-pub widen-requires-clause-width : goal.widen-requires-clause-width
-widen-requires-clause-width = grind (arith, common_steps)

@@ -1,4 +1,3 @@
-use Rattle.std.proofs.lemmas.Grind.{common_steps}
 use Rattle.std.proofs.Common.{◌<◌, ◌++◌, ◌∷◌, [], get_or, false, sym, ap, subst, ◌∙◌, arith}
 use Rattle.std.specs.Prelude.{reverse}
 use Rattle.lexlook_same.specs.declared.pairs.From.TheVariants.{Start}
@@ -44,18 +43,3 @@ pairs-preserved c = record {
 
     back : c.in-Byte.before < c.pairs.at
     back = subst (IsBefore c.pairs.at) c.in-Byte.is (c.requires.back c.pairs.at q here)
-
-pub pairs-init : goal.pairs-init
-pairs-init = grind (arith, common_steps)
-
-pub returns-in_err-push-clause-key : goal.returns-in_err-push-clause-key
-returns-in_err-push-clause-key = grind (arith, common_steps)
-
-pub returns-in_err-push-clause-text : goal.returns-in_err-push-clause-text
-returns-in_err-push-clause-text = grind (arith, common_steps)
-
-pub returns-in_err-push-in-Byte-clause-key : goal.returns-in_err-push-in-Byte-clause-key
-returns-in_err-push-in-Byte-clause-key = grind (arith, common_steps)
-
-pub returns-in_err-push-in-Byte-clause-text : goal.returns-in_err-push-in-Byte-clause-text
-returns-in_err-push-in-Byte-clause-text = grind (arith, common_steps)

@@ -1,5 +1,4 @@
-use Rattle.std.proofs.lemmas.Grind.{common_steps}
-use Rattle.std.proofs.Common.{◌≡◌, ℕ, ◌+◌, List, [], ◌∷◌, ◌++◌, sym, ap, subst, ◌∙◌, arith}
+use Rattle.std.proofs.Common.{◌≡◌, ℕ, ◌+◌, List, [], ◌∷◌, ◌++◌, sym, ap, subst, ◌∙◌}
 use Rattle.lex_semantics.specs.Machine.{Machine}
 use Rattle.lexlook_same.specs.Searching.{AreStarts}
 use Rattle.lexlook_same.proofs.Starting.{two_more}
@@ -22,9 +21,3 @@ loop-condition-preserved g c = subst (λ l. AreStarts order M N (g.A.Machine.sta
 
     items : c.push-in-loop-condition.new.self.items ≡ (c.loop-condition.pairs.items ++ c.start_at.result ∷ []) ++ c.start_at-in-loop-condition.result ∷ []
     items = c.in_ok-push-2.ensures.items ∙ ap (λ l. l ++ c.start_at-in-loop-condition.result ∷ []) c.in_ok-push.ensures.items
-
-pub loop-condition-init : goal.loop-condition-init
-loop-condition-init = grind (arith, common_steps)
-
-pub start_at-requires-in-loop-condition-clause-right : goal.start_at-requires-in-loop-condition-clause-right
-start_at-requires-in-loop-condition-clause-right = grind (arith, common_steps)

@@ -1,4 +1,3 @@
-use Rattle.std.proofs.lemmas.Grind.{common_steps}
 use Rattle.std.proofs.Common.{◌≡◌, ℕ, ◌<◌, ◌+◌, ◌*◌, List, Bool, [], ◌∷◌, ◌++◌, length, true, false, get_or, sym, ap, subst, ◌∙◌, arith}
 use Rattle.std.proofs.Math.ListN.{set}
 use Rattle.std.proofs.lemmas.List.{length-append}
@@ -87,39 +86,3 @@ bytes-preserved g c = elim c.if-not-index.branch [
 
     told : c.index.result.now ≡ get_or seen k false
     told = c.index.ensures ∙ any_default seen k c.index.result.now false inside
-
-pub index-requires : goal.index-requires
-index-requires = grind (arith, common_steps)
-
-pub index_mut-requires : goal.index_mut-requires
-index_mut-requires = grind (arith, common_steps)
-
-pub overflow_add-at : goal.overflow_add-at
-overflow_add-at = grind (arith, common_steps)
-
-pub overflow_mul-at : goal.overflow_mul-at
-overflow_mul-at = grind (arith, common_steps)
-
-pub returns-clause-fewer : goal.returns-clause-fewer
-returns-clause-fewer = grind (arith, common_steps)
-
-pub returns-clause-longer : goal.returns-clause-longer
-returns-clause-longer = grind (arith, common_steps)
-
-pub returns-clause-none : goal.returns-clause-none
-returns-clause-none = grind (arith, common_steps)
-
-pub returns-clause-some : goal.returns-clause-some
-returns-clause-some = grind (arith, common_steps)
-
-pub returns-then-not-agree-clause-fewer : goal.returns-then-not-agree-clause-fewer
-returns-then-not-agree-clause-fewer = grind (arith, common_steps)
-
-pub returns-then-not-agree-clause-longer : goal.returns-then-not-agree-clause-longer
-returns-then-not-agree-clause-longer = grind (arith, common_steps)
-
-pub returns-then-not-agree-clause-none : goal.returns-then-not-agree-clause-none
-returns-then-not-agree-clause-none = grind (arith, common_steps)
-
-pub returns-then-not-agree-clause-some : goal.returns-then-not-agree-clause-some
-returns-then-not-agree-clause-some = grind (arith, common_steps)

@@ -1,5 +1,4 @@
-use Rattle.std.proofs.lemmas.Grind.{common_steps}
-use Rattle.std.proofs.Common.{rules, ◌≡◌, length, map, suc, [], ◌∷◌, ◌++◌, ap, sym, ◌∙◌, arith}
+use Rattle.std.proofs.Common.{rules, ◌≡◌, length, map, suc, [], ◌∷◌, ◌++◌, ap, sym, ◌∙◌}
 use Rattle.std.specs.Vec.Iter.{into_iter_items}
 use Rattle.std.proofs.lemmas.List.{map-append}
 use Rattle.lex_semantics.specs.Spec.{Condition}
@@ -24,6 +23,3 @@ loop-condition-preserved c =
       count = search rules;
       same = ap (λ z. z ++ traced_conditions (length c.push.new.self.items) (map condition_of (into_iter_items c.next.new.self))) items ∙ one_end_more _ _ _ (condition_of c.in-Some.condition) told n (length c.push.new.self.items) size is was;
     }
-
-pub returns : goal.returns
-returns = grind (arith, common_steps)

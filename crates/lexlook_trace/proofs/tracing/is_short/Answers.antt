@@ -1,4 +1,3 @@
-use Rattle.std.proofs.lemmas.Grind.{common_steps}
 use Rattle.std.proofs.Common.{rules, ◌≡◌, ◌≤◌, ◌<◌, suc, length, map, drop, sym, ap, subst, [], ◌∙◌, arith}
 use Rattle.std.specs.Prelude.{nat_le}
 use Rattle.std.specs.List.{filter}
@@ -18,6 +17,3 @@ returns c =
     let same : c.loop-statement.count ≡ suc (suc (suc (length (filter steers (map statement_of items))))) = omega (arith, left, c.loop-statement.invariant.same) in
     let fits : c.args.rule.now.line < 4294967296 = search rules in
     ap (λ n. nat_le n 256) same ∙ sym (short_is (rule_of c.args.rule.now) fits)
-
-pub loop-statement-preserved : goal.loop-statement-preserved
-loop-statement-preserved = grind (arith, common_steps)

@@ -1,4 +1,3 @@
-use Rattle.std.proofs.lemmas.Grind.{common_steps}
 use Rattle.std.proofs.Common.{rules, ◌≡◌, ◌<◌, ◌≤◌, ◌++◌, ◌∷◌, [], length, true, map, sym, subst, ap, ◌∙◌, arith}
 use Rattle.std.specs.Prelude.{nat_lt}
 use Rattle.std.proofs.lemmas.Bool.{and_from, lt-ltb}
@@ -44,18 +43,3 @@ new-requires c =
     ap (λ z. is_sound (record { conditions = z; rules = map rule_of c.push.new.self.items })) conditions_are
     ∙ ap (λ z. is_sound (record { conditions = (traced spec).conditions; rules = z })) rules_are
     ∙ traced_sound spec c.into_parts-conditions.ensures.sound room
-
-pub overflow_cast-count : goal.overflow_cast-count
-overflow_cast-count = grind (arith, common_steps)
-
-pub returns-clause-room : goal.returns-clause-room
-returns-clause-room = grind (arith, common_steps)
-
-pub returns-clause-told : goal.returns-clause-told
-returns-clause-told = grind (arith, common_steps)
-
-pub returns-then-len-ge-MAX_RULES-clause-refused : goal.returns-then-len-ge-MAX_RULES-clause-refused
-returns-then-len-ge-MAX_RULES-clause-refused = grind (arith, common_steps)
-
-pub telling_ends-requires : goal.telling_ends-requires
-telling_ends-requires = grind (arith, common_steps)

@@ -1,5 +1,4 @@
-use Rattle.std.proofs.lemmas.Grind.{common_steps}
-use Rattle.std.proofs.Common.{◌≡◌, true, map, sym, subst, ap, ◌∙◌, arith}
+use Rattle.std.proofs.Common.{◌≡◌, true, map, sym, subst, ap, ◌∙◌}
 use Rattle.lex_semantics.specs.Spec as S
 use Rattle.lexspec.specs.RuleViews.{rule_of}
 use Rattle.lexspec.specs.Tests.{is_sound}
@@ -14,6 +13,3 @@ new-requires c =
     let rules_are : map rule_of c.in_ok-rules.rules.items ≡ map rejecting_rule spec.rules = c.in_ok-rules.ensures ∙ ap (map rejecting_rule) c.into_parts-conditions.ensures.rules in
     subst (λ ks. is_sound (record { conditions = ks; rules = map rule_of c.in_ok-rules.rules.items }) ≡ true) (sym c.into_parts-conditions.ensures.conditions)
     (subst (λ rs. is_sound (record { conditions = spec.conditions; rules = rs }) ≡ true) (sym rules_are) (rejecting_sound spec c.into_parts-conditions.ensures.sound))
-
-pub returns : goal.returns
-returns = grind (arith, common_steps)

@@ -1,5 +1,4 @@
-use Rattle.std.proofs.lemmas.Grind.{common_steps}
-use Rattle.std.proofs.Common.{◌≡◌, ◌∙◌, ℕ, zero, suc, List, Bool, [], ◌∷◌, length, map, refl, ap, arith}
+use Rattle.std.proofs.Common.{◌≡◌, ◌∙◌, ℕ, zero, suc, List, Bool, [], ◌∷◌, length, map, refl, ap}
 use Rattle.std.specs.Prelude.{slice_get}
 use Rattle.std.proofs.lemmas.List.{length-map}
 use Rattle.lex_semantics.specs.Spec.{Rule, has_reject, statements_at}
@@ -24,9 +23,3 @@ pub returns-clause-flags : goal.returns-clause-flags
 returns-clause-flags c = λ i.
     let is : c.in_ok-flags.flags.items ≡ flags (rules_in (spec_of c.args.spec.now)) = c.in_ok-flags.ensures ∙ ap flags c.rules.ensures.rules in
     ap (λ l. flag l i) is ∙ flags_at (rules_in (spec_of c.args.spec.now)) i
-
-pub returns-in_err-flags-clause-flags : goal.returns-in_err-flags-clause-flags
-returns-in_err-flags-clause-flags = grind (arith, common_steps)
-
-pub returns-in_err-flags-clause-len : goal.returns-in_err-flags-clause-len
-returns-in_err-flags-clause-len = grind (arith, common_steps)

@@ -1,4 +1,3 @@
-use Rattle.std.proofs.lemmas.Grind.{common_steps}
 use Rattle.std.proofs.Common.{rules, inl, inr, ◌≡◌, ◌∷◌, [], Option, Some, None, ap, sym, subst, ◌∙◌, arith}
 use Rattle.std.proofs.lemmas.Bool.{cases_lt}
 use Rattle.std.specs.Vec.{vec_len}
@@ -35,12 +34,3 @@ pub returns : goal.returns
 returns c =
     let all = c.loop-byte-test.false in
     no_copied c.args.dfa.now.parts c.args.dfa.now.lawful c.args.rejects.now (λ b low. c.loop-byte.invariant b (omega (arith, all, low)))
-
-pub first_start-requires-clause-conditions : goal.first_start-requires-clause-conditions
-first_start-requires-clause-conditions = grind (arith, common_steps)
-
-pub first_start-requires-clause-rules : goal.first_start-requires-clause-rules
-first_start-requires-clause-rules = grind (arith, common_steps)
-
-pub returns-in_err-place_of : goal.returns-in_err-place_of
-returns-in_err-place_of = grind (arith, common_steps)

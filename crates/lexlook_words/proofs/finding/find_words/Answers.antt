@@ -1,4 +1,3 @@
-use Rattle.std.proofs.lemmas.Grind.{common_steps}
 use Rattle.std.proofs.Common.{◌≡◌, ◌∙◌, ◌++◌, ◌∷◌, [], ℕ, zero, suc, List, Some, length, ap, sym, subst, arith}
 use Rattle.std.specs.Prelude.{slice_get}
 use Rattle.std.proofs.lemmas.List.{length_push}
@@ -26,18 +25,3 @@ loop-rule-preserved c =
           (pushed (Tells (matches_in c.args.dfa.now.parts c.args.rejects.now)) c.loop-rule.rules.items c.in_ok-word.word v.each
           (subst (λ (k : ℕ). Tells (matches_in c.args.dfa.now.parts c.args.rejects.now) k c.in_ok-word.word) (sym len) c.in_ok-word.ensures));
     }
-
-pub first_copied-requires-clause-rules : goal.first_copied-requires-clause-rules
-first_copied-requires-clause-rules = grind (arith, common_steps)
-
-pub first_places-requires-clause-rules : goal.first_places-requires-clause-rules
-first_places-requires-clause-rules = grind (arith, common_steps)
-
-pub loop-rule-init : goal.loop-rule-init
-loop-rule-init = grind (arith, common_steps)
-
-pub returns : goal.returns
-returns = grind (arith, common_steps)
-
-pub word_of-requires-clause-rules : goal.word_of-requires-clause-rules
-word_of-requires-clause-rules = grind (arith, common_steps)

@@ -1,5 +1,4 @@
-use Rattle.std.proofs.lemmas.Grind.{common_steps}
-use Rattle.std.proofs.Common.{rules, ◌≡◌, ◌↔◌, ◌∙◌, ℕ, List, Option, Some, None, ap, subst, arith}
+use Rattle.std.proofs.Common.{rules, ◌≡◌, ◌↔◌, ◌∙◌, ℕ, List, Option, Some, None, ap, subst}
 use Rattle.std.specs.Vec.{vec_len}
 use Rattle.lex_semantics.specs.Text.{Among}
 use Rattle.lexauto_dfa.specs.Automata.{conditions_of, states_of}
@@ -48,12 +47,3 @@ returns c =
     let value = c.deref.ensures.value in
     never_taken d.parts d.lawful rejects words places c.requires.found rule c.in_ok-takers.field-0.items none c.in_ok-takers.ensures.ascending
     (subst (λ (l : List (Option ℕ)). (j : ℕ) → Among c.in_ok-takers.field-0.items j ↔ TakesBelow d.parts rejects l (states_of d) rule j) value c.in_ok-takers.ensures.takers)
-
-pub first_start-requires-clause-conditions : goal.first_start-requires-clause-conditions
-first_start-requires-clause-conditions = grind (arith, common_steps)
-
-pub first_start-requires-clause-rules : goal.first_start-requires-clause-rules
-first_start-requires-clause-rules = grind (arith, common_steps)
-
-pub takers-requires-clause-rules : goal.takers-requires-clause-rules
-takers-requires-clause-rules = grind (arith, common_steps)

@@ -1,4 +1,3 @@
-use Rattle.std.proofs.lemmas.Grind.{common_steps}
 use Rattle.std.proofs.Common.{◌≡◌, ◌⊎◌, ◌↔◌, ◌<◌, ℕ, Bool, false, List, length, set, Option, Some, inl, inr, sym, ap, subst, ◌∙◌, arith}
 use Rattle.std.proofs.lemmas.Bool.{cases_eq}
 use Rattle.std.proofs.lemmas.List.{get_or-set_same, get_or-set_other}
@@ -41,6 +40,3 @@ returns-else-has-clause-cleared c = λ j. (
   λ f. inl f,
   λ h. elim h [ inl f ↦ f | inr m ↦ absurd (c.has.ensures.no c.if-has.false m.0) ],
 )
-
-pub returns-in_default-clause-cleared : goal.returns-in_default-clause-cleared
-returns-in_default-clause-cleared = grind (arith, common_steps)

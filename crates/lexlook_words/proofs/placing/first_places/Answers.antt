@@ -1,4 +1,3 @@
-use Rattle.std.proofs.lemmas.Grind.{common_steps}
 use Rattle.std.proofs.Common.{rules, ◌≡◌, ◌+◌, ◌∙◌, ℕ, List, Option, length, ap, sym, subst, arith}
 use Rattle.lex_semantics.specs.Text.{Among}
 use Rattle.lexauto_dfa.specs.Automata.{accepts_of, states_of}
@@ -49,9 +48,3 @@ returns-clause-least c = λ i.
     let end = c.loop-state-test.false in
     let all : c.loop-state.state ≡ states_of c.args.dfa.now = omega (arith, n, up, end) in
     subst (λ (k : ℕ). IsLeastOf (TakesAt c.args.dfa.now.parts c.args.rejects.now c.args.places.now k i) (place_of c.loop-state.firsts.items i)) all (c.loop-state.invariant.least i)
-
-pub loop-state-init : goal.loop-state-init
-loop-state-init = grind (arith, common_steps)
-
-pub taken-rules-requires : goal.taken-rules-requires
-taken-rules-requires = grind (arith, common_steps)

@@ -1,4 +1,3 @@
-use Rattle.std.proofs.lemmas.Grind.{common_steps}
 use Rattle.std.proofs.Common.{rules, ◌≡◌, ◌↔◌, ◌⊎◌, ◌<◌, ◌+◌, ◌∙◌, ℕ, Bool, false, List, Vec, Global, length, ap, sym, subst, arith}
 use Rattle.lex_semantics.specs.Text.{Among, flag}
 use Rattle.lexauto_dfa.specs.Automata.{accepts_of}
@@ -47,15 +46,3 @@ loop-state-preserved c =
             cleared = subst (λ (l : List Bool). (j : ℕ) → ((j < length l) × (flag l j ≡ false)) ↔ TakesBelow p rejects places (n + 1) rule j) (sym is) (below_not p rejects places n rule old none v.cleared);
           })
     ]
-
-pub accepts-requires : goal.accepts-requires
-accepts-requires = grind (arith, common_steps)
-
-pub clear_taker-requires-clause-known : goal.clear_taker-requires-clause-known
-clear_taker-requires-clause-known = grind (arith, common_steps)
-
-pub clear_taker-requires-clause-len : goal.clear_taker-requires-clause-len
-clear_taker-requires-clause-len = grind (arith, common_steps)
-
-pub loop-state-init : goal.loop-state-init
-loop-state-init = grind (arith, common_steps)

@@ -1,4 +1,3 @@
-use Rattle.std.proofs.lemmas.Grind.{common_steps}
 use Rattle.std.proofs.Common.{◌≡◌, ◌<◌, ℕ, Bool, true, false, inl, inr, refl, sym, subst, arith}
 use Rattle.std.proofs.lemmas.Bool.{cases_lt, cases_eq, cases_Bool}
 use Rattle.lexlook_words.specs.Placing.{MeetsAfter}
@@ -47,6 +46,3 @@ loop-condition-preserved c = λ d l low h. elim (cases_lt d c.loop-condition.con
 
 pub returns : goal.returns
 returns c = λ d l low h. (let end = c.loop-condition-test.false in c.loop-condition.invariant d l (omega (arith, low, end)) h)
-
-pub meets_after-requires-in-loop-condition-clause-rules : goal.meets_after-requires-in-loop-condition-clause-rules
-meets_after-requires-in-loop-condition-clause-rules = grind (arith, common_steps)

@@ -1,5 +1,4 @@
-use Rattle.std.proofs.lemmas.Grind.{common_steps}
-use Rattle.std.proofs.Common.{sym, ◌∙◌, arith}
+use Rattle.std.proofs.Common.{sym, ◌∙◌}
 use Rattle.lexauto_reports.proofs.Accepting.{among_get}
 use Rattle.lexlook_words.proofs.Takers.{kept_here, kept_end, kept_only, kept_some}
 use Rattle.lexlook_words.proofs.taking.taker.Goals as goal
@@ -18,6 +17,3 @@ returns-then-not-rejects-rule-clause-only c = λ j a f.
 pub returns-clause-only : goal.returns-clause-only
 returns-clause-only c = λ j a f.
     sym (kept_end c.args.rejects.now c.args.rules.now c.loop-rule.rule-index c.loop-rule-test.false c.loop-rule.invariant) ∙ kept_only c.args.rejects.now c.args.rules.now j a f
-
-pub loop-rule-preserved : goal.loop-rule-preserved
-loop-rule-preserved = grind (arith, common_steps)

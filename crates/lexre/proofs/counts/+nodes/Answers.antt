@@ -1,4 +1,3 @@
-use Rattle.std.proofs.lemmas.Grind.{common_steps}
 use Rattle.std.proofs.Common.{rules, ◌≡◌, ◌^◌, List, min, map, subst, arith}
 use Rattle.lex_semantics.specs.Shapes.{nodes_of}
 use Rattle.lex_semantics.specs.Tree.{trees}
@@ -18,6 +17,3 @@ capped_nodes-returns-in-Alt t c =
     let many = marked_nodes c.in-Alt.parts.is_bare (trees (map tree_of (items_of c.in-Alt.parts))) in
     let own = subst (λ (ps : List Pattern). c.capped_nodes_of-in-Alt.result ≡ min (2 ^ 32) (nodes_of (trees (map tree_of ps)))) c.items-in-Alt.ensures c.capped_nodes_of-in-Alt.ensures in
     rw c.in-Alt.is (rw (choice_tree_of c.in-Alt.parts) (rw many (search (rules, arith, own))))
-
-pub capped_nodes_of-loop-part-preserved : goal.capped_nodes_of-loop-part-preserved
-capped_nodes_of-loop-part-preserved = grind (arith, common_steps)

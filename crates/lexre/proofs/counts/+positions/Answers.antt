@@ -1,5 +1,4 @@
-use Rattle.std.proofs.lemmas.Grind.{common_steps}
-use Rattle.std.proofs.Common.{◌^◌, ◌∙◌, min, map, sym, ap, arith}
+use Rattle.std.proofs.Common.{◌^◌, ◌∙◌, min, map, sym, ap}
 use Rattle.lex_semantics.specs.Tree.{trees}
 use Rattle.lexre.specs.Views.{is_marked, items_of, tree_of}
 use Rattle.lexre.proofs.BareLaws.{marked_positions}
@@ -9,6 +8,3 @@ pub positions_in-returns-then-is_bare : goal.positions_in-returns-then-is_bare
 positions_in-returns-then-is_bare t c =
     let none = marked_positions (is_marked c.args.parts.now) (trees (map tree_of (items_of c.args.parts.now))) (sym c.is_bare.ensures ∙ c.if-is_bare.true) in
     ap (λ k. min (2 ^ 32) k) (sym none)
-
-pub capped_positions_of-loop-part-preserved : goal.capped_positions_of-loop-part-preserved
-capped_positions_of-loop-part-preserved = grind (arith, common_steps)

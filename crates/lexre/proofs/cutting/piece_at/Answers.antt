@@ -1,4 +1,3 @@
-use Rattle.std.proofs.lemmas.Grind.{common_steps}
 use Rattle.std.proofs.Common.{arith, length-drop}
 use Rattle.lexre_bytes.proofs.PassingLaws.{quotes_shorter}
 use Rattle.lexre_bytes.proofs.QuoteLaws.{escape_shorter}
@@ -9,9 +8,3 @@ returns-in-Ok-clause-shorter c = omega (arith, quotes_shorter _ _ c.in-Ok.ensure
 
 pub returns-in-Some-escape_at-clause-shorter : goal.returns-in-Some-escape_at-clause-shorter
 returns-in-Some-escape_at-clause-shorter c = omega (arith, c.in-Some.ensures.cases.1, escape_shorter _ _ _ c.in-Some-escape_at.ensures)
-
-pub returns-in-Err-clause-fault : goal.returns-in-Err-clause-fault
-returns-in-Err-clause-fault = grind (arith, common_steps)
-
-pub returns-in-Err-skip_class-clause-fault : goal.returns-in-Err-skip_class-clause-fault
-returns-in-Err-skip_class-clause-fault = grind (arith, common_steps)

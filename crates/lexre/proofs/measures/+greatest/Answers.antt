@@ -1,5 +1,4 @@
-use Rattle.std.proofs.lemmas.Grind.{common_steps}
-use Rattle.std.proofs.Common.{◌∙◌, ℕ, Option, map, option_map, sym, ap, arith}
+use Rattle.std.proofs.Common.{◌∙◌, ℕ, Option, map, option_map, sym, ap}
 use Rattle.lex_semantics.specs.Tree.{trees}
 use Rattle.lexre.specs.Lengths.{capped}
 use Rattle.lexre.specs.Views.{items_of, tree_of}
@@ -15,18 +14,3 @@ pub capped_greatest-returns-then-is_bare-2 : goal.capped_greatest-returns-then-i
 capped_greatest-returns-then-is_bare-2 t c =
     let zero = marked_greatest_some c.in-Alt.parts.is_bare (trees (map tree_of (items_of c.in-Alt.parts))) (sym c.is_bare-in-Alt.ensures ∙ c.if-is_bare-2.true) in
     rw c.in-Alt.is (rw (choice_tree_of c.in-Alt.parts) (ap (λ (x : Option ℕ). option_map capped x) (sym zero)))
-
-pub capped_greatest_of_each-loop-part-preserved : goal.capped_greatest_of_each-loop-part-preserved
-capped_greatest_of_each-loop-part-preserved = grind (arith, common_steps)
-
-pub capped_greatest_of_each-overflow_add-branch : goal.capped_greatest_of_each-overflow_add-branch
-capped_greatest_of_each-overflow_add-branch = grind (arith, common_steps)
-
-pub capped_greatest_of_each-returns-in_err-capped_greatest : goal.capped_greatest_of_each-returns-in_err-capped_greatest
-capped_greatest_of_each-returns-in_err-capped_greatest = grind (arith, common_steps)
-
-pub capped_greatest_of_some-loop-part-preserved : goal.capped_greatest_of_some-loop-part-preserved
-capped_greatest_of_some-loop-part-preserved = grind (arith, common_steps)
-
-pub capped_greatest_of_some-returns-in_err-capped_greatest : goal.capped_greatest_of_some-returns-in_err-capped_greatest
-capped_greatest_of_some-returns-in_err-capped_greatest = grind (arith, common_steps)

@@ -1,5 +1,4 @@
-use Rattle.std.proofs.lemmas.Grind.{common_steps}
-use Rattle.std.proofs.Common.{◌∙◌, map, sym, ap, arith}
+use Rattle.std.proofs.Common.{◌∙◌, map, sym, ap}
 use Rattle.lex_semantics.specs.Tree.{trees}
 use Rattle.lexre.specs.Lengths.{capped}
 use Rattle.lexre.specs.Views.{items_of, tree_of}
@@ -15,9 +14,3 @@ pub capped_least-returns-then-is_bare-2 : goal.capped_least-returns-then-is_bare
 capped_least-returns-then-is_bare-2 t c =
     let zero = marked_least_some c.in-Alt.parts.is_bare (trees (map tree_of (items_of c.in-Alt.parts))) (sym c.is_bare-in-Alt.ensures ∙ c.if-is_bare-2.true) in
     rw c.in-Alt.is (rw (choice_tree_of c.in-Alt.parts) (ap (capped) (sym zero)))
-
-pub capped_least_of_each-loop-part-preserved : goal.capped_least_of_each-loop-part-preserved
-capped_least_of_each-loop-part-preserved = grind (arith, common_steps)
-
-pub capped_least_of_some-loop-part-preserved : goal.capped_least_of_some-loop-part-preserved
-capped_least_of_some-loop-part-preserved = grind (arith, common_steps)

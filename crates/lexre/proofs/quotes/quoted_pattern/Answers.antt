@@ -1,4 +1,3 @@
-use Rattle.std.proofs.lemmas.Grind.{common_steps}
 use Rattle.std.proofs.Common.{◌≡◌, ◌≤◌, ◌∙◌, length, map, take, take_all, sym, ap, subst, arith}
 use Rattle.lex_semantics.specs.Shapes.{IsSoundTree}
 use Rattle.lex_semantics.specs.Tree.{Cat, trees}
@@ -29,9 +28,3 @@ returns-in_ok-series-in_default-clause-sound c =
     ap (λ ts. Cat (trees ts)) (c.loop-byte.invariant ∙ ap (byte_trees c.args.fold) all) ∙ tree_of_many c.args.fold bytes many in
     let h : IsSoundTree (Cat (trees (map tree_of c.loop-byte.parts.items))) = subst IsSoundTree (sym tree) (sound_quoted c.args.fold bytes (λ k. let f = c.type_inv.bytes k in omega arith)) in
     subst IsSoundTree (sym c.in_ok-series-in_default.ensures) h
-
-pub loop-byte-init : goal.loop-byte-init
-loop-byte-init = grind (arith, common_steps)
-
-pub loop-byte-preserved : goal.loop-byte-preserved
-loop-byte-preserved = grind (arith, common_steps)

@@ -1,4 +1,3 @@
-use Rattle.std.proofs.lemmas.Grind.{common_steps}
 use Rattle.std.proofs.Common.{ℕ, ◌-◌, List, rules, ◌∙◌, sym, subst, ap, arith}
 use Rattle.std.proofs.lemmas.Result.{err_from_is_err_and}
 use Rattle.std.specs.FinMap.{get, insert}
@@ -264,57 +263,3 @@ step-returns-then-taken-room-clause-known t c = elim c.match-symbol.branch [
   | step-in-Name+in_ok-tree-in-Name+in_ok-nodes-in-Name w ↦ rw w.names-is w.in_ok-tree-in-Name.ensures.known
   | step-in_default+in_ok-nodes-in_default w ↦ rw w.names-is c.requires.known_so_far
 ]
-
-pub read_name-overflow_sub-left : goal.read_name-overflow_sub-left
-read_name-overflow_sub-left = grind (arith, common_steps)
-
-pub read_name-overflow_sub-left-in-Ok : goal.read_name-overflow_sub-left-in-Ok
-read_name-overflow_sub-left-in-Ok = grind (arith, common_steps)
-
-pub read_name-overflow_sub-result : goal.read_name-overflow_sub-result
-read_name-overflow_sub-result = grind (arith, common_steps)
-
-pub read_name-returns-in-Err-clause-known : goal.read_name-returns-in-Err-clause-known
-read_name-returns-in-Err-clause-known = grind (arith, common_steps)
-
-pub read_name-returns-in-Some-clause-few : goal.read_name-returns-in-Some-clause-few
-read_name-returns-in-Some-clause-few = grind (arith, common_steps)
-
-pub read_name-returns-in-Some-clause-found : goal.read_name-returns-in-Some-clause-found
-read_name-returns-in-Some-clause-found = grind (arith, common_steps)
-
-pub read_name-returns-in_default-find-clause-none : goal.read_name-returns-in_default-find-clause-none
-read_name-returns-in_default-find-clause-none = grind (arith, common_steps)
-
-pub read_name-returns-in_ok-keep-in-Ok-clause-few : goal.read_name-returns-in_ok-keep-in-Ok-clause-few
-read_name-returns-in_ok-keep-in-Ok-clause-few = grind (arith, common_steps)
-
-pub read_name-returns-in_ok-keep-in-Ok-clause-found : goal.read_name-returns-in_ok-keep-in-Ok-clause-found
-read_name-returns-in_ok-keep-in-Ok-clause-found = grind (arith, common_steps)
-
-pub read_name-returns-in_ok-keep-in-Ok-clause-same_open : goal.read_name-returns-in_ok-keep-in-Ok-clause-same_open
-read_name-returns-in_ok-keep-in-Ok-clause-same_open = grind (arith, common_steps)
-
-pub read_name-returns-in_ok-keep-in-Ok-clause-spare : goal.read_name-returns-in_ok-keep-in-Ok-clause-spare
-read_name-returns-in_ok-keep-in-Ok-clause-spare = grind (arith, common_steps)
-
-pub read_name-returns-then-left-eq0-clause-none : goal.read_name-returns-then-left-eq0-clause-none
-read_name-returns-then-left-eq0-clause-none = grind (arith, common_steps)
-
-pub read_within-loop-rest-init : goal.read_within-loop-rest-init
-read_within-loop-rest-init = grind (arith, common_steps)
-
-pub read_within-overflow_add-nodes : goal.read_within-overflow_add-nodes
-read_within-overflow_add-nodes = grind (arith, common_steps)
-
-pub read_within-returns-in-Err-step-clause-known : goal.read_within-returns-in-Err-step-clause-known
-read_within-returns-in-Err-step-clause-known = grind (arith, common_steps)
-
-pub step-read_name-requires : goal.step-read_name-requires
-step-read_name-requires = grind (arith, common_steps)
-
-pub step-returns-clause-same_open : goal.step-returns-clause-same_open
-step-returns-clause-same_open = grind (arith, common_steps)
-
-pub step-returns-in_err-nodes-in_default : goal.step-returns-in_err-nodes-in_default
-step-returns-in_err-nodes-in_default = grind (arith, common_steps)

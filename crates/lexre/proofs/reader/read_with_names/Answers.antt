@@ -1,4 +1,3 @@
-use Rattle.std.proofs.lemmas.Grind.{common_steps}
 use Rattle.std.proofs.Common.{◌-◌, List, ℕ, sym, subst, arith}
 use Rattle.std.specs.FinMap.{get}
 use Rattle.lexre_bytes.specs.Lexical.{symbol_at}
@@ -23,27 +22,3 @@ returns-in-Ok-clause-found c = (
   spelled_rises c.args.options.posix (symbol_at c.args.options.fold) (get c.args.definitions.now) (64 - c.in-Ok.field-0.spare) 64 c.args.text.now (tree_of c.in-Ok.field-0.tree.pattern) c.in-Ok.ensures.found (omega arith),
   c.in-Ok.ensures.few,
 )
-
-pub returns-in-Err : goal.returns-in-Err
-returns-in-Err = grind (arith, common_steps)
-
-pub returns-in-Err-OutOfMemory-clause-found : goal.returns-in-Err-OutOfMemory-clause-found
-returns-in-Err-OutOfMemory-clause-found = grind (arith, common_steps)
-
-pub returns-in-Err-OutOfMemory-clause-known : goal.returns-in-Err-OutOfMemory-clause-known
-returns-in-Err-OutOfMemory-clause-known = grind (arith, common_steps)
-
-pub returns-in-Err-OutOfMemory-clause-none : goal.returns-in-Err-OutOfMemory-clause-none
-returns-in-Err-OutOfMemory-clause-none = grind (arith, common_steps)
-
-pub returns-in-Err-OutOfMemory-clause-sound : goal.returns-in-Err-OutOfMemory-clause-sound
-returns-in-Err-OutOfMemory-clause-sound = grind (arith, common_steps)
-
-pub returns-in-Ok-clause-known : goal.returns-in-Ok-clause-known
-returns-in-Ok-clause-known = grind (arith, common_steps)
-
-pub returns-in-Ok-clause-none : goal.returns-in-Ok-clause-none
-returns-in-Ok-clause-none = grind (arith, common_steps)
-
-pub returns-in-Ok-clause-sound : goal.returns-in-Ok-clause-sound
-returns-in-Ok-clause-sound = grind (arith, common_steps)

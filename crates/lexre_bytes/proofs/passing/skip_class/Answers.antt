@@ -1,4 +1,3 @@
-use Rattle.std.proofs.lemmas.Grind.{common_steps}
 use Rattle.std.proofs.Common.{◌≡◌, ◌<◌, length, Some, ap, arith}
 use Rattle.std.proofs.lemmas.Result.{err_from_is_err_and}
 use Rattle.lexre_bytes.specs.Lexical.{element_at}
@@ -48,27 +47,3 @@ loop-first-preserved c =
 
 pub returns-clause-rest : goal.returns-clause-rest
 returns-clause-rest c = class_open _ _ c.loop-first.invariant.so c.in_default.ensures.cases
-
-pub returns-clause-fault : goal.returns-clause-fault
-returns-clause-fault = grind (arith, common_steps)
-
-pub returns-clause-shorter : goal.returns-clause-shorter
-returns-clause-shorter = grind (arith, common_steps)
-
-pub returns-in_err-next-clause-fault : goal.returns-in_err-next-clause-fault
-returns-in_err-next-clause-fault = grind (arith, common_steps)
-
-pub returns-in_err-next-clause-shorter : goal.returns-in_err-next-clause-shorter
-returns-in_err-next-clause-shorter = grind (arith, common_steps)
-
-pub returns-in_err-rest-clause-fault : goal.returns-in_err-rest-clause-fault
-returns-in_err-rest-clause-fault = grind (arith, common_steps)
-
-pub returns-in_err-rest-clause-shorter : goal.returns-in_err-rest-clause-shorter
-returns-in_err-rest-clause-shorter = grind (arith, common_steps)
-
-pub returns-then-first-eq93-clause-fault : goal.returns-then-first-eq93-clause-fault
-returns-then-first-eq93-clause-fault = grind (arith, common_steps)
-
-pub returns-then-first-eq93-clause-shorter : goal.returns-then-first-eq93-clause-shorter
-returns-then-first-eq93-clause-shorter = grind (arith, common_steps)

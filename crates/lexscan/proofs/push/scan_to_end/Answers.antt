@@ -1,5 +1,4 @@
-use Rattle.std.proofs.lemmas.Grind.{common_steps}
-use Rattle.std.proofs.Common.{ℕ, List, subst, ◌∙◌, append-nil, arith}
+use Rattle.std.proofs.Common.{ℕ, List, subst, ◌∙◌, append-nil}
 use Rattle.lexscan_window.specs.Waits.{GivesWaiting, bytes_left}
 use Rattle.lexscan_window.specs.declared.waiting.Waiting.{Waiting}
 use Rattle.lexscan_window.specs.declared.state.State.{State}
@@ -56,42 +55,3 @@ returns-in-Err-clause-finished g c =
       λ fed out h. (let fell = t.5 h.turns h.given out h.stands in
           Push.end_refused M old new waiting fed out h c.requires.going t.0 ran.0 ran.1 t.2 t.3 (bytes_left last) c.in-Err.e t.4 gave.taken fell (Push.all_given M old new waiting (bytes_left last) source.ends last.ends ran.0 gave now.ends now.max_reads)),
     )
-
-pub returns-in-Err-clause-condition : goal.returns-in-Err-clause-condition
-returns-in-Err-clause-condition = grind (arith, common_steps)
-
-pub returns-in-Err-clause-inside : goal.returns-in-Err-clause-inside
-returns-in-Err-clause-inside = grind (arith, common_steps)
-
-pub returns-in-Err-clause-not_read : goal.returns-in-Err-clause-not_read
-returns-in-Err-clause-not_read = grind (arith, common_steps)
-
-pub returns-in-Err-clause-refused : goal.returns-in-Err-clause-refused
-returns-in-Err-clause-refused = grind (arith, common_steps)
-
-pub returns-in-Err-clause-stack : goal.returns-in-Err-clause-stack
-returns-in-Err-clause-stack = grind (arith, common_steps)
-
-pub returns-in-Err-clause-stood : goal.returns-in-Err-clause-stood
-returns-in-Err-clause-stood = grind (arith, common_steps)
-
-pub returns-in-Err-clause-too_many : goal.returns-in-Err-clause-too_many
-returns-in-Err-clause-too_many = grind (arith, common_steps)
-
-pub returns-in-Ok-Ended-clause-condition : goal.returns-in-Ok-Ended-clause-condition
-returns-in-Ok-Ended-clause-condition = grind (arith, common_steps)
-
-pub returns-in-Ok-Ended-clause-ended : goal.returns-in-Ok-Ended-clause-ended
-returns-in-Ok-Ended-clause-ended = grind (arith, common_steps)
-
-pub returns-in-Ok-Ended-clause-inside : goal.returns-in-Ok-Ended-clause-inside
-returns-in-Ok-Ended-clause-inside = grind (arith, common_steps)
-
-pub returns-in-Ok-Ended-clause-not_read : goal.returns-in-Ok-Ended-clause-not_read
-returns-in-Ok-Ended-clause-not_read = grind (arith, common_steps)
-
-pub returns-in-Ok-Ended-clause-refused : goal.returns-in-Ok-Ended-clause-refused
-returns-in-Ok-Ended-clause-refused = grind (arith, common_steps)
-
-pub returns-in-Ok-Ended-clause-too_many : goal.returns-in-Ok-Ended-clause-too_many
-returns-in-Ok-Ended-clause-too_many = grind (arith, common_steps)

@@ -1,5 +1,3 @@
-use Rattle.std.proofs.Common.{arith}
-use Rattle.std.proofs.lemmas.Grind.{common_steps}
 use Rattle.lexscan.proofs.Making.{turn_made, turn_refused, turn_next}
 use Rattle.lexscan.proofs.turn.back_turn.Goals as goal
 
@@ -11,15 +9,3 @@ returns-in-Err-clause-goes_on g c = turn_refused (g.M.Machine.machine c.args.mac
 
 pub returns-in-Ok-clause-next : goal.returns-in-Ok-clause-next
 returns-in-Ok-clause-next g c = turn_next (g.M.Machine.machine c.args.machine.now) (g.M.Machine.laws c.args.machine.now) g.S.Source.gave g.K.Sink.wrote _ _ _ _ _ _ c.args.state.now _ _ c.go_back.new.state c.in-Ok.turn c.requires.working c.requires.ready c.in-Ok.ensures.moved c.in-Ok.ensures.left
-
-pub returns-in-Err-clause-inside : goal.returns-in-Err-clause-inside
-returns-in-Err-clause-inside = grind (arith, common_steps)
-
-pub returns-in-Err-clause-marks : goal.returns-in-Err-clause-marks
-returns-in-Err-clause-marks = grind (arith, common_steps)
-
-pub returns-in-Err-clause-next : goal.returns-in-Err-clause-next
-returns-in-Err-clause-next = grind (arith, common_steps)
-
-pub returns-in-Err-clause-refused : goal.returns-in-Err-clause-refused
-returns-in-Err-clause-refused = grind (arith, common_steps)

@@ -1,5 +1,4 @@
-use Rattle.std.proofs.lemmas.Grind.{common_steps}
-use Rattle.std.proofs.Common.{List, ℕ, ◌≡◌, ap, subst, ◌∙◌, arith}
+use Rattle.std.proofs.Common.{List, ℕ, ◌≡◌, ap, subst, ◌∙◌}
 use Rattle.lex_semantics.specs.Machine.{Machine}
 use Rattle.lex_semantics.specs.Spec.{EndAction}
 use Rattle.lexscan_window.proofs.Saying.{prefix_same}
@@ -29,6 +28,3 @@ returns-in-Err-flush-clause-handed_on g c = write_only _ c.in-Err-flush.e c.in-E
 
 pub returns-in-Ok-flush-clause-handed_on : goal.returns-in-Ok-flush-clause-handed_on
 returns-in-Ok-flush-clause-handed_on g c = c.in-Ok-flush.ensures.flushed
-
-pub returns-in-Err-clause-bytes : goal.returns-in-Err-clause-bytes
-returns-in-Err-clause-bytes = grind (arith, common_steps)

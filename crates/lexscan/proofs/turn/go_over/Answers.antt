@@ -1,5 +1,3 @@
-use Rattle.std.proofs.Common.{arith}
-use Rattle.std.proofs.lemmas.Grind.{common_steps}
 use Rattle.lex_semantics.specs.Machine.{Machine}
 use Rattle.lexscan_matching.proofs.Barrens as Look
 use Rattle.lexscan.proofs.Settling as Turn
@@ -31,6 +29,3 @@ returns-in-Settled-clause-marks g c =
     (g.met.S.Source.gave_none _) c.in-Settled.ensures
     c.last_turn.ensures.left)
     c.note.ensures.marks
-
-pub returns-in-Settled-clause-counts : goal.returns-in-Settled-clause-counts
-returns-in-Settled-clause-counts = grind (arith, common_steps)

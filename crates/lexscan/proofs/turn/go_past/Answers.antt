@@ -1,5 +1,4 @@
-use Rattle.std.proofs.lemmas.Grind.{common_steps}
-use Rattle.std.proofs.Common.{ap, Err, arith}
+use Rattle.std.proofs.Common.{ap, Err}
 use Rattle.lex_semantics.specs.Machine.{Machine}
 use Rattle.lexscan_matching.specs.Picks.{path_of}
 use Rattle.lexscan.proofs.Leaving.{matched_moved, finished_moved}
@@ -22,21 +21,3 @@ returns-in-Ok-None-clause-moved g c =
 
 pub returns-in-Err-clause-handed_on : goal.returns-in-Err-clause-handed_on
 returns-in-Err-clause-handed_on g c = no_stack _ c.in-Err.e (λ is. c.in-Err.ensures.source.not_stack (ap Err is))
-
-pub end_turn-requires-clause-inside : goal.end_turn-requires-clause-inside
-end_turn-requires-clause-inside = grind (arith, common_steps)
-
-pub last_turn-requires-clause-tells : goal.last_turn-requires-clause-tells
-last_turn-requires-clause-tells = grind (arith, common_steps)
-
-pub returns-in-Err-clause-left : goal.returns-in-Err-clause-left
-returns-in-Err-clause-left = grind (arith, common_steps)
-
-pub returns-in-Err-clause-moved : goal.returns-in-Err-clause-moved
-returns-in-Err-clause-moved = grind (arith, common_steps)
-
-pub returns-in-Ok-None-clause-counts : goal.returns-in-Ok-None-clause-counts
-returns-in-Ok-None-clause-counts = grind (arith, common_steps)
-
-pub returns-in-Ok-None-clause-left : goal.returns-in-Ok-None-clause-left
-returns-in-Ok-None-clause-left = grind (arith, common_steps)

@@ -1,5 +1,4 @@
-use Rattle.std.proofs.lemmas.Grind.{common_steps}
-use Rattle.std.proofs.Common.{ap, Err, subst, arith}
+use Rattle.std.proofs.Common.{ap, Err, subst}
 use Rattle.lex_semantics.specs.Machine.{Machine}
 use Rattle.lexscan_matching.specs.Looks.{LookedOrAtEnd, Looked, LookedAtEnd}
 use Rattle.lexscan.proofs.Leaving.{matched_moved, finished_moved}
@@ -24,21 +23,3 @@ returns-in-Ok-false-clause-moved g c =
 
 pub returns-in-Err-clause-handed_on : goal.returns-in-Err-clause-handed_on
 returns-in-Err-clause-handed_on g c = no_stack _ c.in-Err.e (λ is. c.in-Err.ensures.source.not_stack (ap Err is))
-
-pub match_turn-requires-clause-known : goal.match_turn-requires-clause-known
-match_turn-requires-clause-known = grind (arith, common_steps)
-
-pub match_turn-requires-clause-some : goal.match_turn-requires-clause-some
-match_turn-requires-clause-some = grind (arith, common_steps)
-
-pub returns-in-Err-clause-left : goal.returns-in-Err-clause-left
-returns-in-Err-clause-left = grind (arith, common_steps)
-
-pub returns-in-Err-clause-moved : goal.returns-in-Err-clause-moved
-returns-in-Err-clause-moved = grind (arith, common_steps)
-
-pub returns-in-Ok-false-clause-counts : goal.returns-in-Ok-false-clause-counts
-returns-in-Ok-false-clause-counts = grind (arith, common_steps)
-
-pub returns-in-Ok-false-clause-left : goal.returns-in-Ok-false-clause-left
-returns-in-Ok-false-clause-left = grind (arith, common_steps)

@@ -1,5 +1,4 @@
-use Rattle.std.proofs.lemmas.Grind.{common_steps}
-use Rattle.std.proofs.Common.{Ok, arith}
+use Rattle.std.proofs.Common.{Ok}
 use Rattle.lexscan.proofs.Settling.{true_moved}
 use Rattle.lexscan.proofs.Making.{turn_made, turn_refused, turn_next}
 use Rattle.lexscan.proofs.turn.turn_without_reject.Goals as goal
@@ -15,15 +14,3 @@ returns-in-Ok-clause-next g c = turn_next (g.M.Machine.machine c.args.machine.no
 
 pub returns-in-Ok-clause-marks : goal.returns-in-Ok-clause-marks
 returns-in-Ok-clause-marks g c ms h _ = true_moved (g.M.Machine.machine c.args.machine.now) g.S.Source.gave g.K.Sink.wrote _ _ _ _ c.args.state.now c.go_without_reject.new.state ms (Ok c.in-Ok.turn) c.in-Ok.ensures.moved h
-
-pub returns-in-Err-clause-inside : goal.returns-in-Err-clause-inside
-returns-in-Err-clause-inside = grind (arith, common_steps)
-
-pub returns-in-Err-clause-marks : goal.returns-in-Err-clause-marks
-returns-in-Err-clause-marks = grind (arith, common_steps)
-
-pub returns-in-Err-clause-next : goal.returns-in-Err-clause-next
-returns-in-Err-clause-next = grind (arith, common_steps)
-
-pub returns-in-Err-clause-refused : goal.returns-in-Err-clause-refused
-returns-in-Err-clause-refused = grind (arith, common_steps)

@@ -1,4 +1,3 @@
-use Rattle.std.proofs.lemmas.Grind.{common_steps}
 use Rattle.std.proofs.Common.{◌≡◌, ℕ, false, suc, ◌+◌, ◌<◌, ◌++◌, ◌≤◌, Err, sym, ap, subst, ◌∙◌, append_assoc, arith, length}
 use Rattle.std.proofs.lemmas.Result.{err_from_is_err_and}
 use Rattle.lexscan_window.specs.Reads.{end_step}
@@ -143,21 +142,3 @@ turns-preserved g c =
       read_faults = omega (arith, now.counts.read_faults, first.read_faults, inv.read_faults);
       write_faults = omega (arith, now.counts.write_faults, first.write_faults, inv.write_faults);
     }
-
-pub returns-in-Ended-clause-counts : goal.returns-in-Ended-clause-counts
-returns-in-Ended-clause-counts = grind (arith, common_steps)
-
-pub returns-in-Ended-clause-handed_on : goal.returns-in-Ended-clause-handed_on
-returns-in-Ended-clause-handed_on = grind (arith, common_steps)
-
-pub returns-in-Ended-clause-same_sink : goal.returns-in-Ended-clause-same_sink
-returns-in-Ended-clause-same_sink = grind (arith, common_steps)
-
-pub returns-in-Ended-clause-same_source : goal.returns-in-Ended-clause-same_source
-returns-in-Ended-clause-same_source = grind (arith, common_steps)
-
-pub turn_with_reject-requires-clause-inside : goal.turn_with_reject-requires-clause-inside
-turn_with_reject-requires-clause-inside = grind (arith, common_steps)
-
-pub turn_with_reject-requires-clause-ready : goal.turn_with_reject-requires-clause-ready
-turn_with_reject-requires-clause-ready = grind (arith, common_steps)

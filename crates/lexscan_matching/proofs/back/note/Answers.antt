@@ -1,4 +1,3 @@
-use Rattle.std.proofs.lemmas.Grind.{common_steps}
 use Rattle.std.proofs.Common.{◌≡◌, ℕ, ◌+◌, ◌<◌, length, drop, get_or, sym, ◌∙◌, ap, subst, arith}
 use Rattle.lex_semantics.specs.Machine.{Machine}
 use Rattle.lexscan_window.specs.declared.state.Reading.{Reading}
@@ -59,15 +58,3 @@ bytes-preserved g c =
       known = c.step-state.ensures.known;
       marks = c.bytes.invariant.marks;
     }
-
-pub bytes-smaller-else-left-reading : goal.bytes-smaller-else-left-reading
-bytes-smaller-else-left-reading = grind (arith, common_steps)
-
-pub bytes-smaller-then-left-reading : goal.bytes-smaller-then-left-reading
-bytes-smaller-then-left-reading = grind (arith, common_steps)
-
-pub returns : goal.returns
-returns = grind (arith, common_steps)
-
-pub returns-then-settled-stride : goal.returns-then-settled-stride
-returns-then-settled-stride = grind (arith, common_steps)

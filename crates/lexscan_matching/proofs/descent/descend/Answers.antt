@@ -1,4 +1,3 @@
-use Rattle.std.proofs.lemmas.Grind.{common_steps}
 use Rattle.std.proofs.Common.{◌≡◌, ℕ, ◌+◌, ◌-◌, ◌<◌, List, length, take, refl, sym, ap, subst, ◌∙◌, arith}
 use Rattle.std.proofs.lemmas.List.{take_all}
 use Rattle.std.specs.Prelude.{filter_map}
@@ -153,6 +152,3 @@ lengths-init g c =
       passed = subst (λ l. Passed M g.K.Sink.wrote c.args.outlet.now.sink.now c.args.outlet.now.sink.now c.args.window.now.bytes c.args.at (falling M 0 path) (falling M 0 l) (conditions_of c.args.acting.now) (conditions_of c.args.acting.now)) (sym whole)
           (Down.passed_first M g.K.Sink.wrote g.met.K.Sink.wrote_none g.met.K.Sink.wrote_more c.args.window.now.bytes c.args.at _ (falling M 0 path) (conditions_of c.args.acting.now));
     }
-
-pub try_rules-requires-clause-known : goal.try_rules-requires-clause-known
-try_rules-requires-clause-known = grind (arith, common_steps)

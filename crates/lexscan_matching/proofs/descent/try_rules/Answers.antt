@@ -1,4 +1,3 @@
-use Rattle.std.proofs.lemmas.Grind.{common_steps}
 use Rattle.std.proofs.Common.{ℕ, List, Option, refl, sym, ap, ◌∙◌, arith}
 use Rattle.std.proofs.lemmas.Result.{err_from_is_err_and}
 use Rattle.std.specs.Prelude.{map, filter_map}
@@ -93,42 +92,3 @@ loop-rule-init g c =
       inside = c.requires.inside;
       passed = Down.passed_first M g.K.Sink.wrote g.met.K.Sink.wrote_none g.met.K.Sink.wrote_more c.args.window.now.bytes c.args.at _ (filter_map (match_of M c.args.len) c.args.rules.now) (conditions_of c.args.acting.now);
     }
-
-pub carry_out-requires-clause-inside : goal.carry_out-requires-clause-inside
-carry_out-requires-clause-inside = grind (arith, common_steps)
-
-pub returns-clause-cut_off : goal.returns-clause-cut_off
-returns-clause-cut_off = grind (arith, common_steps)
-
-pub returns-clause-inside : goal.returns-clause-inside
-returns-clause-inside = grind (arith, common_steps)
-
-pub returns-clause-same : goal.returns-clause-same
-returns-clause-same = grind (arith, common_steps)
-
-pub returns-clause-sink : goal.returns-clause-sink
-returns-clause-sink = grind (arith, common_steps)
-
-pub returns-clause-takes : goal.returns-clause-takes
-returns-clause-takes = grind (arith, common_steps)
-
-pub returns-clause-tried : goal.returns-clause-tried
-returns-clause-tried = grind (arith, common_steps)
-
-pub returns-in_default-2-clause-cut_off : goal.returns-in_default-2-clause-cut_off
-returns-in_default-2-clause-cut_off = grind (arith, common_steps)
-
-pub returns-in_default-2-clause-inside : goal.returns-in_default-2-clause-inside
-returns-in_default-2-clause-inside = grind (arith, common_steps)
-
-pub returns-in_default-2-clause-same : goal.returns-in_default-2-clause-same
-returns-in_default-2-clause-same = grind (arith, common_steps)
-
-pub returns-in_default-2-clause-sink : goal.returns-in_default-2-clause-sink
-returns-in_default-2-clause-sink = grind (arith, common_steps)
-
-pub returns-in_err-stop-clause-inside : goal.returns-in_err-stop-clause-inside
-returns-in_err-stop-clause-inside = grind (arith, common_steps)
-
-pub returns-in_err-stop-clause-same : goal.returns-in_err-stop-clause-same
-returns-in_err-stop-clause-same = grind (arith, common_steps)

@@ -1,4 +1,3 @@
-use Rattle.std.proofs.lemmas.Grind.{common_steps}
 use Rattle.std.proofs.Common.{rules, ◌≡◌, ℕ, ◌+◌, ◌<◌, List, length, get_or, Some, None, refl, sym, ap, subst, ◌∙◌, arith}
 use Rattle.std.specs.Prelude.{filter_map}
 use Rattle.lex_machine.proofs.Growing.{is_text_from}
@@ -76,9 +75,3 @@ returns g c =
     let y : List ℕ = c.args.text.now in
     let p : TextPlace = record { at = 0; line_start = c.args.line_start; condition = c.args.condition } in
     front_all M p y refl (g.M.Machine.laws c.args.machine.now) c.bytes.length c.bytes.best (search rules) c.bytes.invariant.short (omega (arith, c.bytes-test.false)) c.bytes.invariant.begins
-
-pub first_candidate-requires : goal.first_candidate-requires
-first_candidate-requires = grind (arith, common_steps)
-
-pub returns-then-is_empty : goal.returns-then-is_empty
-returns-then-is_empty = grind (arith, common_steps)

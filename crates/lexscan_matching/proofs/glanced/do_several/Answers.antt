@@ -1,4 +1,3 @@
-use Rattle.std.proofs.lemmas.Grind.{common_steps}
 use Rattle.std.proofs.Common.{◌+◌, drop, ◌∙◌, arith}
 use Rattle.std.proofs.lemmas.Result.{err_from_is_err_and}
 use Rattle.std.specs.Prelude.{map}
@@ -27,12 +26,3 @@ loop-statement-preserved g c =
       said = Tell.said_next g.K.Sink.wrote g.met.K.Sink.wrote_more _ _ _ c.args.text.now (map statement_of ss) (map statement_of (drop i ss)) (map statement_of (drop (i + 1) ss)) (statement_of c.statement-item.result) c.args.condition c.loop-statement.after
           (left_is ss i c.statement-item.result c.loop-statement-test.true c.statement-item.is) c.loop-statement.invariant.said ens.bytes c.in_ok-after.after ens.condition;
     }
-
-pub loop-statement-init : goal.loop-statement-init
-loop-statement-init = grind (arith, common_steps)
-
-pub returns-clause-bytes : goal.returns-clause-bytes
-returns-clause-bytes = grind (arith, common_steps)
-
-pub returns-clause-condition : goal.returns-clause-condition
-returns-clause-condition = grind (arith, common_steps)

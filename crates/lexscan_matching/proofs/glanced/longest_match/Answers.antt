@@ -1,5 +1,4 @@
-use Rattle.std.proofs.lemmas.Grind.{common_steps}
-use Rattle.std.proofs.Common.{ℕ, List, take, subst, arith}
+use Rattle.std.proofs.Common.{ℕ, List, take, subst}
 use Rattle.std.proofs.lemmas.List.{length-take-le}
 use Rattle.lex_semantics.specs.Machine.{Machine}
 use Rattle.lexscan_matching.specs.Glanced.{Tells}
@@ -13,12 +12,3 @@ returns-then-way-gt2 g c =
     let n : ℕ = c.args.way.count in
     tells_front M c.args.first bytes n c.longest_match_again.result
     (subst (λ k. Tells M c.args.first (take n bytes) k c.longest_match_again.result) (length-take-le n bytes c.requires.leads.inside) c.longest_match_again.ensures)
-
-pub returns-then-not-matches : goal.returns-then-not-matches
-returns-then-not-matches = grind (arith, common_steps)
-
-pub returns-then-way-gt-FEW : goal.returns-then-way-gt-FEW
-returns-then-way-gt-FEW = grind (arith, common_steps)
-
-pub slice_bounds-longest_match_again-end : goal.slice_bounds-longest_match_again-end
-slice_bounds-longest_match_again-end = grind (arith, common_steps)

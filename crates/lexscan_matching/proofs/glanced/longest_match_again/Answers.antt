@@ -1,4 +1,3 @@
-use Rattle.std.proofs.lemmas.Grind.{common_steps}
 use Rattle.std.proofs.Common.{◌≡◌, ℕ, ◌+◌, ◌<◌, true, false, List, [], length, take, get_or, ap, subst, sym, ◌∙◌, arith}
 use Rattle.lex_semantics.specs.Machine.{Machine, walk}
 use Rattle.lex_machine.specs.Glances.{Gists}
@@ -45,6 +44,3 @@ bytes-preserved g c =
       state_is = is;
       tells = tells_none M c.args.first bytes n c.bytes.longest c.bytes.invariant.tells (subst (λ s. M.accepts s ≡ []) is none);
     }
-
-pub bytes-init : goal.bytes-init
-bytes-init = grind (arith, common_steps)

@@ -1,4 +1,3 @@
-use Rattle.std.proofs.lemmas.Grind.{common_steps}
 use Rattle.std.proofs.Common.{◌≡◌, ℕ, ◌+◌, ◌-◌, ◌≤◌, ◌<◌, List, [], ◌∷◌, ◌++◌, length, drop, get_or, inl, true, refl, sym, ap, subst, ◌∙◌, append-nil, arith}
 use Rattle.lex_semantics.specs.Machine.{Machine}
 use Rattle.lexscan_window.specs.declared.state.TextPlace.{TextPlace}
@@ -136,54 +135,3 @@ held-preserved g c = record {
 
     before_is : 1 ≤ n + 1 → c.held.state ≡ state_at M p w (n + 1 - 1)
     before_is = λ some. so_far.state_is ∙ ap (λ k. state_at M p w k) (omega arith)
-
-pub held-smaller : goal.held-smaller
-held-smaller = grind (arith, common_steps)
-
-pub look_ahead_more-requires-clause-before_is : goal.look_ahead_more-requires-clause-before_is
-look_ahead_more-requires-clause-before_is = grind (arith, common_steps)
-
-pub returns-clause-looked : goal.returns-clause-looked
-returns-clause-looked = grind (arith, common_steps)
-
-pub returns-clause-put : goal.returns-clause-put
-returns-clause-put = grind (arith, common_steps)
-
-pub returns-clause-same : goal.returns-clause-same
-returns-clause-same = grind (arith, common_steps)
-
-pub returns-clause-same_sink : goal.returns-clause-same_sink
-returns-clause-same_sink = grind (arith, common_steps)
-
-pub returns-clause-source : goal.returns-clause-source
-returns-clause-source = grind (arith, common_steps)
-
-pub returns-clause-tells : goal.returns-clause-tells
-returns-clause-tells = grind (arith, common_steps)
-
-pub returns-clause-too_many : goal.returns-clause-too_many
-returns-clause-too_many = grind (arith, common_steps)
-
-pub returns-clause-took : goal.returns-clause-took
-returns-clause-took = grind (arith, common_steps)
-
-pub returns-clause-unmet : goal.returns-clause-unmet
-returns-clause-unmet = grind (arith, common_steps)
-
-pub returns-then-not-goes_on-clause-put : goal.returns-then-not-goes_on-clause-put
-returns-then-not-goes_on-clause-put = grind (arith, common_steps)
-
-pub returns-then-not-goes_on-clause-same : goal.returns-then-not-goes_on-clause-same
-returns-then-not-goes_on-clause-same = grind (arith, common_steps)
-
-pub returns-then-not-goes_on-clause-same_sink : goal.returns-then-not-goes_on-clause-same_sink
-returns-then-not-goes_on-clause-same_sink = grind (arith, common_steps)
-
-pub returns-then-not-goes_on-clause-source : goal.returns-then-not-goes_on-clause-source
-returns-then-not-goes_on-clause-source = grind (arith, common_steps)
-
-pub returns-then-not-goes_on-clause-too_many : goal.returns-then-not-goes_on-clause-too_many
-returns-then-not-goes_on-clause-too_many = grind (arith, common_steps)
-
-pub returns-then-not-goes_on-clause-unmet : goal.returns-then-not-goes_on-clause-unmet
-returns-then-not-goes_on-clause-unmet = grind (arith, common_steps)

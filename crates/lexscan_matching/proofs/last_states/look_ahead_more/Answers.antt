@@ -1,4 +1,3 @@
-use Rattle.std.proofs.lemmas.Grind.{common_steps}
 use Rattle.std.proofs.Common.{◌≡◌, ℕ, ◌+◌, ◌-◌, ◌≤◌, ◌<◌, true, refl, false, length, drop, inl, inr, sym, ap, subst, ◌∙◌, arith, Bool, List, [], ◌∷◌, ◌++◌, append-nil}
 use Rattle.std.proofs.lemmas.List.{length-append}
 use Rattle.std.proofs.lemmas.Result.{err_from_is_err_and}
@@ -330,33 +329,3 @@ returns-else-now-eq0-clause-looked g c =
       size = omega (arith, sizes, c.fills.invariant.place, c.requires.inside);
       stops = inr (c.fills.invariant.goes_on some, c.fills.invariant.place, c.fills-test.false);
     }
-
-pub fills-smaller-in-End : goal.fills-smaller-in-End
-fills-smaller-in-End = grind (arith, common_steps)
-
-pub returns-else-now-eq0-clause-put : goal.returns-else-now-eq0-clause-put
-returns-else-now-eq0-clause-put = grind (arith, common_steps)
-
-pub returns-else-now-eq0-clause-tells : goal.returns-else-now-eq0-clause-tells
-returns-else-now-eq0-clause-tells = grind (arith, common_steps)
-
-pub returns-else-now-eq0-clause-too_many : goal.returns-else-now-eq0-clause-too_many
-returns-else-now-eq0-clause-too_many = grind (arith, common_steps)
-
-pub returns-in-Done-clause-same : goal.returns-in-Done-clause-same
-returns-in-Done-clause-same = grind (arith, common_steps)
-
-pub returns-in-Done-clause-same_sink : goal.returns-in-Done-clause-same_sink
-returns-in-Done-clause-same_sink = grind (arith, common_steps)
-
-pub returns-in-Done-clause-too_many : goal.returns-in-Done-clause-too_many
-returns-in-Done-clause-too_many = grind (arith, common_steps)
-
-pub returns-then-now-eq0-clause-put : goal.returns-then-now-eq0-clause-put
-returns-then-now-eq0-clause-put = grind (arith, common_steps)
-
-pub returns-then-now-eq0-clause-source : goal.returns-then-now-eq0-clause-source
-returns-then-now-eq0-clause-source = grind (arith, common_steps)
-
-pub returns-then-now-eq0-clause-too_many : goal.returns-then-now-eq0-clause-too_many
-returns-then-now-eq0-clause-too_many = grind (arith, common_steps)

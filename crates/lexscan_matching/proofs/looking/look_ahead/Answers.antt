@@ -1,4 +1,3 @@
-use Rattle.std.proofs.lemmas.Grind.{common_steps}
 use Rattle.std.proofs.Common.{◌≡◌, ◌+◌, ◌≤◌, ◌++◌, ◌∷◌, [], true, length, get_or, sym, ap, subst, ◌∙◌, arith}
 use Rattle.std.proofs.lemmas.List.{length-append}
 use Rattle.std.proofs.lemmas.Result.{err_from_is_err_and}
@@ -94,57 +93,3 @@ returns-then-not-branch-clause-source g c = record {
   not_failed = λ e. cc;
   not_stack = λ e. cc;
 }
-
-pub byte-requires : goal.byte-requires
-byte-requires = grind (arith, common_steps)
-
-pub bytes-init : goal.bytes-init
-bytes-init = grind (arith, common_steps)
-
-pub bytes-smaller : goal.bytes-smaller
-bytes-smaller = grind (arith, common_steps)
-
-pub overflow_add-len : goal.overflow_add-len
-overflow_add-len = grind (arith, common_steps)
-
-pub overflow_add-next : goal.overflow_add-next
-overflow_add-next = grind (arith, common_steps)
-
-pub returns-in_err-fetch-clause-unmet : goal.returns-in_err-fetch-clause-unmet
-returns-in_err-fetch-clause-unmet = grind (arith, common_steps)
-
-pub returns-then-not-branch-clause-inside : goal.returns-then-not-branch-clause-inside
-returns-then-not-branch-clause-inside = grind (arith, common_steps)
-
-pub returns-then-not-branch-clause-known : goal.returns-then-not-branch-clause-known
-returns-then-not-branch-clause-known = grind (arith, common_steps)
-
-pub returns-then-not-branch-clause-looked : goal.returns-then-not-branch-clause-looked
-returns-then-not-branch-clause-looked = grind (arith, common_steps)
-
-pub returns-then-not-branch-clause-same : goal.returns-then-not-branch-clause-same
-returns-then-not-branch-clause-same = grind (arith, common_steps)
-
-pub returns-then-not-branch-clause-same_sink : goal.returns-then-not-branch-clause-same_sink
-returns-then-not-branch-clause-same_sink = grind (arith, common_steps)
-
-pub returns-then-not-branch-clause-some : goal.returns-then-not-branch-clause-some
-returns-then-not-branch-clause-some = grind (arith, common_steps)
-
-pub returns-then-not-goes_on-clause-known : goal.returns-then-not-goes_on-clause-known
-returns-then-not-goes_on-clause-known = grind (arith, common_steps)
-
-pub returns-then-not-goes_on-clause-looked : goal.returns-then-not-goes_on-clause-looked
-returns-then-not-goes_on-clause-looked = grind (arith, common_steps)
-
-pub returns-then-not-goes_on-clause-put : goal.returns-then-not-goes_on-clause-put
-returns-then-not-goes_on-clause-put = grind (arith, common_steps)
-
-pub returns-then-not-goes_on-clause-some : goal.returns-then-not-goes_on-clause-some
-returns-then-not-goes_on-clause-some = grind (arith, common_steps)
-
-pub returns-then-not-goes_on-clause-source : goal.returns-then-not-goes_on-clause-source
-returns-then-not-goes_on-clause-source = grind (arith, common_steps)
-
-pub step-state-requires : goal.step-state-requires
-step-state-requires = grind (arith, common_steps)

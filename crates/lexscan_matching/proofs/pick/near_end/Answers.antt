@@ -1,4 +1,3 @@
-use Rattle.std.proofs.lemmas.Grind.{common_steps}
 use Rattle.std.proofs.Common.{◌≡◌, ℕ, ◌-◌, List, Some, None, ap, subst, ◌∙◌, arith}
 use Rattle.std.specs.Prelude.{filter_map}
 use Rattle.lex_semantics.specs.Machine.{Machine}
@@ -42,60 +41,3 @@ returns-in-Some-first_candidate-clause-first g c =
     (Pick.first_same _ _ (Some pick) (Pick.falling_last M p w k (omega (arith, c.requires.tells.some, c.if-len-eq1.false)) (omega (arith, c.requires.tells.inside)))
     (Pick.first_before _ (falling M 0 (path_of M p w (k - 1))) pick
     (subst (λ l. IsFirst (filter_map (match_of M k) l) (Some pick)) (c.accepts-2.ensures ∙ ap M.accepts c.requires.tells.before_is) c.in-Some-first_candidate.ensures.first))))
-
-pub first_candidate-requires : goal.first_candidate-requires
-first_candidate-requires = grind (arith, common_steps)
-
-pub first_candidate-requires-2 : goal.first_candidate-requires-2
-first_candidate-requires-2 = grind (arith, common_steps)
-
-pub returns-clause-first : goal.returns-clause-first
-returns-clause-first = grind (arith, common_steps)
-
-pub returns-clause-known : goal.returns-clause-known
-returns-clause-known = grind (arith, common_steps)
-
-pub returns-clause-one : goal.returns-clause-one
-returns-clause-one = grind (arith, common_steps)
-
-pub returns-clause-short : goal.returns-clause-short
-returns-clause-short = grind (arith, common_steps)
-
-pub returns-clause-statements : goal.returns-clause-statements
-returns-clause-statements = grind (arith, common_steps)
-
-pub returns-in-Some-clause-known : goal.returns-in-Some-clause-known
-returns-in-Some-clause-known = grind (arith, common_steps)
-
-pub returns-in-Some-clause-one : goal.returns-in-Some-clause-one
-returns-in-Some-clause-one = grind (arith, common_steps)
-
-pub returns-in-Some-clause-short : goal.returns-in-Some-clause-short
-returns-in-Some-clause-short = grind (arith, common_steps)
-
-pub returns-in-Some-clause-statements : goal.returns-in-Some-clause-statements
-returns-in-Some-clause-statements = grind (arith, common_steps)
-
-pub returns-in-Some-first_candidate-clause-known : goal.returns-in-Some-first_candidate-clause-known
-returns-in-Some-first_candidate-clause-known = grind (arith, common_steps)
-
-pub returns-in-Some-first_candidate-clause-one : goal.returns-in-Some-first_candidate-clause-one
-returns-in-Some-first_candidate-clause-one = grind (arith, common_steps)
-
-pub returns-in-Some-first_candidate-clause-short : goal.returns-in-Some-first_candidate-clause-short
-returns-in-Some-first_candidate-clause-short = grind (arith, common_steps)
-
-pub returns-in-Some-first_candidate-clause-statements : goal.returns-in-Some-first_candidate-clause-statements
-returns-in-Some-first_candidate-clause-statements = grind (arith, common_steps)
-
-pub returns-then-len-eq1-clause-first : goal.returns-then-len-eq1-clause-first
-returns-then-len-eq1-clause-first = grind (arith, common_steps)
-
-pub returns-then-len-eq1-clause-known : goal.returns-then-len-eq1-clause-known
-returns-then-len-eq1-clause-known = grind (arith, common_steps)
-
-pub returns-then-len-eq1-clause-short : goal.returns-then-len-eq1-clause-short
-returns-then-len-eq1-clause-short = grind (arith, common_steps)
-
-pub returns-then-len-eq1-clause-statements : goal.returns-then-len-eq1-clause-statements
-returns-then-len-eq1-clause-statements = grind (arith, common_steps)

@@ -1,4 +1,3 @@
-use Rattle.std.proofs.lemmas.Grind.{common_steps}
 use Rattle.std.proofs.Common.{◌≡◌, ℕ, ◌+◌, ◌<◌, List, length, get_or, Some, None, ap, subst, ◌∙◌, arith}
 use Rattle.std.specs.Prelude.{filter_map}
 use Rattle.lex_semantics.specs.Machine.{Machine}
@@ -48,6 +47,3 @@ bytes-preserved g c =
       statements = c.bytes.invariant.statements;
       keeps = Pick.keeps_more c.bytes.best n c.bytes.invariant.keeps;
     }
-
-pub first_candidate-requires : goal.first_candidate-requires
-first_candidate-requires = grind (arith, common_steps)

@@ -1,5 +1,4 @@
-use Rattle.std.proofs.lemmas.Grind.{common_steps}
-use Rattle.std.proofs.Common.{length, arith}
+use Rattle.std.proofs.Common.{length}
 use Rattle.lexscan_tokens.proofs.Lying.{lies_at}
 use Rattle.lexscan_tokens.proofs.listing.texts_of.Goals as goal
 
@@ -8,9 +7,3 @@ text-requires-clause-order c = (lies_at (length c.args.input.now) 0 c.args.token
 
 pub text-requires-clause-inside : goal.text-requires-clause-inside
 text-requires-clause-inside c = (lies_at (length c.args.input.now) 0 c.args.tokens.now c.loop-token.token-index _ c.requires c.loop-token-test.true).1
-
-pub loop-token-preserved : goal.loop-token-preserved
-loop-token-preserved = grind (arith, common_steps)
-
-pub returns : goal.returns
-returns = grind (arith, common_steps)

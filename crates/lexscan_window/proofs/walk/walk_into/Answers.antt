@@ -1,4 +1,3 @@
-use Rattle.std.proofs.lemmas.Grind.{common_steps}
 use Rattle.std.proofs.Common.{◌≡◌, ℕ, ◌+◌, ◌<◌, List, [], ◌∷◌, ◌++◌, length, take, drop, get_or, refl, sym, ap, subst, ◌∙◌, arith, rules}
 use Rattle.std.specs.Prelude.{slice_set}
 use Rattle.std.proofs.lemmas.List.{take_more, take_more_set, length-set, length-take, length-take-le, take-append-le, take_all}
@@ -108,48 +107,3 @@ returns-in-Some-clause-filled g c =
 
     size : length copied ≡ way.count
     size = ap length c.copy_from_slice.ensures.after ∙ length-take-le way.count ready (Walk.within M c.args.first n ready way text leads)
-
-pub bytes-smaller : goal.bytes-smaller
-bytes-smaller = grind (arith, common_steps)
-
-pub copy_from_slice-requires : goal.copy_from_slice-requires
-copy_from_slice-requires = grind (arith, common_steps)
-
-pub returns-clause-filled : goal.returns-clause-filled
-returns-clause-filled = grind (arith, common_steps)
-
-pub returns-clause-known : goal.returns-clause-known
-returns-clause-known = grind (arith, common_steps)
-
-pub returns-clause-known_before : goal.returns-clause-known_before
-returns-clause-known_before = grind (arith, common_steps)
-
-pub returns-clause-some : goal.returns-clause-some
-returns-clause-some = grind (arith, common_steps)
-
-pub returns-in-Some-clause-known : goal.returns-in-Some-clause-known
-returns-in-Some-clause-known = grind (arith, common_steps)
-
-pub returns-in-Some-clause-known_before : goal.returns-in-Some-clause-known_before
-returns-in-Some-clause-known_before = grind (arith, common_steps)
-
-pub returns-in-Some-clause-some : goal.returns-in-Some-clause-some
-returns-in-Some-clause-some = grind (arith, common_steps)
-
-pub returns-then-not-goes_on-clause-known : goal.returns-then-not-goes_on-clause-known
-returns-then-not-goes_on-clause-known = grind (arith, common_steps)
-
-pub returns-then-not-goes_on-clause-known_before : goal.returns-then-not-goes_on-clause-known_before
-returns-then-not-goes_on-clause-known_before = grind (arith, common_steps)
-
-pub returns-then-not-goes_on-clause-some : goal.returns-then-not-goes_on-clause-some
-returns-then-not-goes_on-clause-some = grind (arith, common_steps)
-
-pub slice_bounds-copy_from_slice-end : goal.slice_bounds-copy_from_slice-end
-slice_bounds-copy_from_slice-end = grind (arith, common_steps)
-
-pub slice_bounds-copy_from_slice-end-in-Some : goal.slice_bounds-copy_from_slice-end-in-Some
-slice_bounds-copy_from_slice-end-in-Some = grind (arith, common_steps)
-
-pub slice_bounds-copy_from_slice-end-in-Some-2 : goal.slice_bounds-copy_from_slice-end-in-Some-2
-slice_bounds-copy_from_slice-end-in-Some-2 = grind (arith, common_steps)

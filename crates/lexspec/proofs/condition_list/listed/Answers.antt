@@ -1,4 +1,3 @@
-use Rattle.std.proofs.lemmas.Grind.{common_steps}
 use Rattle.std.proofs.Common.{rules, arith, ◌==◌, ◌≡◌, [], length, sym}
 use Rattle.lexspec_actions.specs.Names.{number_from, names_of}
 use Rattle.lexspec.specs.SubjectViews.{parts}
@@ -30,6 +29,3 @@ names-preserved c =
     c.in_ok-number.number c.names.invariant
     (next_part c.names.rest.now _ _ _ (c.split_before.ensures.split (λ b. b == 44) (λ b r h post. search rules)) some c.skip_first-rest.ensures) (sym c.in_ok-number.ensures.number)
     (omega (arith, c.in_ok-number.ensures.below))
-
-pub names-smaller : goal.names-smaller
-names-smaller = grind (arith, common_steps)

@@ -1,4 +1,3 @@
-use Rattle.std.proofs.lemmas.Grind.{common_steps}
 use Rattle.std.proofs.Common.{rules, ◌≡◌, ◌≤◌, ◌<◌, ◌+◌, ℕ, map, drop, length, Option, Some, None, refl, sym, subst, ◌∙◌, arith}
 use Rattle.lex_semantics.specs.Shapes.{IsSoundTree, AreSoundTrees}
 use Rattle.lex_semantics.specs.Tree.{Tree, Trees, Alt, tree, trees}
@@ -117,6 +116,3 @@ one_length-returns-else-is_bare-2 t c =
     let is : Alt all ≡ tree_of c.args.pattern.now = search (rules, P.the_lemmas) in
     let sound = subst IsSoundTree (sym is) c.requires in
     subst (λ (u : Tree). TellsLength (HasOne u) c.common_length.result) is (tells_some all sound.0 sound.1 c.common_length.result c.common_length.ensures)
-
-pub joined_length-loop-part-init : goal.joined_length-loop-part-init
-joined_length-loop-part-init = grind (arith, common_steps)

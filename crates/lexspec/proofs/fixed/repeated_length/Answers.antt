@@ -1,5 +1,4 @@
-use Rattle.std.proofs.lemmas.Grind.{common_steps}
-use Rattle.std.proofs.Common.{ℕ, Option, subst, arith}
+use Rattle.std.proofs.Common.{ℕ, Option, subst}
 use Rattle.lexspec.specs.Fixed.{HasOne, TellsLength}
 use Rattle.lexspec.proofs.FixedLaws.{none_of_none}
 use Rattle.lexspec.proofs.fixed.repeated_length.Goals as goal
@@ -7,15 +6,3 @@ use Rattle.lexspec.proofs.fixed.repeated_length.Goals as goal
 pub returns-in_err-one : goal.returns-in_err-one
 returns-in_err-one c = λ t sound bounds tells.
     rw c.from_residual.ensures (none_of_none t sound c.args.least c.args.most bounds (subst (λ (o : Option ℕ). TellsLength (HasOne t) o) c.in_err-one.was tells))
-
-pub returns : goal.returns
-returns = grind (arith, common_steps)
-
-pub returns-in_err-most : goal.returns-in_err-most
-returns-in_err-most = grind (arith, common_steps)
-
-pub returns-then-most-least : goal.returns-then-most-least
-returns-then-most-least = grind (arith, common_steps)
-
-pub returns-then-one-eq0 : goal.returns-then-one-eq0
-returns-then-one-eq0 = grind (arith, common_steps)

@@ -1,4 +1,3 @@
-use Rattle.std.proofs.lemmas.Grind.{common_steps}
 use Rattle.std.proofs.Common.{rules, ◌≤◌, ◌∙◌, length, arith}
 use Rattle.lexspec.proofs.ReadingLaws.{kept_short, rest_short, line_few, read_found, all_skipped, read_none, section_none}
 use Rattle.lexspec.proofs.reading.read_spec.Goals as goal
@@ -37,33 +36,3 @@ returns-in-Ok-clause-none c =
 pub returns-clause-none : goal.returns-clause-none
 returns-clause-none c =
     section_none c.args.options c.args.text.now c.deref.result.now c.in-Err.fault.kind (c.deref.ensures.value ∙ c.in_ok-kept.ensures) c.in-Err.ensures.none
-
-pub read_on-requires-clause-few : goal.read_on-requires-clause-few
-read_on-requires-clause-few = grind (arith, common_steps)
-
-pub read_on-requires-clause-some : goal.read_on-requires-clause-some
-read_on-requires-clause-some = grind (arith, common_steps)
-
-pub returns-clause-found : goal.returns-clause-found
-returns-clause-found = grind (arith, common_steps)
-
-pub returns-clause-skipped : goal.returns-clause-skipped
-returns-clause-skipped = grind (arith, common_steps)
-
-pub returns-in_err-kept-clause-found : goal.returns-in_err-kept-clause-found
-returns-in_err-kept-clause-found = grind (arith, common_steps)
-
-pub returns-in_err-kept-clause-none : goal.returns-in_err-kept-clause-none
-returns-in_err-kept-clause-none = grind (arith, common_steps)
-
-pub returns-in_err-kept-clause-skipped : goal.returns-in_err-kept-clause-skipped
-returns-in_err-kept-clause-skipped = grind (arith, common_steps)
-
-pub returns-then-text-gt-MAX_FILE_BYTES-clause-found : goal.returns-then-text-gt-MAX_FILE_BYTES-clause-found
-returns-then-text-gt-MAX_FILE_BYTES-clause-found = grind (arith, common_steps)
-
-pub returns-then-text-gt-MAX_FILE_BYTES-clause-none : goal.returns-then-text-gt-MAX_FILE_BYTES-clause-none
-returns-then-text-gt-MAX_FILE_BYTES-clause-none = grind (arith, common_steps)
-
-pub returns-then-text-gt-MAX_FILE_BYTES-clause-skipped : goal.returns-then-text-gt-MAX_FILE_BYTES-clause-skipped
-returns-then-text-gt-MAX_FILE_BYTES-clause-skipped = grind (arith, common_steps)

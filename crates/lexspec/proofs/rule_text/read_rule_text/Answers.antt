@@ -1,5 +1,4 @@
-use Rattle.std.proofs.lemmas.Grind.{common_steps}
-use Rattle.std.proofs.Common.{ap, refl, arith}
+use Rattle.std.proofs.Common.{ap, refl}
 use Rattle.lexspec.specs.SubjectViews.{conditions_of, subject_of, trailing_of}
 use Rattle.lexspec.proofs.ItemLaws.{refused_list, refused_numbers, refused_subject, refused_sides, refused_left_open, reads_end, reads_rule}
 use Rattle.lexspec.proofs.rule_text.read_rule_text.Goals as goal
@@ -43,15 +42,3 @@ pub returns-in-Err-read_sides-clause-none : goal.returns-in-Err-read_sides-claus
 returns-in-Err-read_sides-clause-none c =
     refused_sides c.args.declarations.now c.args.text.now c.requires.starts c.in-Err-read_sides.kind c.in-Some.after_list.now _ (conditions_of c.in-Some.asked) _
     c.in-Matching.anchored c.in-Matching.head.now (trailing_of c.in-Matching.trail) c.in-Some.ensures c.in-Ok-subject_at.ensures.found (ap subject_of c.in-Matching.is) c.in-Err-read_sides.ensures.none
-
-pub returns-in-AtEnd-clause-known : goal.returns-in-AtEnd-clause-known
-returns-in-AtEnd-clause-known = grind (arith, common_steps)
-
-pub returns-in-AtEnd-clause-sound : goal.returns-in-AtEnd-clause-sound
-returns-in-AtEnd-clause-sound = grind (arith, common_steps)
-
-pub returns-in-Ok-read_sides-clause-known : goal.returns-in-Ok-read_sides-clause-known
-returns-in-Ok-read_sides-clause-known = grind (arith, common_steps)
-
-pub returns-in-Ok-read_sides-clause-sound : goal.returns-in-Ok-read_sides-clause-sound
-returns-in-Ok-read_sides-clause-sound = grind (arith, common_steps)

@@ -1,5 +1,3 @@
-use Rattle.std.proofs.Common.{arith}
-use Rattle.std.proofs.lemmas.Grind.{common_steps}
 use Rattle.std.specs.Prelude.{option_map}
 use Rattle.lexre.specs.Views.{tree_of}
 use Rattle.lexspec.specs.SubjectViews.{trailing_of}
@@ -10,15 +8,3 @@ pub returns-in-None-clause-none : goal.returns-in-None-clause-none
 returns-in-None-clause-none c =
     no_sides_cut c.args.declarations.now c.args.head.now (trailing_of c.args.trail) (tree_of c.in-Ok.pattern) (option_map tree_of c.in-Ok-read_trail.pattern)
     c.in-Ok.ensures.found c.in-Ok-read_trail.ensures.found c.in-None.ensures.none
-
-pub returns-in-Err-clause-none : goal.returns-in-Err-clause-none
-returns-in-Err-clause-none = grind (arith, common_steps)
-
-pub returns-in-Err-read_trail-clause-none : goal.returns-in-Err-read_trail-clause-none
-returns-in-Err-read_trail-clause-none = grind (arith, common_steps)
-
-pub returns-in-Some-clause-cut : goal.returns-in-Some-clause-cut
-returns-in-Some-clause-cut = grind (arith, common_steps)
-
-pub returns-in-Some-clause-sound : goal.returns-in-Some-clause-sound
-returns-in-Some-clause-sound = grind (arith, common_steps)

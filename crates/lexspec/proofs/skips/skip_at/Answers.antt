@@ -1,5 +1,4 @@
-use Rattle.std.proofs.lemmas.Grind.{common_steps}
-use Rattle.std.proofs.Common.{sym, arith}
+use Rattle.std.proofs.Common.{sym}
 use Rattle.lexspec.proofs.SkipLaws.{block_item, block_left_open}
 use Rattle.lexspec.proofs.skips.skip_at.Goals as goal
 
@@ -10,15 +9,3 @@ returns-in-Some-clause-found c =
 pub returns-in-None-clause-none : goal.returns-in-None-clause-none
 returns-in-None-clause-none c =
     block_left_open c.args.text.now _ _ _ c.requires.some c.split_line.ensures.line c.starts_with.ensures.value c.if-not-starts_with.false (sym c.in-None.ensures.after)
-
-pub returns-in-Some-clause-shorter : goal.returns-in-Some-clause-shorter
-returns-in-Some-clause-shorter = grind (arith, common_steps)
-
-pub returns-then-is_all_blank-clause-found : goal.returns-then-is_all_blank-clause-found
-returns-then-is_all_blank-clause-found = grind (arith, common_steps)
-
-pub returns-then-starts_blank-clause-found : goal.returns-then-starts_blank-clause-found
-returns-then-starts_blank-clause-found = grind (arith, common_steps)
-
-pub returns-then-starts_blank-clause-shorter : goal.returns-then-starts_blank-clause-shorter
-returns-then-starts_blank-clause-shorter = grind (arith, common_steps)

@@ -1,5 +1,4 @@
-use Rattle.std.proofs.lemmas.Grind.{common_steps}
-use Rattle.std.proofs.Common.{sym, ◌∙◌, arith}
+use Rattle.std.proofs.Common.{sym, ◌∙◌}
 use Rattle.std.proofs.lemmas.Result.{err_from_is_err_and}
 use Rattle.lexspec_lines.proofs.OutcomeLaws.{on_err}
 use Rattle.lexspec.proofs.SubjectLaws.{bare_refused, anchored_refused}
@@ -25,15 +24,3 @@ pub returns-in_err-head-2-clause-fault : goal.returns-in_err-head-2-clause-fault
 returns-in_err-head-2-clause-fault c =
     let p = err_from_is_err_and c.from_residual-in_err-head-2.result c.from_residual-in_err-head-2.ensures.1 in
     rw (p.1, p.2) c.in_err-head-2.ensures.fault
-
-pub returns-clause-found : goal.returns-clause-found
-returns-clause-found = grind (arith, common_steps)
-
-pub returns-then-not-ends_subject-clause-none : goal.returns-then-not-ends_subject-clause-none
-returns-then-not-ends_subject-clause-none = grind (arith, common_steps)
-
-pub returns-then-not-starts_with-clause-found : goal.returns-then-not-starts_with-clause-found
-returns-then-not-starts_with-clause-found = grind (arith, common_steps)
-
-pub returns-then-starts_with-2-clause-none : goal.returns-then-starts_with-2-clause-none
-returns-then-starts_with-2-clause-none = grind (arith, common_steps)

@@ -1,4 +1,3 @@
-use Rattle.std.proofs.lemmas.Grind.{common_steps}
 use Rattle.std.proofs.Common.{rules, arith, ◌≡◌, length, ap, sym, ◌∙◌}
 use Rattle.std.proofs.lemmas.Result.{err_from_is_err_and}
 use Rattle.lexspec_actions.specs.Names.{known_in, names_of}
@@ -53,18 +52,6 @@ pieces-preserved c = record {
       (piece_here _ _ _ _ _ _ c.skip-here.ensures.skipped c.in_ok-piece.ensures.spelled (ap piece_of c.in-Says.is)) (step_says _ _ _ (said_of c.in-Says.said)) c.pieces.invariant.agree);
   bound = omega (arith, c.in_ok-piece.ensures.shorter, c.skip-here.ensures.shorter);
 }
-
-pub pieces-smaller : goal.pieces-smaller
-pieces-smaller = grind (arith, common_steps)
-
-pub pieces-smaller-else-open-eq0 : goal.pieces-smaller-else-open-eq0
-pieces-smaller-else-open-eq0 = grind (arith, common_steps)
-
-pub pieces-smaller-in-Opens : goal.pieces-smaller-in-Opens
-pieces-smaller-in-Opens = grind (arith, common_steps)
-
-pub pieces-smaller-in-Semicolon : goal.pieces-smaller-in-Semicolon
-pieces-smaller-in-Semicolon = grind (arith, common_steps)
 
 pub returns-then-is_empty-clause-found : goal.returns-then-is_empty-clause-found
 returns-then-is_empty-clause-found c =

@@ -1,4 +1,3 @@
-use Rattle.std.proofs.lemmas.Grind.{common_steps}
 use Rattle.std.proofs.Common.{◌≡◌, ◌≤◌, suc, length, ap, rules, arith}
 use Rattle.lexre_bytes.proofs.QuoteLaws.{after_octal, after_hexadecimal}
 use Rattle.lexspec_actions.proofs.bytes.escape_at.Goals as goal
@@ -15,6 +14,3 @@ returns-in_ok-byte-in-48-to-55-clause-shorter c =
     let less = after_octal _ _ _ c.in_ok-byte-in-48-to-55.ensures in
     let within : length c.in_ok-byte-in-48-to-55.rest.now ≤ length c.args.text.now = omega (arith, less) in
     search rules
-
-pub returns-in_ok-plain_escape-in_default-clause-shorter : goal.returns-in_ok-plain_escape-in_default-clause-shorter
-returns-in_ok-plain_escape-in_default-clause-shorter = grind (arith, common_steps)

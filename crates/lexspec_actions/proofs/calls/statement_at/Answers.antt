@@ -1,5 +1,4 @@
-use Rattle.std.proofs.lemmas.Grind.{common_steps}
-use Rattle.std.proofs.Common.{sym, arith}
+use Rattle.std.proofs.Common.{sym}
 use Rattle.std.proofs.lemmas.Result.{err_from_is_err_and}
 use Rattle.lexspec_actions.proofs.CallLemmas.{statement_refused, statement_open}
 use Rattle.lexspec_actions.proofs.calls.statement_at.Goals as goal
@@ -12,6 +11,3 @@ returns-in_err-called-clause-spelled c =
 pub returns-in_default-after_statement-clause-spelled : goal.returns-in_default-after_statement-clause-spelled
 returns-in_default-after_statement-clause-spelled c =
     statement_open _ _ _ _ _ _ (sym c.in-Some.ensures.name) c.in_ok-called.ensures.spelled (sym c.in_default-after_statement.ensures.spelled)
-
-pub returns-in-Says-clause-shorter : goal.returns-in-Says-clause-shorter
-returns-in-Says-clause-shorter = grind (arith, common_steps)

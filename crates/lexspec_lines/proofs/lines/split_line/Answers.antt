@@ -1,5 +1,3 @@
-use Rattle.std.proofs.Common.{arith}
-use Rattle.std.proofs.lemmas.Grind.{common_steps}
 use Rattle.lexspec_lines.proofs.RunLaws.{line_found}
 use Rattle.lexspec_lines.proofs.lines.split_line.Goals as goal
 
@@ -7,9 +5,3 @@ pub returns-clause-line : goal.returns-clause-line
 returns-clause-line c =
     rw c.skip_first.ensures
     (line_found c.args.text.now _ _ c.find_byte.result c.unwrap_or-at.result c.find_byte.ensures c.unwrap_or-at.ensures c.split_at.ensures.front c.split_at.ensures.back)
-
-pub returns-clause-shorter : goal.returns-clause-shorter
-returns-clause-shorter = grind (arith, common_steps)
-
-pub returns-clause-within : goal.returns-clause-within
-returns-clause-within = grind (arith, common_steps)

@@ -1,4 +1,3 @@
-use Rattle.std.proofs.lemmas.Grind.{common_steps}
 use Rattle.std.proofs.Common.{rules, arith, sym, ◌∙◌, ◌≡◌, [], length}
 use Rattle.lexre_bytes.proofs.MemoryLaws.{always}
 use Rattle.lexspec_lines.proofs.SectionLaws.{no_line, taking_refused, no_definition_at_end, no_separator_at_end, begin_reading, good_kept, read_line, line_counts}
@@ -34,18 +33,3 @@ lines-preserved c = record {
   code = tells_more IsDefinition code_of_definition [] _ c.args.text.now c.lines.rest.now _ c.lines.line _ _ _ c.lines.invariant.code c.lines.invariant.line c.in-Ok.ensures.found c.in-Ok-take.ensures.code;
   shorter = omega (arith, c.in-Ok.ensures.shorter, c.lines.invariant.shorter);
 }
-
-pub lines-smaller : goal.lines-smaller
-lines-smaller = grind (arith, common_steps)
-
-pub overflow_add-line : goal.overflow_add-line
-overflow_add-line = grind (arith, common_steps)
-
-pub overflow_add-line-in-lines : goal.overflow_add-line-in-lines
-overflow_add-line-in-lines = grind (arith, common_steps)
-
-pub returns-then-starts_with-clause-found : goal.returns-then-starts_with-clause-found
-returns-then-starts_with-clause-found = grind (arith, common_steps)
-
-pub take-requires-clause-line : goal.take-requires-clause-line
-take-requires-clause-line = grind (arith, common_steps)

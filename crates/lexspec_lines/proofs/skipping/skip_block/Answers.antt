@@ -1,4 +1,3 @@
-use Rattle.std.proofs.lemmas.Grind.{common_steps}
 use Rattle.std.proofs.Common.{rules, arith, ◌≡◌, ◌∙◌, sym, length}
 use Rattle.lexspec_lines.proofs.SkipLaws.{block_goes, block_ends, block_open}
 use Rattle.lexspec_lines.proofs.skipping.skip_block.Goals as goal
@@ -20,12 +19,3 @@ pub returns-clause-after : goal.returns-clause-after
 returns-clause-after c =
     let none : length c.loop-rest.rest.now ≡ 0 = search rules in
     sym (block_open c.loop-rest.rest.now none) ∙ c.loop-rest.invariant.same
-
-pub loop-rest-smaller : goal.loop-rest-smaller
-loop-rest-smaller = grind (arith, common_steps)
-
-pub returns-clause-shorter : goal.returns-clause-shorter
-returns-clause-shorter = grind (arith, common_steps)
-
-pub returns-then-starts_with-clause-shorter : goal.returns-then-starts_with-clause-shorter
-returns-then-starts_with-clause-shorter = grind (arith, common_steps)

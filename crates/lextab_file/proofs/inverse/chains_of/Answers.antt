@@ -1,4 +1,3 @@
-use Rattle.std.proofs.lemmas.Grind.{common_steps}
 use Rattle.std.proofs.Common.{rules, ◌≡◌, ℕ, ◌+◌, ◌<◌, ◌++◌, ◌∷◌, [], List, length, length-set, slice_index, slice_set, arith, refl, sym, subst, ap, ◌∙◌}
 use Rattle.std.proofs.lemmas.List.{get_or_read}
 use Rattle.lextab_file.specs.Inverse.{AreChains}
@@ -41,9 +40,3 @@ overflow_cast-x c = omega (arith, c.loop-x-test.true, c.requires.few)
 
 pub overflow_add-x : goal.overflow_add-x
 overflow_add-x c = omega (arith, c.loop-x-test.true, c.requires.few)
-
-pub loop-x-init : goal.loop-x-init
-loop-x-init = grind (arith, common_steps)
-
-pub returns-clause-chains : goal.returns-clause-chains
-returns-clause-chains = grind (arith, common_steps)

@@ -1,4 +1,3 @@
-use Rattle.std.proofs.lemmas.Grind.{common_steps}
 use Rattle.std.proofs.Common.{rules, ◌≡◌, ℕ, List, [], ◌∷◌, ◌++◌, arith, inl, inr, sym, subst, length, ap, ◌∙◌}
 use Rattle.lextab_file.specs.Live.{GoesTo}
 use Rattle.lextab_file.specs.Inverse.{Has}
@@ -41,18 +40,3 @@ rounds-smaller c =
     let size = ap length c.in-Some.ensures.items ∙ length-append c.pop.new.self.items (c.in-Some.target ∷ []) in
     let fewer = c.in_ok-mark_sources.ensures.fewer in
     omega (arith, size, fewer)
-
-pub mark_sources-requires-clause-one_each : goal.mark_sources-requires-clause-one_each
-mark_sources-requires-clause-one_each = grind (arith, common_steps)
-
-pub mark_sources-requires-clause-targets : goal.mark_sources-requires-clause-targets
-mark_sources-requires-clause-targets = grind (arith, common_steps)
-
-pub returns-in_err-mark_sources : goal.returns-in_err-mark_sources
-returns-in_err-mark_sources = grind (arith, common_steps)
-
-pub returns-in_err-waiting : goal.returns-in_err-waiting
-returns-in_err-waiting = grind (arith, common_steps)
-
-pub rounds-init : goal.rounds-init
-rounds-init = grind (arith, common_steps)

@@ -1,5 +1,5 @@
 use Rattle.std.proofs.Common.{rules, ◌<◌, length, arith, refl, ◌∙◌, ◌-◌, ◌/◌}
-use Rattle.std.proofs.lemmas.Grind.{get_or_default_zero, common_steps}
+use Rattle.std.proofs.lemmas.Grind.{get_or_default_zero}
 use Rattle.lextab_file.proofs.Chained.{steps_from}
 use Rattle.lextab_file.proofs.live.mark_sources.Goals as goal
 
@@ -13,6 +13,3 @@ chain-preserved c =
     steps_from sources.next.now sources.chains.last.items sources.chains.before.items sources.chained c.args.accepting.now c.args.target
     c.args.live.now.items c.chain.live.items c.mark_live.new.live.items c.args.waiting.now.items c.chain.waiting.items c.mark_live.new.waiting.items
     c.chain.entry c.index-entry-in-chain.result.now ((c.chain.entry - 1) / 256) some refl (c.index-entry-in-chain.ensures ∙ get_or_default_zero sources.chains.before.items (c.chain.entry - 1) c.index-entry-in-chain.result.now within) c.chain.invariant (c.in_ok-mark_live.ensures)
-
-pub returns : goal.returns
-returns = grind (arith, common_steps)

@@ -1,5 +1,4 @@
-use Rattle.std.proofs.lemmas.Grind.{common_steps}
-use Rattle.std.proofs.Common.{◌≡◌, ℕ, ◌<◌, Bool, List, length, map, get_or, Result, Ok, Err, IfOk, sym, subst, ◌∙◌, ap, arith}
+use Rattle.std.proofs.Common.{◌≡◌, ℕ, ◌<◌, Bool, List, length, map, get_or, Result, Ok, Err, IfOk, sym, subst, ◌∙◌, ap}
 use Rattle.std.proofs.lemmas.List.{length-map}
 use Rattle.lextab_packed.specs.Invariant.{GoesOn}
 use Rattle.lextab_packed.specs.Views.{table_of}
@@ -31,9 +30,3 @@ returns c =
     where_ok c.live_states.result (λ v. AreLive c.deref-2.result.now c.deref-3.result.now v.items) (λ v. GoesOn (table_of c.args.parts.now) v.items)
     (λ v l. goes_on c.args.parts.now c.requires c.in_ok-next.next.items c.in_ok-next.ensures.len c.in_ok-next.ensures.each v.items (same_live c.deref-2.result.now c.in_ok-next.next.items c.deref-3.result.now (map accepts rows) next flags v.items l))
     c.live_states.ensures
-
-pub live_states-requires-clause-few : goal.live_states-requires-clause-few
-live_states-requires-clause-few = grind (arith, common_steps)
-
-pub live_states-requires-clause-rows : goal.live_states-requires-clause-rows
-live_states-requires-clause-rows = grind (arith, common_steps)

@@ -1,5 +1,4 @@
-use Rattle.std.proofs.lemmas.Grind.{common_steps}
-use Rattle.std.proofs.Common.{ℕ, List, refl, ap, subst, ◌∙◌, ◌++◌, length, map, rules, arith}
+use Rattle.std.proofs.Common.{ℕ, List, refl, ap, subst, ◌∙◌, ◌++◌, length, map, rules}
 use Rattle.std.specs.Int.{w16, w32, to_be_bytes}
 use Rattle.std.proofs.lemmas.Result.{err_from_is_err_and}
 use Rattle.lextab_packed.specs.Views.{rule_of, slots_of}
@@ -41,21 +40,3 @@ returns-in_err-put_long-4-clause-bytes g c =
 
 pub returns-clause-bytes : goal.returns-clause-bytes
 returns-clause-bytes g c = subst (λ (z : List ℕ). Appended (λ xs. g.K.Sink.wrote c.args.sink.now xs c.put_long-5.new.sink) z c.put_long-5.result) (header_same c.args.parts.now c.version_of-version.result (c.version_of-version.ensures ∙ ap (λ rs. version_of (map rule_of rs)) c.as_slice.ensures.value)) (appended_then g.K.Sink.wrote g.met.K.Sink.wrote_more c.args.sink.now c.put.new.self _ _ (magic) _ (to_be_bytes w16 c.version_of-version.result ++ (to_be_bytes w32 (length c.args.parts.now.conditions.items) ++ (to_be_bytes w32 (length c.args.parts.now.rules.items) ++ (to_be_bytes w32 (length c.args.parts.now.rows.items) ++ (to_be_bytes w32 c.args.parts.now.classes ++ (to_be_bytes w32 (length (slots_of c.args.parts.now.checks.items c.args.parts.now.nexts.items)))))))) _ refl refl c.in_ok-put.ensures.bytes (appended_then g.K.Sink.wrote g.met.K.Sink.wrote_more c.put.new.self c.put_short.new.sink _ _ (to_be_bytes w16 c.version_of-version.result) _ (to_be_bytes w32 (length c.args.parts.now.conditions.items) ++ (to_be_bytes w32 (length c.args.parts.now.rules.items) ++ (to_be_bytes w32 (length c.args.parts.now.rows.items) ++ (to_be_bytes w32 c.args.parts.now.classes ++ (to_be_bytes w32 (length (slots_of c.args.parts.now.checks.items c.args.parts.now.nexts.items))))))) _ refl refl c.in_ok-put_short.ensures.bytes (appended_then g.K.Sink.wrote g.met.K.Sink.wrote_more c.put_short.new.sink c.put_long.new.sink _ _ (to_be_bytes w32 (length c.args.parts.now.conditions.items)) _ (to_be_bytes w32 (length c.args.parts.now.rules.items) ++ (to_be_bytes w32 (length c.args.parts.now.rows.items) ++ (to_be_bytes w32 c.args.parts.now.classes ++ (to_be_bytes w32 (length (slots_of c.args.parts.now.checks.items c.args.parts.now.nexts.items)))))) _ (search rules) refl c.in_ok-put_long.ensures.bytes (appended_then g.K.Sink.wrote g.met.K.Sink.wrote_more c.put_long.new.sink c.put_long-2.new.sink _ _ (to_be_bytes w32 (length c.args.parts.now.rules.items)) _ (to_be_bytes w32 (length c.args.parts.now.rows.items) ++ (to_be_bytes w32 c.args.parts.now.classes ++ (to_be_bytes w32 (length (slots_of c.args.parts.now.checks.items c.args.parts.now.nexts.items))))) _ (search rules) refl c.in_ok-put_long-2.ensures.bytes (appended_then g.K.Sink.wrote g.met.K.Sink.wrote_more c.put_long-2.new.sink c.put_long-3.new.sink _ _ (to_be_bytes w32 (length c.args.parts.now.rows.items)) _ (to_be_bytes w32 c.args.parts.now.classes ++ (to_be_bytes w32 (length (slots_of c.args.parts.now.checks.items c.args.parts.now.nexts.items)))) _ (search rules) refl c.in_ok-put_long-3.ensures.bytes (appended_then g.K.Sink.wrote g.met.K.Sink.wrote_more c.put_long-3.new.sink c.put_long-4.new.sink _ _ (to_be_bytes w32 c.args.parts.now.classes) _ (to_be_bytes w32 (length (slots_of c.args.parts.now.checks.items c.args.parts.now.nexts.items))) _ refl (search rules) c.in_ok-put_long-4.ensures.bytes c.put_long-5.ensures.bytes))))))
-
-pub overflow_cast-len-2 : goal.overflow_cast-len-2
-overflow_cast-len-2 = grind (arith, common_steps)
-
-pub overflow_cast-len-3 : goal.overflow_cast-len-3
-overflow_cast-len-3 = grind (arith, common_steps)
-
-pub put_long-requires-3 : goal.put_long-requires-3
-put_long-requires-3 = grind (arith, common_steps)
-
-pub put_long-requires-4 : goal.put_long-requires-4
-put_long-requires-4 = grind (arith, common_steps)
-
-pub put_long-requires-5 : goal.put_long-requires-5
-put_long-requires-5 = grind (arith, common_steps)
-
-pub returns-clause-failures : goal.returns-clause-failures
-returns-clause-failures = grind (arith, common_steps)

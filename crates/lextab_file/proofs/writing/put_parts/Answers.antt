@@ -1,5 +1,4 @@
-use Rattle.std.proofs.lemmas.Grind.{common_steps}
-use Rattle.std.proofs.Common.{ℕ, List, refl, ap, subst, map, ◌++◌, rules, arith}
+use Rattle.std.proofs.Common.{ℕ, List, refl, ap, subst, map, ◌++◌, rules}
 use Rattle.std.specs.Int.{w16, to_be_bytes}
 use Rattle.std.specs.List.{flat_map}
 use Rattle.std.proofs.lemmas.Result.{err_from_is_err_and}
@@ -38,21 +37,3 @@ returns-in_err-put_rows-clause-bytes g c =
 
 pub returns-clause-bytes : goal.returns-clause-bytes
 returns-clause-bytes g c = subst (λ (z : List ℕ). Appended (λ xs. g.K.Sink.wrote c.args.sink.now xs c.put_slots.new.sink) z c.put_slots.result) (file_same c.args.parts.now) (appended_then g.K.Sink.wrote g.met.K.Sink.wrote_more c.args.sink.now c.put_header.new.sink _ _ (magic ++ (to_be_bytes w16 (version_of (map rule_of c.args.parts.now.rules.items)) ++ sizes_text (sizes_of (table_of c.args.parts.now)))) _ (flat_map (λ c. condition_text (condition_of c)) c.args.parts.now.conditions.items ++ (flat_map (λ r. rule_text (rule_of r)) c.args.parts.now.rules.items ++ (c.args.parts.now.class_of.items ++ (flat_map (λ r. row_text (row_of r)) c.args.parts.now.rows.items ++ (flat_map slot_text (slots_of c.args.parts.now.checks.items c.args.parts.now.nexts.items)))))) _ refl refl c.in_ok-put_header.ensures.bytes (appended_then g.K.Sink.wrote g.met.K.Sink.wrote_more c.put_header.new.sink c.put_conditions.new.sink _ _ (flat_map (λ c. condition_text (condition_of c)) c.args.parts.now.conditions.items) _ (flat_map (λ r. rule_text (rule_of r)) c.args.parts.now.rules.items ++ (c.args.parts.now.class_of.items ++ (flat_map (λ r. row_text (row_of r)) c.args.parts.now.rows.items ++ (flat_map slot_text (slots_of c.args.parts.now.checks.items c.args.parts.now.nexts.items))))) _ (ap (flat_map (λ c. condition_text (condition_of c))) c.deref.ensures.value) refl c.in_ok-put_conditions.ensures.bytes (appended_then g.K.Sink.wrote g.met.K.Sink.wrote_more c.put_conditions.new.sink c.put_rules.new.sink _ _ (flat_map (λ r. rule_text (rule_of r)) c.args.parts.now.rules.items) _ (c.args.parts.now.class_of.items ++ (flat_map (λ r. row_text (row_of r)) c.args.parts.now.rows.items ++ (flat_map slot_text (slots_of c.args.parts.now.checks.items c.args.parts.now.nexts.items)))) _ (ap (flat_map (λ r. rule_text (rule_of r))) c.deref-2.ensures.value) refl c.in_ok-put_rules.ensures.bytes (appended_then g.K.Sink.wrote g.met.K.Sink.wrote_more c.put_rules.new.sink c.put.new.self _ _ (c.args.parts.now.class_of.items) _ (flat_map (λ r. row_text (row_of r)) c.args.parts.now.rows.items ++ (flat_map slot_text (slots_of c.args.parts.now.checks.items c.args.parts.now.nexts.items))) _ c.deref-3.ensures.value refl c.in_ok-put.ensures.bytes (appended_then g.K.Sink.wrote g.met.K.Sink.wrote_more c.put.new.self c.put_rows.new.sink _ _ (flat_map (λ r. row_text (row_of r)) c.args.parts.now.rows.items) _ (flat_map slot_text (slots_of c.args.parts.now.checks.items c.args.parts.now.nexts.items)) _ (ap (flat_map (λ r. row_text (row_of r))) c.deref-4.ensures.value) (search rules) c.in_ok-put_rows.ensures.bytes c.put_slots.ensures.bytes)))))
-
-pub put_conditions-requires-clause-fits : goal.put_conditions-requires-clause-fits
-put_conditions-requires-clause-fits = grind (arith, common_steps)
-
-pub put_rows-requires-clause-few : goal.put_rows-requires-clause-few
-put_rows-requires-clause-few = grind (arith, common_steps)
-
-pub put_rows-requires-clause-fits : goal.put_rows-requires-clause-fits
-put_rows-requires-clause-fits = grind (arith, common_steps)
-
-pub put_rules-requires-clause-fits : goal.put_rules-requires-clause-fits
-put_rules-requires-clause-fits = grind (arith, common_steps)
-
-pub put_slots-requires : goal.put_slots-requires
-put_slots-requires = grind (arith, common_steps)
-
-pub returns-clause-failures : goal.returns-clause-failures
-returns-clause-failures = grind (arith, common_steps)

@@ -1,4 +1,3 @@
-use Rattle.std.proofs.lemmas.Grind.{common_steps}
 use Rattle.std.proofs.Common.{arith, ◌+◌, ◌/◌, ◌%◌, [], ◌∷◌, length, ap, ◌∙◌}
 use Rattle.std.proofs.lemmas.List.{length-map, length-append}
 use Rattle.lextab_packed.specs.Views.{row_of, table_of}
@@ -19,12 +18,3 @@ loop-place-preserved c = (
   λ k lt. ap (λ l. slice_index l k) c.in_ok-push.ensures.items
       ∙ index_more (λ n. step_of (table_of c.args.parts.now) (n / 256) (n % 256)) c.loop-place.next.items c.loop-place.place c.target.result c.loop-place.invariant.0 c.target.ensures.state c.loop-place.invariant.1 k lt,
 )
-
-pub returns-clause-len : goal.returns-clause-len
-returns-clause-len = grind (arith, common_steps)
-
-pub returns-in_err-next-clause-each : goal.returns-in_err-next-clause-each
-returns-in_err-next-clause-each = grind (arith, common_steps)
-
-pub returns-in_err-next-clause-len : goal.returns-in_err-next-clause-len
-returns-in_err-next-clause-len = grind (arith, common_steps)

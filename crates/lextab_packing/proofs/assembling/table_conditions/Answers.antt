@@ -1,5 +1,4 @@
-use Rattle.std.proofs.lemmas.Grind.{common_steps}
-use Rattle.std.proofs.Common.{◌≡◌, ℕ, ◌+◌, ◌∷◌, [], ◌++◌, ◌∙◌, map, drop, List, rules, sym, subst, ap, append_assoc, add-one, arith}
+use Rattle.std.proofs.Common.{◌≡◌, ℕ, ◌+◌, ◌∷◌, [], ◌++◌, ◌∙◌, map, drop, List, rules, sym, subst, ap, append_assoc, add-one}
 use Rattle.std.specs.Prelude.{slice_index}
 use Rattle.std.proofs.lemmas.List.{map_push}
 use Rattle.lex_semantics.specs.Spec.{EndAction}
@@ -36,27 +35,3 @@ loop-i-preserved c =
           ∙ c.loop-i.invariant.0,
       subst (λ (l : List T.ConditionOfTable). Each (λ (n : ℕ) (x : T.ConditionOfTable). IsText x.end.print) 0 l) (sym views) (each_push (λ (n : ℕ) (x : T.ConditionOfTable). IsText x.end.print) done (condition_of one) c.loop-i.invariant.1 (λ n. c.in_ok-end.ensures.text)),
     )
-
-pub bounds-line_starts-i : goal.bounds-line_starts-i
-bounds-line_starts-i = grind (arith, common_steps)
-
-pub bounds-starts-i : goal.bounds-starts-i
-bounds-starts-i = grind (arith, common_steps)
-
-pub returns-clause-same : goal.returns-clause-same
-returns-clause-same = grind (arith, common_steps)
-
-pub returns-clause-text : goal.returns-clause-text
-returns-clause-text = grind (arith, common_steps)
-
-pub returns-in_err-end-clause-same : goal.returns-in_err-end-clause-same
-returns-in_err-end-clause-same = grind (arith, common_steps)
-
-pub returns-in_err-end-clause-text : goal.returns-in_err-end-clause-text
-returns-in_err-end-clause-text = grind (arith, common_steps)
-
-pub returns-in_err-push-clause-same : goal.returns-in_err-push-clause-same
-returns-in_err-push-clause-same = grind (arith, common_steps)
-
-pub returns-in_err-push-clause-text : goal.returns-in_err-push-clause-text
-returns-in_err-push-clause-text = grind (arith, common_steps)

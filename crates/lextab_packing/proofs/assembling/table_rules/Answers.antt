@@ -1,5 +1,4 @@
-use Rattle.std.proofs.lemmas.Grind.{common_steps}
-use Rattle.std.proofs.Common.{◌≡◌, ℕ, ◌+◌, ◌∷◌, [], ◌++◌, ◌∙◌, map, drop, List, rules, sym, subst, ap, append_assoc, arith}
+use Rattle.std.proofs.Common.{◌≡◌, ℕ, ◌+◌, ◌∷◌, [], ◌++◌, ◌∙◌, map, drop, List, rules, sym, subst, ap, append_assoc}
 use Rattle.std.proofs.lemmas.List.{map_push}
 use Rattle.lex_semantics.specs.Spec as S
 use Rattle.lex_machine.specs.Views.{statement_of, cut_of}
@@ -30,6 +29,3 @@ loop-i-preserved c =
           ∙ c.loop-i.invariant.0,
       subst (λ (l : List T.RuleOfTable). Each (λ (n : ℕ) (x : T.RuleOfTable). Each HasText 0 x.statements) 0 l) (sym views) (each_push (λ (n : ℕ) (x : T.RuleOfTable). Each HasText 0 x.statements) done (rule_of one) c.loop-i.invariant.1 (λ n. c.in_ok-statements.ensures.text)),
     )
-
-pub returns-clause-same : goal.returns-clause-same
-returns-clause-same = grind (arith, common_steps)

@@ -1,5 +1,5 @@
 use Rattle.std.proofs.Common.{rules, ◌≡◌, ◌++◌, ◌∷◌, [], ℕ, List, ◌+◌, ◌<◌, length, slice_index, ap, ◌∙◌, arith, Vec, Global}
-use Rattle.std.proofs.lemmas.Grind.{get_or_default_zero, common_steps}
+use Rattle.std.proofs.lemmas.Grind.{get_or_default_zero}
 use Rattle.lextab_packing.specs.Searching.{AreNumbered}
 use Rattle.lextab_packing.proofs.Leads.{joins, begins}
 use Rattle.lextab_packing.proofs.classes.numbered.Goals.{then-first-byte+in_ok-push, else-first-byte+in_ok-push-2+in_ok-push-3}
@@ -30,9 +30,3 @@ loop-byte-preserved c =
           same_lists leads (cs ++ length hs ∷ []) c.if-first-byte.class_of.items (hs ++ i ∷ []) c.if-first-byte.heads.items (i + 1) e f
           (begins leads cs hs i c.loop-byte.invariant c.requires.heads within self))
     ]
-
-pub loop-byte-init : goal.loop-byte-init
-loop-byte-init = grind (arith, common_steps)
-
-pub returns-in_err-push-3 : goal.returns-in_err-push-3
-returns-in_err-push-3 = grind (arith, common_steps)

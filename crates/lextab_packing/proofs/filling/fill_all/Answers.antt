@@ -1,5 +1,4 @@
-use Rattle.std.proofs.lemmas.Grind.{common_steps}
-use Rattle.std.proofs.Common.{rules, ◌≡◌, ℕ, List, ◌<◌, length, slice_index, subst, sym, arith}
+use Rattle.std.proofs.Common.{rules, ◌≡◌, ℕ, List, ◌<◌, length, slice_index, subst, sym}
 use Rattle.lextab_packing.specs.Searching.{by_head, AreEntries, AreFilled}
 use Rattle.lextab_packing.proofs.Fills.{one_more_filled}
 use Rattle.lextab_packing.proofs.filling.fill_all.Goals as goal
@@ -26,33 +25,3 @@ loop-state-preserved c =
       slots = one_more_filled to count ds bs s row ks c.loop-state.check c.loop-state.targets c.fill.new.check c.fill.new.next
           c.loop-state.invariant.slots (c.requires.placed s low) c.read_row.ensures.len c.read_row.ensures.each ents filled (search rules);
     }
-
-pub bounds-defaults-state : goal.bounds-defaults-state
-bounds-defaults-state = grind (arith, common_steps)
-
-pub fill-requires-clause-classes : goal.fill-requires-clause-classes
-fill-requires-clause-classes = grind (arith, common_steps)
-
-pub fill-requires-clause-low : goal.fill-requires-clause-low
-fill-requires-clause-low = grind (arith, common_steps)
-
-pub fill-requires-clause-same : goal.fill-requires-clause-same
-fill-requires-clause-same = grind (arith, common_steps)
-
-pub fill-requires-clause-within : goal.fill-requires-clause-within
-fill-requires-clause-within = grind (arith, common_steps)
-
-pub loop-state-init : goal.loop-state-init
-loop-state-init = grind (arith, common_steps)
-
-pub offset_bounds-bases-state : goal.offset_bounds-bases-state
-offset_bounds-bases-state = grind (arith, common_steps)
-
-pub overflow_cast-state : goal.overflow_cast-state
-overflow_cast-state = grind (arith, common_steps)
-
-pub read_row-requires-clause-all : goal.read_row-requires-clause-all
-read_row-requires-clause-all = grind (arith, common_steps)
-
-pub returns : goal.returns
-returns = grind (arith, common_steps)

@@ -1,5 +1,4 @@
-use Rattle.std.proofs.lemmas.Grind.{common_steps}
-use Rattle.std.proofs.Common.{rules, length, sym, refl, subst, ◌∙◌, arith}
+use Rattle.std.proofs.Common.{rules, length, sym, refl, subst, ◌∙◌}
 use Rattle.lextab_packing.specs.Searching.{AreAllBytes}
 use Rattle.lextab_packing.proofs.Whole.{bases_at, defaults_at, slots_at, size_at, whole}
 use Rattle.lextab_packing.proofs.packing.pack_rows.Goals as goal
@@ -36,39 +35,3 @@ returns c =
     (size_at hs c.deref-4.result.now bs c.deref-6.result.now (length cs) c.deref-4.ensures.value c.deref-6.ensures.value c.in_ok-slots.ensures.check)
     (size_at hs c.deref-4.result.now bs c.deref-6.result.now (length xs) c.deref-4.ensures.value c.deref-6.ensures.value c.in_ok-slots.ensures.targets)
     (slots_at next hs c.deref-4.result.now ds c.deref-5.result.now bs c.deref-6.result.now cs xs c.deref-4.ensures.value c.deref-5.ensures.value c.deref-6.ensures.value c.in_ok-slots.ensures.slots)
-
-pub bases_of-requires-clause-defaults : goal.bases_of-requires-clause-defaults
-bases_of-requires-clause-defaults = grind (arith, common_steps)
-
-pub bases_of-requires-clause-few : goal.bases_of-requires-clause-few
-bases_of-requires-clause-few = grind (arith, common_steps)
-
-pub bases_of-requires-clause-rows : goal.bases_of-requires-clause-rows
-bases_of-requires-clause-rows = grind (arith, common_steps)
-
-pub bases_of-requires-clause-states : goal.bases_of-requires-clause-states
-bases_of-requires-clause-states = grind (arith, common_steps)
-
-pub defaults_of-requires-clause-below : goal.defaults_of-requires-clause-below
-defaults_of-requires-clause-below = grind (arith, common_steps)
-
-pub defaults_of-requires-clause-none : goal.defaults_of-requires-clause-none
-defaults_of-requires-clause-none = grind (arith, common_steps)
-
-pub defaults_of-requires-clause-rows : goal.defaults_of-requires-clause-rows
-defaults_of-requires-clause-rows = grind (arith, common_steps)
-
-pub slots_of-requires-clause-defaults : goal.slots_of-requires-clause-defaults
-slots_of-requires-clause-defaults = grind (arith, common_steps)
-
-pub slots_of-requires-clause-few : goal.slots_of-requires-clause-few
-slots_of-requires-clause-few = grind (arith, common_steps)
-
-pub slots_of-requires-clause-rows : goal.slots_of-requires-clause-rows
-slots_of-requires-clause-rows = grind (arith, common_steps)
-
-pub slots_of-requires-clause-some : goal.slots_of-requires-clause-some
-slots_of-requires-clause-some = grind (arith, common_steps)
-
-pub slots_of-requires-clause-states : goal.slots_of-requires-clause-states
-slots_of-requires-clause-states = grind (arith, common_steps)

@@ -1,4 +1,3 @@
-use Rattle.std.proofs.lemmas.Grind.{common_steps}
 use Rattle.std.proofs.Common.{rules, ◌≡◌, ℕ, List, ◌<◌, ◌≤◌, ◌*◌, ◌+◌, ◌++◌, ◌∷◌, [], length, slice_index, ap, subst, sym, ◌∙◌, arith}
 use Rattle.lextab_packing.specs.Searching.{by_head, AreEntries, slot_bit, IsEarlier, ArePlaced}
 use Rattle.lextab_packing.proofs.Placements.{one_more_placed, starts_late}
@@ -51,54 +50,3 @@ place-requires-clause-from c =
     subst (λ (l : List ℕ). IsEarlier to count ds l row d c.start_of-from.result) c.deref-in-loop-state-2.ensures.value
     (subst (λ (l : List ℕ). IsEarlier to count ds c.deref-in-loop-state-2.result.now l d c.start_of-from.result) c.deref-in-loop-state-3.ensures.value c.start_of-from.ensures) in
     starts_late to count ds bs c.loop-state.words.items c.loop-state.full s row ks d c.start_of-from.result c.loop-state.invariant.placed ents c.read_row.ensures.len earlier
-
-pub cell_of-cell-requires : goal.cell_of-cell-requires
-cell_of-cell-requires = grind (arith, common_steps)
-
-pub full_words-full-requires-clause-within : goal.full_words-full-requires-clause-within
-full_words-full-requires-clause-within = grind (arith, common_steps)
-
-pub index-requires : goal.index-requires
-index-requires = grind (arith, common_steps)
-
-pub index_mut-requires : goal.index_mut-requires
-index_mut-requires = grind (arith, common_steps)
-
-pub loop-state-init : goal.loop-state-init
-loop-state-init = grind (arith, common_steps)
-
-pub overflow_cast-base : goal.overflow_cast-base
-overflow_cast-base = grind (arith, common_steps)
-
-pub overflow_cast-state : goal.overflow_cast-state
-overflow_cast-state = grind (arith, common_steps)
-
-pub place-requires-clause-few : goal.place-requires-clause-few
-place-requires-clause-few = grind (arith, common_steps)
-
-pub place-requires-clause-full : goal.place-requires-clause-full
-place-requires-clause-full = grind (arith, common_steps)
-
-pub place-requires-clause-small : goal.place-requires-clause-small
-place-requires-clause-small = grind (arith, common_steps)
-
-pub place-requires-clause-within : goal.place-requires-clause-within
-place-requires-clause-within = grind (arith, common_steps)
-
-pub read_row-requires-clause-all : goal.read_row-requires-clause-all
-read_row-requires-clause-all = grind (arith, common_steps)
-
-pub read_row-requires-clause-len : goal.read_row-requires-clause-len
-read_row-requires-clause-len = grind (arith, common_steps)
-
-pub returns-clause-small : goal.returns-clause-small
-returns-clause-small = grind (arith, common_steps)
-
-pub start_of-from-requires-clause-defaults : goal.start_of-from-requires-clause-defaults
-start_of-from-requires-clause-defaults = grind (arith, common_steps)
-
-pub start_of-from-requires-clause-row : goal.start_of-from-requires-clause-row
-start_of-from-requires-clause-row = grind (arith, common_steps)
-
-pub start_of-from-requires-clause-rows : goal.start_of-from-requires-clause-rows
-start_of-from-requires-clause-rows = grind (arith, common_steps)

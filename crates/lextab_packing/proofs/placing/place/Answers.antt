@@ -1,5 +1,4 @@
-use Rattle.std.proofs.lemmas.Grind.{common_steps}
-use Rattle.std.proofs.Common.{rules, ◌≡◌, ℕ, ◌<◌, List, ◌-◌, ◌+◌, ◌/◌, ◌++◌, length, ap, subst, sym, ◌∙◌, take, drop, Vec, Global, arith}
+use Rattle.std.proofs.Common.{rules, ◌≡◌, ℕ, ◌<◌, List, ◌-◌, ◌+◌, ◌/◌, ◌++◌, length, ap, subst, sym, ◌∙◌, take, drop, Vec, Global}
 use Rattle.lextab_packing.specs.Searching.{Hits, IsMarked, slot_bit}
 use Rattle.lextab_packing.proofs.Placements.{written_back, bit_resized, marked_from}
 use Rattle.lextab_packing.proofs.placing.place.Goals.{then-len-need+in_ok-resize, else-len-need}
@@ -24,24 +23,3 @@ returns-clause-marked c =
 
 pub first_fit-base-requires-clause-from : goal.first_fit-base-requires-clause-from
 first_fit-base-requires-clause-from c = subst (λ (l : List ℕ). (i : ℕ) → i < c.args.from → Hits l c.args.entries.now i) (sym c.deref.ensures.value) c.requires.from
-
-pub first_fit-base-requires-clause-full : goal.first_fit-base-requires-clause-full
-first_fit-base-requires-clause-full = grind (arith, common_steps)
-
-pub mark-requires-clause-within : goal.mark-requires-clause-within
-mark-requires-clause-within = grind (arith, common_steps)
-
-pub returns-clause-first : goal.returns-clause-first
-returns-clause-first = grind (arith, common_steps)
-
-pub returns-clause-least : goal.returns-clause-least
-returns-clause-least = grind (arith, common_steps)
-
-pub returns-clause-most : goal.returns-clause-most
-returns-clause-most = grind (arith, common_steps)
-
-pub returns-then-is_empty-clause-first : goal.returns-then-is_empty-clause-first
-returns-then-is_empty-clause-first = grind (arith, common_steps)
-
-pub returns-then-is_empty-clause-marked : goal.returns-then-is_empty-clause-marked
-returns-then-is_empty-clause-marked = grind (arith, common_steps)

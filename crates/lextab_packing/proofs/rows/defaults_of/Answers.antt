@@ -1,4 +1,3 @@
-use Rattle.std.proofs.lemmas.Grind.{common_steps}
 use Rattle.std.proofs.Common.{rules, ◌≡◌, ℕ, List, ◌<◌, ◌+◌, ◌++◌, ◌∷◌, [], length, slice_index, ap, subst, sym, ◌∙◌, arith, inl, inr}
 use Rattle.std.proofs.lemmas.List.{get_or_push, get_or_append_left}
 use Rattle.lextab_packing.specs.Columns.{IsDefault}
@@ -33,15 +32,3 @@ loop-state-preserved c =
           (default_same (slice_index row) (to s) count d (λ k h. ap (λ (l : List ℕ). slice_index l k) is ∙ c.read_row.ensures.each k h) one);
       none = c.default_of-default.ensures.none;
     }
-
-pub default_of-default-requires-clause-below : goal.default_of-default-requires-clause-below
-default_of-default-requires-clause-below = grind (arith, common_steps)
-
-pub default_of-default-requires-clause-none : goal.default_of-default-requires-clause-none
-default_of-default-requires-clause-none = grind (arith, common_steps)
-
-pub loop-state-init : goal.loop-state-init
-loop-state-init = grind (arith, common_steps)
-
-pub read_row-requires-clause-all : goal.read_row-requires-clause-all
-read_row-requires-clause-all = grind (arith, common_steps)

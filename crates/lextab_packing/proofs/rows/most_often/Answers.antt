@@ -1,4 +1,3 @@
-use Rattle.std.proofs.lemmas.Grind.{common_steps}
 use Rattle.std.proofs.Common.{rules, ◌≡◌, length, slice_index, arith, sym, ◌∙◌}
 use Rattle.lextab_packing.proofs.Counts.{default_is}
 use Rattle.lextab_packing.proofs.rows.most_often.Goals as goal
@@ -12,12 +11,3 @@ returns c =
     default_is (slice_index row) (length row) c.loop-target.best v.there
     (λ j h. let a = n (slice_index row j) in let b = n c.loop-target.best in let m = v.most j (omega arith) in omega (arith, a, b, m))
     (λ j h e. v.least j (omega arith) (n (slice_index row j) ∙ e ∙ sym (n c.loop-target.best)))
-
-pub bounds-counts-best : goal.bounds-counts-best
-bounds-counts-best = grind (arith, common_steps)
-
-pub bounds-counts-target : goal.bounds-counts-target
-bounds-counts-target = grind (arith, common_steps)
-
-pub loop-target-init : goal.loop-target-init
-loop-target-init = grind (arith, common_steps)

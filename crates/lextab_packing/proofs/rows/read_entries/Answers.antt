@@ -1,5 +1,4 @@
-use Rattle.std.proofs.lemmas.Grind.{common_steps}
-use Rattle.std.proofs.Common.{◌≡◌, ◌++◌, ◌∷◌, [], ℕ, List, ◌+◌, ap, subst, sym, ◌∙◌, Vec, Global, arith}
+use Rattle.std.proofs.Common.{◌≡◌, ◌++◌, ◌∷◌, [], ℕ, List, ◌+◌, ap, subst, sym, ◌∙◌, Vec, Global}
 use Rattle.lextab_packing.specs.Searching.{AreEntries}
 use Rattle.lextab_packing.proofs.Counts.{more_entries, same_entries}
 use Rattle.lextab_packing.proofs.rows.read_entries.Goals.{then-target-default+in_ok-push, else-target-default}
@@ -17,9 +16,3 @@ loop-k-preserved c =
           let e = ap items w.entries-is in
           subst (λ (ks : List ℕ). AreEntries row c.args.default (c.loop-k.k + 1) ks) (sym e) (same_entries row c.args.default c.loop-k.k c.loop-k.entries.items c.loop-k.invariant w.if-target-default.false))
     ]
-
-pub loop-k-init : goal.loop-k-init
-loop-k-init = grind (arith, common_steps)
-
-pub returns : goal.returns
-returns = grind (arith, common_steps)

@@ -1,4 +1,3 @@
-use Rattle.std.proofs.lemmas.Grind.{common_steps}
 use Rattle.std.proofs.Common.{rules, ◌≡◌, ℕ, ◌<◌, arith, subst, sym, w64}
 use Rattle.std.proofs.lemmas.Nat.Bits.{bit_at-trailing_ones}
 use Rattle.std.specs.Int.{bit_at}
@@ -19,9 +18,3 @@ loop-w-preserved c = no_fit_here c.args.words.now c.args.entries.now c.loop-w.w 
 pub loop-w-init : goal.loop-w-init
 loop-w-init c = before_start c.args.words.now c.args.entries.now c.args.full c.args.from c.saturating_sub-past_full.result c.min-start.result
     c.requires.some c.requires.full c.requires.from (search rules) (let m = c.max.ensures in let n = c.min-start.ensures in omega arith)
-
-pub returns-clause-first : goal.returns-clause-first
-returns-clause-first = grind (arith, common_steps)
-
-pub returns-clause-within : goal.returns-clause-within
-returns-clause-within = grind (arith, common_steps)

@@ -1,4 +1,3 @@
-use Rattle.std.proofs.lemmas.Grind.{common_steps}
 use Rattle.std.proofs.Common.{rules, ◌≡◌, ◌+◌, ◌<◌, length, slice_index, arith, refl}
 use Rattle.lextab_packing.proofs.Marks.{one_more_marked}
 use Rattle.lextab_packing.proofs.slots.mark.Goals as goal
@@ -10,15 +9,3 @@ loop-k-preserved c =
     let within = c.requires.within k low in
     let same : length c.loop-k.words ≡ length c.args.words.now = c.loop-k.auto.words in
     one_more_marked c.args.words.now c.args.entries.now c.loop-k.words c.args.base k (c.args.base + slice_index c.args.entries.now k) c.loop-k.invariant refl (omega arith)
-
-pub bounds-words-at : goal.bounds-words-at
-bounds-words-at = grind (arith, common_steps)
-
-pub bounds-words-at-in-loop-k : goal.bounds-words-at-in-loop-k
-bounds-words-at-in-loop-k = grind (arith, common_steps)
-
-pub loop-k-init : goal.loop-k-init
-loop-k-init = grind (arith, common_steps)
-
-pub returns : goal.returns
-returns = grind (arith, common_steps)

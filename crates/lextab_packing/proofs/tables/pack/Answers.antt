@@ -1,5 +1,4 @@
-use Rattle.std.proofs.lemmas.Grind.{common_steps}
-use Rattle.std.proofs.Common.{◌≡◌, ℕ, Bool, List, rules, sym, ap, subst, ◌∙◌, arith}
+use Rattle.std.proofs.Common.{◌≡◌, ℕ, Bool, List, rules, sym, ap, subst, ◌∙◌}
 use Rattle.lex_semantics.specs.Text.{flag}
 use Rattle.lexspec.specs.Views.{spec_of}
 use Rattle.lexspec.proofs.TestLaws.{spec_is_sound}
@@ -86,21 +85,3 @@ returns-clause-machine c =
     ap (λ (t : Table). machine_of_table t (λ s. flag c.new.result.goes_on.items s)) is
     ∙ ap (λ (l : List Bool). machine_of_table (assembled p spec q) (λ s. flag l s)) flags
     ∙ same_machine p a spec (fitting_laws p a spec (spec_is_sound spec c.args.spec.now.sound) c.requires.conditions c.requires.table) c.requires.conditions c.args.spec.now.sound q packed
-
-pub pack_rows-requires-clause-below : goal.pack_rows-requires-clause-below
-pack_rows-requires-clause-below = grind (arith, common_steps)
-
-pub pack_rows-requires-clause-rows : goal.pack_rows-requires-clause-rows
-pack_rows-requires-clause-rows = grind (arith, common_steps)
-
-pub returns-in_err-packed-clause-machine : goal.returns-in_err-packed-clause-machine
-returns-in_err-packed-clause-machine = grind (arith, common_steps)
-
-pub returns-in_err-packed-clause-packed : goal.returns-in_err-packed-clause-packed
-returns-in_err-packed-clause-packed = grind (arith, common_steps)
-
-pub table_parts-requires-clause-automaton : goal.table_parts-requires-clause-automaton
-table_parts-requires-clause-automaton = grind (arith, common_steps)
-
-pub table_parts-requires-clause-conditions : goal.table_parts-requires-clause-conditions
-table_parts-requires-clause-conditions = grind (arith, common_steps)

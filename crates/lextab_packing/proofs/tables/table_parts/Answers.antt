@@ -1,5 +1,4 @@
-use Rattle.std.proofs.lemmas.Grind.{common_steps}
-use Rattle.std.proofs.Common.{◌≡◌, ℕ, List, map, ap, ◌∙◌, Vec, Global, arith}
+use Rattle.std.proofs.Common.{◌≡◌, ℕ, List, map, ap, ◌∙◌, Vec, Global}
 use Rattle.lex_semantics.specs.Spec as S
 use Rattle.lexspec_actions.specs.Views.{condition_of as condition_in}
 use Rattle.lexspec.specs.Views.{spec_of}
@@ -36,15 +35,3 @@ returns-clause-table c =
 
 pub returns-clause-texts : goal.returns-clause-texts
 returns-clause-texts c = record { prints = c.in_ok-conditions.ensures.text; literals = c.in_ok-rules.ensures.text }
-
-pub table_conditions-requires-clause-line_starts : goal.table_conditions-requires-clause-line_starts
-table_conditions-requires-clause-line_starts = grind (arith, common_steps)
-
-pub table_conditions-requires-clause-starts : goal.table_conditions-requires-clause-starts
-table_conditions-requires-clause-starts = grind (arith, common_steps)
-
-pub table_rows-requires-clause-bases : goal.table_rows-requires-clause-bases
-table_rows-requires-clause-bases = grind (arith, common_steps)
-
-pub table_rows-requires-clause-lists : goal.table_rows-requires-clause-lists
-table_rows-requires-clause-lists = grind (arith, common_steps)

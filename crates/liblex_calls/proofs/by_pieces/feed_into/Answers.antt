@@ -1,5 +1,4 @@
-use Rattle.std.proofs.lemmas.Grind.{common_steps}
-use Rattle.std.proofs.Common.{◌≡◌, sym, subst, ◌∙◌, arith}
+use Rattle.std.proofs.Common.{◌≡◌, sym, subst, ◌∙◌}
 use Rattle.liblex_calls.specs.Progress.{Progress}
 use Rattle.liblex_calls.proofs.by_pieces.feed_into.Goals as goal
 
@@ -11,12 +10,3 @@ returns-clause-fed c file told fed out (p, is, P) =
       c.feed-answer.ensures.fed file told fed out (subst (Progress file told fed out) (sym e) P),
       c.feed-answer.ensures.answer,
     )
-
-pub returns-clause-closed : goal.returns-clause-closed
-returns-clause-closed = grind (arith, common_steps)
-
-pub returns-in_default-clause-closed : goal.returns-in_default-clause-closed
-returns-in_default-clause-closed = grind (arith, common_steps)
-
-pub returns-in_default-clause-fed : goal.returns-in_default-clause-fed
-returns-in_default-clause-fed = grind (arith, common_steps)

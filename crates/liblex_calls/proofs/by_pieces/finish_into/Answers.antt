@@ -1,5 +1,4 @@
-use Rattle.std.proofs.lemmas.Grind.{common_steps}
-use Rattle.std.proofs.Common.{◌≡◌, sym, subst, ◌∙◌, arith}
+use Rattle.std.proofs.Common.{◌≡◌, sym, subst, ◌∙◌}
 use Rattle.liblex_calls.specs.Progress.{Progress}
 use Rattle.liblex_calls.proofs.by_pieces.finish_into.Goals as goal
 
@@ -12,9 +11,3 @@ returns-clause-finished c file told fed out (p, is, P) =
       c.finish-answer.ensures.answer,
       c.finish-answer.ensures.status,
     )
-
-pub returns-clause-closed : goal.returns-clause-closed
-returns-clause-closed = grind (arith, common_steps)
-
-pub returns-in_default-clause-finished : goal.returns-in_default-clause-finished
-returns-in_default-clause-finished = grind (arith, common_steps)

@@ -1,5 +1,4 @@
-use Rattle.std.proofs.lemmas.Grind.{common_steps}
-use Rattle.std.proofs.Common.{rules, ◌≡◌, refl, subst, arith}
+use Rattle.std.proofs.Common.{rules, ◌≡◌, refl, subst}
 use Rattle.lexkit.specs.Headline.{Refusal}
 use Rattle.lexkit.specs.declared.errors.GenError.TheVariants as gens
 use Rattle.liblex_calls.specs.Kinds.{kind_number}
@@ -11,12 +10,3 @@ returns-in-Err-Spec c =
     let other : kind_number c.in-Err-Spec.error.kind ≡ 0 → ⊥ = search rules in
     let is : c.in-Err-Spec.field-0 ≡ gens.Spec c.in-Err-Spec.error = search rules in
     (not_memory c.in-Err-Spec.error.kind _ other (subst (Refusal c.args.options c.args.text.now) is c.in-Err-Spec.ensures.refused), record { buffer = refl; count_is = refl })
-
-pub returns-in-Err : goal.returns-in-Err
-returns-in-Err = grind (arith, common_steps)
-
-pub returns-in-Err-2 : goal.returns-in-Err-2
-returns-in-Err-2 = grind (arith, common_steps)
-
-pub returns-in-Err-lines_of : goal.returns-in-Err-lines_of
-returns-in-Err-lines_of = grind (arith, common_steps)

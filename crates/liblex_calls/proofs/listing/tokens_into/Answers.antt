@@ -1,5 +1,4 @@
-use Rattle.std.proofs.lemmas.Grind.{common_steps}
-use Rattle.std.proofs.Common.{rules, ◌≡◌, ℕ, List, [], ◌++◌, map, Result, Err, refl, ap, subst, ◌∙◌, arith}
+use Rattle.std.proofs.Common.{rules, ◌≡◌, ℕ, List, [], ◌++◌, map, Result, Err, refl, ap, subst, ◌∙◌}
 use Rattle.std.specs.Prelude.{IfErr}
 use Rattle.lex_semantics.specs.Acting.{Status}
 use Rattle.lex_semantics.specs.Machine.{rules_of_machine}
@@ -52,15 +51,3 @@ returns-in-Err-Stack c =
       },
       refl,
     )
-
-pub returns : goal.returns
-returns = grind (arith, common_steps)
-
-pub returns-in-Err : goal.returns-in-Err
-returns-in-Err = grind (arith, common_steps)
-
-pub returns-in-Err-OutOfMemory : goal.returns-in-Err-OutOfMemory
-returns-in-Err-OutOfMemory = grind (arith, common_steps)
-
-pub returns-in-Err-shown_of : goal.returns-in-Err-shown_of
-returns-in-Err-shown_of = grind (arith, common_steps)

@@ -1,4 +1,3 @@
-use Rattle.std.proofs.lemmas.Grind.{common_steps}
 use Rattle.std.proofs.Common.{◌≡◌, ℕ, ◌+◌, ◌-◌, List, ◌++◌, length, take, drop, sym, ap, ◌∙◌, arith}
 use Rattle.std.proofs.lemmas.List.{take-append-drop, drop-drop, length-take-le}
 use Rattle.std.proofs.Math.Seq.{take-append_seam}
@@ -17,15 +16,3 @@ returns-clause-ahead g c =
     given_first c.min-count.result start buffer c.copy_from_slice.new.self _
     (c.copy_from_slice.ensures.after ∙ ap (λ l. take (start + c.min-count.result - start) (drop start l)) c.deref.ensures.value ∙ ap (λ k. take k (drop start buffer)) (omega arith))
     (c.copy_from_slice.ensures.len ∙ length-take-le c.min-count.result c.args.buf.now (omega arith))
-
-pub copy_from_slice-requires : goal.copy_from_slice-requires
-copy_from_slice-requires = grind (arith, common_steps)
-
-pub returns-clause-count : goal.returns-clause-count
-returns-clause-count = grind (arith, common_steps)
-
-pub returns-clause-reader : goal.returns-clause-reader
-returns-clause-reader = grind (arith, common_steps)
-
-pub slice_bounds-copy_from_slice-end-2 : goal.slice_bounds-copy_from_slice-end-2
-slice_bounds-copy_from_slice-end-2 = grind (arith, common_steps)

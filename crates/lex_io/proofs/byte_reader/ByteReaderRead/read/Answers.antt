@@ -1,4 +1,3 @@
-use Rattle.std.proofs.lemmas.Grind.{common_steps}
 use Rattle.std.proofs.Common.{◌≡◌, ℕ, ◌<◌, List, [], ◌∷◌, ◌++◌, Option, length, take, set, length-set, refl, sym, ap, ◌∙◌, arith}
 use Rattle.std.specs.Io.KnownBytes.{Keeps, Consumes, IsAtEnd, prepend_known}
 use Rattle.std.proofs.Math.ListN.{drop_of_length-le}
@@ -49,30 +48,3 @@ returns-then-buf-eq1-clause-ahead g c some =
             (omega (arith, length-set {A = ℕ}), one_given c.args.buf.now (bytes_ahead before) (bytes_ahead after) x (omega arith) ahead),
           )
     ]
-
-pub returns-clause-bound : goal.returns-clause-bound
-returns-clause-bound = grind (arith, common_steps)
-
-pub returns-clause-bytes : goal.returns-clause-bytes
-returns-clause-bytes = grind (arith, common_steps)
-
-pub returns-in-End-clause-ahead : goal.returns-in-End-clause-ahead
-returns-in-End-clause-ahead = grind (arith, common_steps)
-
-pub returns-in-End-clause-bound : goal.returns-in-End-clause-bound
-returns-in-End-clause-bound = grind (arith, common_steps)
-
-pub returns-in-End-clause-bytes : goal.returns-in-End-clause-bytes
-returns-in-End-clause-bytes = grind (arith, common_steps)
-
-pub returns-in-Fault-clause-ahead : goal.returns-in-Fault-clause-ahead
-returns-in-Fault-clause-ahead = grind (arith, common_steps)
-
-pub returns-in-Fault-clause-bound : goal.returns-in-Fault-clause-bound
-returns-in-Fault-clause-bound = grind (arith, common_steps)
-
-pub returns-in-Fault-clause-bytes : goal.returns-in-Fault-clause-bytes
-returns-in-Fault-clause-bytes = grind (arith, common_steps)
-
-pub returns-then-buf-eq1-clause-bound : goal.returns-then-buf-eq1-clause-bound
-returns-then-buf-eq1-clause-bound = grind (arith, common_steps)

@@ -1,5 +1,4 @@
-use Rattle.std.proofs.lemmas.Grind.{common_steps}
-use Rattle.std.proofs.Common.{◌++◌, take, sym, ap, ◌∙◌, take-append-drop, arith}
+use Rattle.std.proofs.Common.{◌++◌, take, sym, ap, ◌∙◌, take-append-drop}
 use Rattle.lex_io.specs.ByteWriters.{bytes_held}
 use Rattle.lex_io.proofs.byte_writer.ByteWriter.pour.Goals as goal
 
@@ -8,12 +7,3 @@ returns-clause-rest g c =
     let n = c.write_out-written.result.0 in
     let all = bytes_held c.args.self.now in
     (take n all, sym (take-append-drop n all) ∙ ap (λ l. take n all ++ l) (sym c.drop_front.ensures.bytes))
-
-pub returns-clause-bytes : goal.returns-clause-bytes
-returns-clause-bytes = grind (arith, common_steps)
-
-pub returns-clause-poured : goal.returns-clause-poured
-returns-clause-poured = grind (arith, common_steps)
-
-pub returns-clause-room : goal.returns-clause-room
-returns-clause-room = grind (arith, common_steps)

@@ -1,4 +1,3 @@
-use Rattle.std.proofs.lemmas.Grind.{common_steps}
 use Rattle.std.proofs.Common.{◌≡◌, ℕ, List, ◌++◌, Option, Some, None, take, drop, sym, ap, ◌∙◌, arith}
 use Rattle.std.specs.Io.KnownBytes.{Consumes, prepend_known}
 use Rattle.std.proofs.lemmas.List.{take-append-drop, append_assoc}
@@ -16,9 +15,3 @@ returns-clause-bytes g c = record {
   later = omega arith;
   whole = λ h. absurd (omega (arith, h));
 }
-
-pub returns-clause-ends : goal.returns-clause-ends
-returns-clause-ends = grind (arith, common_steps)
-
-pub returns-clause-failures : goal.returns-clause-failures
-returns-clause-failures = grind (arith, common_steps)

@@ -1,5 +1,4 @@
-use Rattle.std.proofs.lemmas.Grind.{common_steps}
-use Rattle.std.proofs.Common.{rules, ◌≡◌, ◌==◌, not, Bool, [], ◌∷◌, ◌++◌, length, sym, subst, ap, ◌∙◌, arith}
+use Rattle.std.proofs.Common.{rules, ◌≡◌, ◌==◌, not, Bool, [], ◌∷◌, ◌++◌, length, sym, subst, ap, ◌∙◌}
 use Rattle.lex_semantics.specs.Reading.{is_empty}
 use Rattle.lexauto_positions.specs.Cursors.{Increases}
 use Rattle.lexauto.specs.Sets.{lasts_in}
@@ -34,18 +33,3 @@ returns g c =
       accepts = pushed ∙ keys_of_push accepts c.in_ok-walked.walked.accepted ∙ ap (λ (k : Key). keys_in accepts ++ k ∷ []) accepted;
       goes_on = c.in_ok-push-2.ensures.items ∙ ap (λ (b : Bool). c.args.self.now.goes_on.items ++ b ∷ []) goes;
     }
-
-pub returns-in_err-key-clause-accepts : goal.returns-in_err-key-clause-accepts
-returns-in_err-key-clause-accepts = grind (arith, common_steps)
-
-pub returns-in_err-key-clause-ascending : goal.returns-in_err-key-clause-ascending
-returns-in_err-key-clause-ascending = grind (arith, common_steps)
-
-pub returns-in_err-key-clause-changes : goal.returns-in_err-key-clause-changes
-returns-in_err-key-clause-changes = grind (arith, common_steps)
-
-pub returns-in_err-key-clause-followers : goal.returns-in_err-key-clause-followers
-returns-in_err-key-clause-followers = grind (arith, common_steps)
-
-pub returns-in_err-key-clause-goes_on : goal.returns-in_err-key-clause-goes_on
-returns-in_err-key-clause-goes_on = grind (arith, common_steps)

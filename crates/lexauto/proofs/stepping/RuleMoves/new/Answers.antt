@@ -1,4 +1,3 @@
-use Rattle.std.proofs.lemmas.Grind.{common_steps}
 use Rattle.std.proofs.Common.{◌≡◌, ℕ, ◌-◌, ◌<◌, ◌^◌, List, length, map, sym, ap, subst, ◌∙◌, arith}
 use Rattle.lex_semantics.specs.ByteSets.{ByteSet, empty_set}
 use Rattle.std.specs.Prelude.{slice_index_or}
@@ -66,27 +65,3 @@ pub invariant_of-result-clause-repeating : goal.invariant_of-result-clause-repea
 invariant_of-result-clause-repeating c = λ q t.
     let r = c.in_ok-repeats.ensures q t in
     (r.0, subst (λ (sets : List ByteSet). slice_index_or sets q empty_set ≡ slice_index_or sets (q - 1) empty_set) c.deref-6.ensures.value r.1)
-
-pub invariant_of-result-clause-alike : goal.invariant_of-result-clause-alike
-invariant_of-result-clause-alike = grind (arith, common_steps)
-
-pub invariant_of-result-clause-all : goal.invariant_of-result-clause-all
-invariant_of-result-clause-all = grind (arith, common_steps)
-
-pub invariant_of-result-clause-sized : goal.invariant_of-result-clause-sized
-invariant_of-result-clause-sized = grind (arith, common_steps)
-
-pub invariant_of-result-clause-whole : goal.invariant_of-result-clause-whole
-invariant_of-result-clause-whole = grind (arith, common_steps)
-
-pub owners_of-requires-clause-few : goal.owners_of-requires-clause-few
-owners_of-requires-clause-few = grind (arith, common_steps)
-
-pub owners_of-requires-clause-sized : goal.owners_of-requires-clause-sized
-owners_of-requires-clause-sized = grind (arith, common_steps)
-
-pub returns : goal.returns
-returns = grind (arith, common_steps)
-
-pub twins_of-requires : goal.twins_of-requires
-twins_of-requires = grind (arith, common_steps)

@@ -1,4 +1,3 @@
-use Rattle.std.proofs.lemmas.Grind.{common_steps}
 use Rattle.std.proofs.Common.{◌≡◌, ◌<◌, ℕ, zero, suc, List, [], ◌∷◌, length, map, get_or, ap, sym, subst, ◌∙◌, arith, Vec, Global}
 use Rattle.lex_semantics.specs.Text.{Ascending}
 use Rattle.lexauto_dfa.specs.Automata.{accepts_of}
@@ -17,9 +16,3 @@ returns-clause-ascending c =
     let same : c.deref.result.now ≡ accepts_of d c.args.state =
     c.deref.ensures.value ∙ list_at d.parts.accepts.items c.args.state c.index.result.now low c.index.ensures in
     subst Ascending (sym same) (d.lawful.ascending c.args.state c.requires)
-
-pub returns-clause-dead : goal.returns-clause-dead
-returns-clause-dead = grind (arith, common_steps)
-
-pub returns-clause-rules : goal.returns-clause-rules
-returns-clause-rules = grind (arith, common_steps)

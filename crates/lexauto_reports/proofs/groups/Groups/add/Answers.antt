@@ -1,4 +1,3 @@
-use Rattle.std.proofs.lemmas.Grind.{common_steps}
 use Rattle.std.proofs.Common.{rules, ◌≡◌, ◌<◌, ◌++◌, ◌∷◌, [], ℕ, List, length, map, drop, sym, ap, subst, ◌∙◌, arith, length-append}
 use Rattle.std.proofs.lemmas.List.{length-map}
 use Rattle.lexauto_reports.specs.Searching.{at, word_in, words_of}
@@ -64,9 +63,3 @@ returns-clause-words c =
     ap (map (word_in new)) c.in_ok-push.ensures.items
     ∙ ap (λ (l : List ℕ). map (word_in l) (gs ++ g ∷ [])) is
     ∙ words_more text xs (at (words_of c.args.self.now) c.args.place ++ c.args.byte ∷ []) gs g c.args.self.now.within (end ∙ ap length is) longer
-
-pub index-group-requires : goal.index-group-requires
-index-group-requires = grind (arith, common_steps)
-
-pub returns-clause-states : goal.returns-clause-states
-returns-clause-states = grind (arith, common_steps)

@@ -1,5 +1,4 @@
-use Rattle.std.proofs.lemmas.Grind.{common_steps}
-use Rattle.std.proofs.Common.{◌∙◌, sym, arith}
+use Rattle.std.proofs.Common.{◌∙◌, sym}
 use Rattle.std.proofs.lemmas.Result.{err_from_is_err_and}
 use Rattle.lexre.proofs.DefinitionLaws.{one_more, when_taken, when_added, when_refused}
 use Rattle.lexre.proofs.definitions.Defs.add.Goals as goal
@@ -31,24 +30,3 @@ returns-clause-ok c =
 pub returns-clause-duplicate : goal.returns-clause-duplicate
 returns-clause-duplicate c =
     when_added c.self.inside.texts.entries c.args.self.now c.args.name.now c.self.view_is (sym c.contains_key.ensures ∙ c.if-contains_key.false)
-
-pub returns-clause-err : goal.returns-clause-err
-returns-clause-err = grind (arith, common_steps)
-
-pub returns-in_err-name-clause-err : goal.returns-in_err-name-clause-err
-returns-in_err-name-clause-err = grind (arith, common_steps)
-
-pub returns-in_err-name-clause-ok : goal.returns-in_err-name-clause-ok
-returns-in_err-name-clause-ok = grind (arith, common_steps)
-
-pub returns-in_err-text-clause-err : goal.returns-in_err-text-clause-err
-returns-in_err-text-clause-err = grind (arith, common_steps)
-
-pub returns-in_err-text-clause-ok : goal.returns-in_err-text-clause-ok
-returns-in_err-text-clause-ok = grind (arith, common_steps)
-
-pub returns-then-contains_key-clause-err : goal.returns-then-contains_key-clause-err
-returns-then-contains_key-clause-err = grind (arith, common_steps)
-
-pub returns-then-contains_key-clause-ok : goal.returns-then-contains_key-clause-ok
-returns-then-contains_key-clause-ok = grind (arith, common_steps)

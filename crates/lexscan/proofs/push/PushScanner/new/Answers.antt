@@ -1,5 +1,4 @@
-use Rattle.std.proofs.lemmas.Grind.{common_steps}
-use Rattle.std.proofs.Common.{[], refl, sym, arith}
+use Rattle.std.proofs.Common.{[], refl, sym}
 use Rattle.lexscan.proofs.Stepping.{stands_first}
 use Rattle.lexscan.proofs.push.PushScanner.new.Goals as goal
 
@@ -20,12 +19,3 @@ returns-clause-fed g c =
       all = refl;
       waits = λ _. sym c.new-4.ensures.items;
     }
-
-pub invariant_of-result-clause-marks : goal.invariant_of-result-clause-marks
-invariant_of-result-clause-marks = grind (arith, common_steps)
-
-pub returns-clause-going : goal.returns-clause-going
-returns-clause-going = grind (arith, common_steps)
-
-pub returns-clause-machine : goal.returns-clause-machine
-returns-clause-machine = grind (arith, common_steps)

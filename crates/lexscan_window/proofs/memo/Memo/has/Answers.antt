@@ -1,5 +1,4 @@
-use Rattle.std.proofs.lemmas.Grind.{common_steps}
-use Rattle.std.proofs.Common.{rules, ◌<◌, length, sym, subst, arith}
+use Rattle.std.proofs.Common.{rules, ◌<◌, length, sym, subst}
 use Rattle.lex_semantics.specs.Text.{Among}
 use Rattle.lexscan_window.specs.Memos.{marks_of}
 use Rattle.lexscan_window.proofs.Marks.{among_at, in_cells}
@@ -13,6 +12,3 @@ returns-then-has c _ =
     let there = subst (λ x. Among cells x) (sym c.index-cell.ensures) (among_at cells c.ways.at cell inside) in
     let held = subst (λ p. Among (marks_of cell) (record { place = p; state = c.args.state })) (c.is_at.ensures c.if-is_at.true) (c.has.ensures c.if-has.true) in
     subst (λ l. Among l (record { place = c.args.place; state = c.args.state })) c.self.view_is (in_cells cells cell _ there held)
-
-pub returns : goal.returns
-returns = grind (arith, common_steps)

@@ -1,5 +1,4 @@
-use Rattle.std.proofs.lemmas.Grind.{common_steps}
-use Rattle.std.proofs.Common.{rules, ◌≡◌, ◌<◌, ◌⊎◌, length, inl, inr, ap, ◌∙◌, subst, arith}
+use Rattle.std.proofs.Common.{rules, ◌≡◌, ◌<◌, ◌⊎◌, length, inl, inr, ap, ◌∙◌, subst}
 use Rattle.lex_semantics.specs.Text.{Among}
 use Rattle.lexscan_window.specs.declared.memo.Mark.{Mark}
 use Rattle.lexscan_window.specs.Memos.{marks_of}
@@ -18,9 +17,3 @@ returns-in-Some c m h =
       | inl a ↦ inl (subst (λ l. Among l m) c.self.view_is a)
       | inr e ↦ inr (e ∙ ap (λ s. record { place = c.args.place; state = s }) same)
     ]
-
-pub returns-in-None : goal.returns-in-None
-returns-in-None = grind (arith, common_steps)
-
-pub returns-in_default : goal.returns-in_default
-returns-in_default = grind (arith, common_steps)

@@ -1,4 +1,3 @@
-use Rattle.std.proofs.lemmas.Grind.{common_steps}
 use Rattle.std.proofs.Common.{◌+◌, ◌-◌, ◌≤◌, ◌++◌, length, take, drop, ap, ◌∙◌, arith}
 use Rattle.lexscan_window.specs.Window.{last_of}
 use Rattle.lexscan_window.proofs.Keeping.{fits_in, slice_before}
@@ -12,9 +11,3 @@ returns c =
     ∙ slice_before c.self.inside.start c.self.inside.end c.args.at c.args.count c.saturating_sub.result c.self.inside.buffer.items
     (fits_in c.self.inside.start c.self.inside.end c.args.at c.self.inside.buffer.items c.self.invariant.0 inside (omega (arith, few, ap (λ v. length v.bytes) c.self.view_is))) inside c.saturating_sub.ensures
     ∙ ap (λ v. last_of c.args.count (v.behind ++ take c.args.at v.bytes)) c.self.view_is
-
-pub overflow_add-end : goal.overflow_add-end
-overflow_add-end = grind (arith, common_steps)
-
-pub slice_bounds-result-end : goal.slice_bounds-result-end
-slice_bounds-result-end = grind (arith, common_steps)

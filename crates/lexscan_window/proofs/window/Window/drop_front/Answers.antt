@@ -1,4 +1,3 @@
-use Rattle.std.proofs.lemmas.Grind.{common_steps}
 use Rattle.std.proofs.Common.{◌≤◌, ◌++◌, length, take, ap, ◌∙◌, arith}
 use Rattle.lexscan_window.proofs.Keeping.{fits_in, behind_more}
 use Rattle.lexscan_window.proofs.window.Window.drop_front.Goals as goal
@@ -10,15 +9,3 @@ returns-clause-behind c =
     behind_more c.self.inside.start c.self.inside.end c.args.n c.self.inside.buffer.items
     (fits_in c.self.inside.start c.self.inside.end c.args.n c.self.inside.buffer.items c.self.invariant.0 inside (omega (arith, few, ap (λ v. length v.bytes) c.self.view_is)))
     ∙ ap (λ v. v.behind ++ take c.args.n v.bytes) c.self.view_is
-
-pub invariant_of-self : goal.invariant_of-self
-invariant_of-self = grind (arith, common_steps)
-
-pub overflow_add-self : goal.overflow_add-self
-overflow_add-self = grind (arith, common_steps)
-
-pub returns-clause-bytes : goal.returns-clause-bytes
-returns-clause-bytes = grind (arith, common_steps)
-
-pub returns-clause-room : goal.returns-clause-room
-returns-clause-room = grind (arith, common_steps)

@@ -1,4 +1,3 @@
-use Rattle.std.proofs.lemmas.Grind.{common_steps}
 use Rattle.std.proofs.Common.{ℕ, ◌-◌, ◌+◌, ◌≤◌, List, length, take, drop, sym, ap, arith}
 use Rattle.std.proofs.lemmas.List.{length-take}
 use Rattle.lexscan_window.proofs.Walking.{filled_on}
@@ -34,9 +33,3 @@ returns-clause-filled g c =
       | then-most-room w ↦ grind (arith, w.limit-is)
       | else-most-room w ↦ grind (arith, w.limit-is, w.if-most-room.false, c.len.ensures)
     ]
-
-pub returns-clause-known : goal.returns-clause-known
-returns-clause-known = grind (arith, common_steps)
-
-pub returns-clause-known_before : goal.returns-clause-known_before
-returns-clause-known_before = grind (arith, common_steps)

@@ -1,5 +1,4 @@
-use Rattle.std.proofs.lemmas.Grind.{common_steps}
-use Rattle.std.proofs.Common.{rules, sym, ◌∙◌, ◌≡◌, ◌+◌, ◌<◌, false, length, arith}
+use Rattle.std.proofs.Common.{rules, sym, ◌∙◌, ◌≡◌, ◌+◌, ◌<◌, false, length}
 use Rattle.lexspec.specs.EndOpenings.{begins_end}
 use Rattle.lexspec_lines.proofs.OneSection.{no_true}
 use Rattle.lexspec.specs.SkipViews.{item_of}
@@ -66,6 +65,3 @@ returns-in-Ok-with_rule-clause-keeps c = λ k.
     c.in-Ok-with_rule.ensures.keeps c.in-Ok-read_rule_text.ensures.sound
     (has_room c.args.declarations.now c.args.self c.args.line c.args.text.now c.in-Ok-read_rule_text.found.action.now c.in-Ok-read_rule_text.found.rest.now c.in-Ok-read_rule_text.found.front
     c.in-Ok-read_rule_text.ensures.found (has_place c)) k
-
-pub returns-in-Some-clause-shorter : goal.returns-in-Some-clause-shorter
-returns-in-Some-clause-shorter = grind (arith, common_steps)

@@ -1,5 +1,3 @@
-use Rattle.std.proofs.Common.{arith}
-use Rattle.std.proofs.lemmas.Grind.{common_steps}
 use Rattle.lexspec.proofs.rules_so_far.RulesSoFar.with_rule.Goals as goal
 
 pub returns-in-Matching-clause-none : goal.returns-in-Matching-clause-none
@@ -7,12 +5,3 @@ returns-in-Matching-clause-none c = rw c.in-Matching.is c.with_matching.ensures.
 
 pub returns-in-AtEnd-clause-none : goal.returns-in-AtEnd-clause-none
 returns-in-AtEnd-clause-none c = rw c.in-AtEnd.is c.with_end.ensures.none
-
-pub returns-in-AtEnd-clause-found : goal.returns-in-AtEnd-clause-found
-returns-in-AtEnd-clause-found = grind (arith, common_steps)
-
-pub returns-in-AtEnd-clause-keeps : goal.returns-in-AtEnd-clause-keeps
-returns-in-AtEnd-clause-keeps = grind (arith, common_steps)
-
-pub returns-in-Matching-clause-found : goal.returns-in-Matching-clause-found
-returns-in-Matching-clause-found = grind (arith, common_steps)

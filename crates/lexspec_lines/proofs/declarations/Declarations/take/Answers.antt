@@ -1,5 +1,4 @@
-use Rattle.std.proofs.lemmas.Grind.{common_steps}
-use Rattle.std.proofs.Common.{◌≡◌, Ok, Err, refl, ap, arith}
+use Rattle.std.proofs.Common.{◌≡◌, Ok, Err, refl, ap}
 use Rattle.std.specs.Prelude.{Result}
 use Rattle.lexre.specs.declared.definitions.DefsError.{DefsError}
 use Rattle.lexre.specs.declared.definitions.DefsError.TheVariants.{Duplicate}
@@ -78,60 +77,3 @@ returns-in-Some-clause-code c = rw (ap definition_of c.in-Options.is) (adds_same
 
 pub returns-in-Ok-clause-code : goal.returns-in-Ok-clause-code
 returns-in-Ok-clause-code c = rw (ap definition_of c.in-Defines.is) (adds_same c.args.self.now.skipped)
-
-pub returns-in-Err-Duplicate-clause-code : goal.returns-in-Err-Duplicate-clause-code
-returns-in-Err-Duplicate-clause-code = grind (arith, common_steps)
-
-pub returns-in-Err-Duplicate-clause-found : goal.returns-in-Err-Duplicate-clause-found
-returns-in-Err-Duplicate-clause-found = grind (arith, common_steps)
-
-pub returns-in-Err-OutOfMemory-clause-code : goal.returns-in-Err-OutOfMemory-clause-code
-returns-in-Err-OutOfMemory-clause-code = grind (arith, common_steps)
-
-pub returns-in-Err-OutOfMemory-clause-found : goal.returns-in-Err-OutOfMemory-clause-found
-returns-in-Err-OutOfMemory-clause-found = grind (arith, common_steps)
-
-pub returns-in-Err-OutOfMemory-clause-none : goal.returns-in-Err-OutOfMemory-clause-none
-returns-in-Err-OutOfMemory-clause-none = grind (arith, common_steps)
-
-pub returns-in-Ignored-clause-none : goal.returns-in-Ignored-clause-none
-returns-in-Ignored-clause-none = grind (arith, common_steps)
-
-pub returns-in-None-clause-code : goal.returns-in-None-clause-code
-returns-in-None-clause-code = grind (arith, common_steps)
-
-pub returns-in-None-clause-found : goal.returns-in-None-clause-found
-returns-in-None-clause-found = grind (arith, common_steps)
-
-pub returns-in-Nothing-clause-none : goal.returns-in-Nothing-clause-none
-returns-in-Nothing-clause-none = grind (arith, common_steps)
-
-pub returns-in-Ok-clause-none : goal.returns-in-Ok-clause-none
-returns-in-Ok-clause-none = grind (arith, common_steps)
-
-pub returns-in-Some-clause-none : goal.returns-in-Some-clause-none
-returns-in-Some-clause-none = grind (arith, common_steps)
-
-pub returns-in_err-add_block-in-CodeBlock-clause-code : goal.returns-in_err-add_block-in-CodeBlock-clause-code
-returns-in_err-add_block-in-CodeBlock-clause-code = grind (arith, common_steps)
-
-pub returns-in_err-add_block-in-CodeBlock-clause-found : goal.returns-in_err-add_block-in-CodeBlock-clause-found
-returns-in_err-add_block-in-CodeBlock-clause-found = grind (arith, common_steps)
-
-pub returns-in_err-add_block-in-CodeBlock-clause-none : goal.returns-in_err-add_block-in-CodeBlock-clause-none
-returns-in_err-add_block-in-CodeBlock-clause-none = grind (arith, common_steps)
-
-pub returns-in_err-add_line-in-CodeLine-clause-code : goal.returns-in_err-add_line-in-CodeLine-clause-code
-returns-in_err-add_line-in-CodeLine-clause-code = grind (arith, common_steps)
-
-pub returns-in_err-add_line-in-CodeLine-clause-found : goal.returns-in_err-add_line-in-CodeLine-clause-found
-returns-in_err-add_line-in-CodeLine-clause-found = grind (arith, common_steps)
-
-pub returns-in_err-add_line-in-CodeLine-clause-none : goal.returns-in_err-add_line-in-CodeLine-clause-none
-returns-in_err-add_line-in-CodeLine-clause-none = grind (arith, common_steps)
-
-pub returns-in_ok-add_block-in-CodeBlock-clause-none : goal.returns-in_ok-add_block-in-CodeBlock-clause-none
-returns-in_ok-add_block-in-CodeBlock-clause-none = grind (arith, common_steps)
-
-pub returns-in_ok-add_line-in-CodeLine-clause-none : goal.returns-in_ok-add_line-in-CodeLine-clause-none
-returns-in_ok-add_line-in-CodeLine-clause-none = grind (arith, common_steps)

@@ -1,5 +1,4 @@
-use Rattle.std.proofs.lemmas.Grind.{common_steps}
-use Rattle.std.proofs.Common.{ℕ, List, refl, ap, subst, ◌++◌, length, rules, arith}
+use Rattle.std.proofs.Common.{ℕ, List, refl, ap, subst, ◌++◌, length, rules}
 use Rattle.std.specs.Int.{w32, to_be_bytes}
 use Rattle.std.specs.List.{flat_map}
 use Rattle.std.proofs.lemmas.Result.{err_from_is_err_and}
@@ -22,6 +21,3 @@ returns-in_err-put_long-clause-bytes g c =
 
 pub returns-clause-bytes : goal.returns-clause-bytes
 returns-clause-bytes g c = subst (λ (z : List ℕ). Appended (λ xs. g.K.Sink.wrote c.args.sink.now xs c.put_statements.new.sink) z c.put_statements.result) (rule_same c.args.rule.now) (appended_then g.K.Sink.wrote g.met.K.Sink.wrote_more c.args.sink.now c.put_cut.new.sink _ _ (cut_text (cut_of c.args.rule.now.cut)) _ (to_be_bytes w32 (length c.args.rule.now.statements.items) ++ (flat_map (λ s. statement_text (statement_of s)) c.args.rule.now.statements.items)) _ refl refl c.in_ok-put_cut.ensures.bytes (appended_then g.K.Sink.wrote g.met.K.Sink.wrote_more c.put_cut.new.sink c.put_long.new.sink _ _ (to_be_bytes w32 (length c.args.rule.now.statements.items)) _ (flat_map (λ s. statement_text (statement_of s)) c.args.rule.now.statements.items) _ (search rules) (ap (flat_map (λ s. statement_text (statement_of s))) c.deref.ensures.value) c.in_ok-put_long.ensures.bytes c.put_statements.ensures.bytes))
-
-pub put_statements-requires-clause-fits : goal.put_statements-requires-clause-fits
-put_statements-requires-clause-fits = grind (arith, common_steps)

@@ -1,4 +1,3 @@
-use Rattle.std.proofs.lemmas.Grind.{common_steps}
 use Rattle.std.proofs.Common.{◌≡◌, ℕ, ◌≤◌, Bool, true, false, refl, arith}
 use Rattle.lex_semantics.specs.Text.{flag}
 use Rattle.lextab_packed.specs.Flats.{marked, kind_of}
@@ -25,6 +24,3 @@ returns-clause-known c =
     let t = c.args.self.now.tables in
     let below = t.below.next c.args.state c.args.byte c.requires (omega arith) in
     omega (arith, returns-clause-state c, below)
-
-pub overflow_mul-state : goal.overflow_mul-state
-overflow_mul-state = grind (arith, common_steps)

@@ -1,4 +1,3 @@
-use Rattle.std.proofs.lemmas.Grind.{common_steps}
 use Rattle.std.proofs.Common.{◌≡◌, ℕ, zero, suc, ◌<◌, Bool, true, false, List, [], ◌∷◌, length, map, get_or, sym, ap, subst, ◌∙◌, arith}
 use Rattle.std.specs.Prelude.{slice_get}
 use Rattle.lextab_packed.proofs.Finding.{start_at}
@@ -32,6 +31,3 @@ pub returns-else-line_start-clause-known : goal.returns-else-line_start-clause-k
 returns-else-line_start-clause-known c =
     let t = c.args.self.now in
     subst (λ (s : ℕ). s < states_of t) (sym (start_elsewhere t.parts.conditions.items c.args.condition c.index-condition.result.now c.requires (rw c.from.ensures at c.index-condition.ensures))) (t.below.start c.args.condition false c.requires)
-
-pub index-condition-requires : goal.index-condition-requires
-index-condition-requires = grind (arith, common_steps)

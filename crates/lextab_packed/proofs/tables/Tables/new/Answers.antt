@@ -1,5 +1,4 @@
-use Rattle.std.proofs.lemmas.Grind.{common_steps}
-use Rattle.std.proofs.Common.{ℕ, subst, arith}
+use Rattle.std.proofs.Common.{ℕ, subst}
 use Rattle.std.proofs.lemmas.List.{length-map}
 use Rattle.lex_semantics.specs.MachineLaws.{StaysBelow}
 use Rattle.lextab_packed.specs.Views.{row_of, table_of, machine_of_parts}
@@ -14,9 +13,3 @@ invariant_of-result-clause-below c =
     let p = c.args.parts in
     let flags = c.args.goes_on.items in
     subst (λ (n : ℕ). StaysBelow (machine_of_parts p flags) n) (length-map p.rows.items row_of) (stays_below (table_of p) c.requires.table flags c.requires.flags)
-
-pub returns-clause-flags : goal.returns-clause-flags
-returns-clause-flags = grind (arith, common_steps)
-
-pub returns-clause-parts : goal.returns-clause-parts
-returns-clause-parts = grind (arith, common_steps)

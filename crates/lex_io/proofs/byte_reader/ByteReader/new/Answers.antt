@@ -1,9 +1,0 @@
-use Rattle.std.proofs.Common.{arith}
-use Rattle.std.proofs.lemmas.Grind.{common_steps}
-use Rattle.lex_io.proofs.byte_reader.ByteReader.new.Goals as goal
-
-pub returns-clause-empty : goal.returns-clause-empty
-returns-clause-empty = grind (arith, common_steps)
-
-pub returns-clause-reader : goal.returns-clause-reader
-returns-clause-reader = grind (arith, common_steps)

@@ -1,9 +1,0 @@
-use Rattle.std.proofs.Common.{arith}
-use Rattle.std.proofs.lemmas.Grind.{common_steps}
-use Rattle.lex_machine.proofs.action.Statement.is_reject.Goals as goal
-
-pub returns-in-Reject : goal.returns-in-Reject
-returns-in-Reject = grind (arith, common_steps)
-
-pub returns-in_default : goal.returns-in_default
-returns-in_default = grind (arith, common_steps)

@@ -1,6 +1,0 @@
-use Rattle.std.proofs.Common.{arith}
-use Rattle.std.proofs.lemmas.Grind.{common_steps}
-use Rattle.lexlook_trace.proofs.rules.telling_rule.Goals as goal
-
-pub returns : goal.returns
-returns = grind (arith, common_steps)

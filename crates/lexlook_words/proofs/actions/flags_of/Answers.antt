@@ -1,9 +1,0 @@
-use Rattle.std.proofs.Common.{arith}
-use Rattle.std.proofs.lemmas.Grind.{common_steps}
-use Rattle.lexlook_words.proofs.actions.flags_of.Goals as goal
-
-pub loop-rule-preserved : goal.loop-rule-preserved
-loop-rule-preserved = grind (arith, common_steps)
-
-pub returns : goal.returns
-returns = grind (arith, common_steps)

@@ -1,9 +1,0 @@
-use Rattle.std.proofs.Common.{arith}
-use Rattle.std.proofs.lemmas.Grind.{common_steps}
-use Rattle.lexspec.proofs.spec.Spec.rules.Goals as goal
-
-pub returns-clause-rules : goal.returns-clause-rules
-returns-clause-rules = grind (arith, common_steps)
-
-pub returns-clause-sound : goal.returns-clause-sound
-returns-clause-sound = grind (arith, common_steps)
