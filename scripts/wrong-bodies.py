@@ -247,15 +247,17 @@ class Crate:
                     shutil.copytree(self.folder / part, f"{room}/{part}")
             for file, text in texts.items():
                 Path(room, file).write_text(text)
-            kept = self.folder / "out/incremental"
-            words = ["--jobs", "1"]
-            for name in functions:
-                words += ["--only", name]
-            words = [self.rtlib.RATTLE, "check", *self.made.words(words, keeps=False)]
-            if kept.is_dir():
-                linked(kept, f"{room}/kept")
-                words += ["--incremental", f"{room}/kept"]
-            ran = subprocess.run(words, cwd=room, stdin=subprocess.DEVNULL, stdout=subprocess.PIPE, stderr=subprocess.STDOUT, errors="replace", text=True, check=False)
+            return self.check_in(room, [word for name in functions for word in ("--only", name)])
+
+    def check_in(self, room, only):
+        """Checks what stands in a folder, over a copy of the crate's kept work where there is some."""
+        words = [self.rtlib.RATTLE, "check", *self.made.words(["--jobs", "1", *only], keeps=False)]
+        kept = self.folder / "out/incremental"
+        if kept.is_dir():
+            linked(kept, f"{room}/kept")
+            words += ["--incremental", f"{room}/kept"]
+        how = {"stdin": subprocess.DEVNULL, "stdout": subprocess.PIPE, "stderr": subprocess.STDOUT, "errors": "replace", "text": True}
+        ran = subprocess.run(words, cwd=room, check=False, **how)
         said = {it[1]: (it[2], it[3]) for it in SAID.finditer(ran.stdout)}
         return Checked(ran.stdout, said, ran.returncode)
 
@@ -421,13 +423,67 @@ def itself(rtlib, crates):
     return failed
 
 
-def main():
+class Report:
+    """What is told, a line for each wrong body, and how many of each kind."""
+
+    def __init__(self):
+        self.count, self.lock = Counter(), threading.Lock()
+
+    def tell(self, name, word, why):
+        with self.lock:
+            self.count[word] += 1
+            print(f"{word:10} {name}: {why}", flush=True)
+
+    def total(self, crates, batches):
+        told = ", ".join(f"{number} {word}" for word, number in self.count.most_common())
+        return f"{sum(self.count.values())} wrong bodies of {crates} crates in {batches} batches: {told or 'none'}"
+
+
+def batches_of(chosen, rtlib, report):
+    """The batches of some crates, the largest first, with the libraries built that their checks need."""
+    found = []
+    for made in chosen:
+        edits, bad = edits_of(Path(made.folder))
+        for name, why in bad:
+            report.tell(name, "bad", why)
+        crate = Crate(rtlib, made)
+        if edits:
+            crate.build_below()
+        while edits:
+            batch = batch_of(edits)
+            edits = [it for it in edits if it not in batch]
+            found.append((crate, batch))
+    return sorted(found, key=lambda it: -len(it[1]))
+
+
+def try_all(chosen, rtlib, jobs):
+    """Tries the wrong bodies of some crates, and returns whether each is refused."""
+    report = Report()
+    batches = batches_of(chosen, rtlib, report)
+
+    def work(crate, batch):
+        for edit, told in tries(crate, batch).items():
+            report.tell(edit, *told)
+
+    with ThreadPoolExecutor(jobs) as pool:
+        for done in [pool.submit(work, *it) for it in batches]:
+            done.result()
+    print(report.total(len({crate.folder for crate, _ in batches}), len(batches)))
+    return set(report.count) <= {"refused"}
+
+
+def words():
+    """The words of the command line."""
     parser = argparse.ArgumentParser(usage=__doc__, add_help=False)
     parser.add_argument("crates", nargs="*")
     parser.add_argument("--changed")
     parser.add_argument("--jobs", type=int, default=len(os.sched_getaffinity(0)))
     parser.add_argument("--itself", action="store_true")
-    given = parser.parse_args()
+    return parser.parse_args()
+
+
+def main():
+    given = words()
     os.chdir(ROOT)
     rtlib = kit()
     crates = rtlib.crates_below(str(ROOT))
@@ -440,35 +496,7 @@ def main():
         sys.exit(f"wrong-bodies: no crate is named {' '.join(sorted(lacking))}")
     chosen = changed(crates, given.changed) if given.changed else crates
     chosen = [it for it in chosen if not given.crates or it.name in given.crates]
-    count, lock = Counter(), threading.Lock()
-
-    def tell(name, word, why):
-        with lock:
-            count[word] += 1
-            print(f"{word:10} {name}: {why}", flush=True)
-
-    tasks = []
-    for made in chosen:
-        edits, bad = edits_of(Path(made.folder))
-        for name, why in bad:
-            tell(name, "bad", why)
-        if edits:
-            crate = Crate(rtlib, made)
-            crate.build_below()
-            while edits:
-                batch = batch_of(edits)
-                edits = [it for it in edits if it not in batch]
-                tasks.append((crate, batch))
-
-    def work(task):
-        crate, batch = task
-        for edit, (word, why) in tries(crate, batch).items():
-            tell(edit, word, why)
-
-    with ThreadPoolExecutor(given.jobs) as pool:
-        list(pool.map(work, sorted(tasks, key=lambda it: -len(it[1]))))
-    print(f"{sum(count.values())} wrong bodies of {len({it[0].made.name for it in tasks})} crates, in {len(tasks)} batches: " + ", ".join(f"{number} {word}" for word, number in count.items()))
-    return 1 if sum(count.values()) != count["refused"] else 0
+    return 0 if try_all(chosen, rtlib, given.jobs) else 1
 
 
 if __name__ == "__main__":
