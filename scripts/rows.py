@@ -1,10 +1,9 @@
 #!/usr/bin/env python3
-"""Writes the tables that tests run: of lextest_product examples.rt from examples/, and manual.rt from docs/MANUAL.md; of lextest_looks
-manual.rt, from the chapters of the manual on lexlook. A test reads no file, so the texts stand in it once more; run this where one of
-them changes, and then `rt fmt`.
+"""Writes rows for crates/lextest_product, into its data/: examples.txt from examples/, manual.txt from docs/MANUAL.md, and
+manual_looks.txt from the chapters of the manual on lexlook. Run this where one of them changes.
 
     scripts/rows.py           writes all three
-    scripts/rows.py --check   tells which of them differ from what it would write, but for the layout, with a status of 1
+    scripts/rows.py --check   tells which of them differ from what it would write, with a status of 1
     scripts/rows.py --flex    compares the rows of the manual with what flex 2.6.4 writes, by scripts/flex-output.sh
 
 The gate (.ci/run) begins with --check."""
@@ -15,8 +14,10 @@ import tempfile
 from pathlib import Path
 from typing import NamedTuple
 
+from row_format import file, group, row, told
+
 ROOT = Path(__file__).resolve().parent.parent
-CRATES = ROOT / "crates"
+DATA = ROOT / "crates/lextest_product/data"
 PAIR = re.compile(
     r"(?:`([^`]*)`|Empty input) gives (?:`([^`]*)`|nothing)(?: with `(-[iX])`)?(?: and status (\d+))?"
 )
@@ -88,82 +89,42 @@ def manual(text):
     return scans, others, refusals
 
 
-def literal(text):
-    """The text as a literal of Rattle."""
-    for byte, escape in (("\\", "\\\\"), ('"', '\\"'), ("\n", "\\n"), ("\t", "\\t"), ("\r", "\\r")):
-        text = text.replace(byte, escape)
-    return f'"{text}"'
+def scan_row(scan):
+    """The row of a scan."""
+    fields = [("spec", scan.spec), ("flag", scan.flag), ("input", scan.given), ("written", scan.written)]
+    return row("scan", *fields, ("told", told(scan.status)))
 
 
-def row(values):
-    cells = [literal(value) if isinstance(value, str) else str(value) for value in values]
-    return "    (" + ", ".join(cells) + "),\n"
-
-
-def table(name, kind, rows, above=""):
-    return f"{above}pub(crate) const {name}: &[{kind}] = &[\n{''.join(rows)}];\n"
-
-
-# The names of the parts of a long table, and the most that a part has: its proof takes a time that grows with the square of both.
-PARTS = ["first", "second", "third", "fourth", "fifth", "sixth", "seventh", "eighth", "ninth", "tenth"]
-MOST_ROWS = 20
-MOST_CHARACTERS = 3_200
-
-
-def parts(rows):
-    """The rows in their order, as the parts of a long table."""
-    found = [[]]
-    for text in rows:
-        if len(found[-1]) == MOST_ROWS or sum(map(len, [*found[-1], text])) > MOST_CHARACTERS and found[-1]:
-            found.append([])
-        found[-1].append(text)
-    assert len(found) <= len(PARTS), "a long table has more parts than there are names"
-    return dict(zip(PARTS, found))
-
-
-def long_table(name, kind, rows):
-    """A function for each part, and one that answers them all."""
-    whole = parts(rows)
-    functions = [
-        f"fn {part}() -> &'static [{kind}] {{\n    &[\n{''.join(texts)}    ]\n}}\n\n" for part, texts in whole.items()
-    ]
-    calls = ", ".join(f"{part}()" for part in whole)
-    return (
-        "".join(functions)
-        + f"/// All rows, part by part.\npub(crate) fn {name}() -> [&'static [{kind}]; {len(whole)}] {{\n    [{calls}]\n}}\n"
-    )
+def refusal_row(text, line):
+    """The row of a specification that is refused by this line."""
+    return row("scan", ("spec", text), ("input", "a"), ("told", "status 65\n" + line))
 
 
 def examples():
-    """The text of examples.rt."""
-    rows = []
+    """The text of examples.txt."""
+    groups = []
     for spec in sorted(ROOT.glob("examples/*.l")):
         status = spec.with_suffix(".status")
         texts = [spec.with_suffix(end).read_bytes().decode() for end in (".l", ".input", ".output")]
-        status = int(status.read_text()) if status.exists() else 0
-        rows.append(f"    // {spec.stem}\n" + row([*texts, status]))
-    return (
-        "//! The specifications of `examples/`, with what flex 2.6.4 writes: written by `scripts/rows.py`.\n"
-        "use crate::row::Row;\n\n" + long_table("examples", "Row", rows)
-    )
+        scan = Scan(*texts, int(status.read_text()) if status.exists() else 0)
+        groups.append(group(spec.stem, [scan_row(scan)]))
+    return file("# The specifications of examples/, with what flex 2.6.4 writes: written by scripts/rows.py.\n", *groups)
 
 
 def examples_of_manual(text):
-    """The text of manual.rt."""
+    """The text of manual.txt."""
     scans, others, refusals = manual(text)
 
-    def with_flag(flag):
-        return [row(scan[:4]) for scan in scans if scan.flag == flag]
+    def with_flag(head, flag):
+        return group(head, [scan_row(scan) for scan in scans if scan.flag == flag])
 
-    return (
-        "//! The examples of docs/MANUAL.md: written by `scripts/rows.py`.\n"
-        "use crate::row::{Refusal, Row};\n\n"
-        + long_table("examples", "Row", with_flag(""))
-        + table("FOLDED", "Row", with_flag("-i"), "\n/// Where letters stand for both cases.\n")
-        + table("SERIES", "Row", with_flag("-X"), "\n/// Where intervals apply to series.\n")
-        + table("DIFFERENCES", "Row", [row(other[:4]) for other in others],
-                "\n/// Where flex 2.6.4 does something else.\n")
-        + table("REFUSALS", "Refusal", [row(refusal) for refusal in refusals], "\n")
+    return file(
+        "# The examples of docs/MANUAL.md: written by scripts/rows.py.\n",
+        with_flag("Scans.", ""),
+        with_flag("Where letters stand for both cases.", "-i"),
+        with_flag("Where intervals apply to series.", "-X"),
+        group("Where flex 2.6.4 does something else.", map(scan_row, others)),
+        group("What is refused.", [refusal_row(*refusal) for refusal in refusals]),
     )
 
 
@@ -183,39 +144,29 @@ def after(text, words):
 
 
 def examples_of_lexlook(text):
-    """The text of manual.rt of lextest_looks: what lexlook writes in the chapters on it."""
+    """The text of manual_looks.txt: what lexlook writes in the chapters on it."""
     small = after(text, "Say that `small.l` is this specification:")
     pictures, comparing, cutting, taken, traced = (
         chapter(text, title)
         for title in ("Pictures", "Comparing", "Cutting at newlines", "Texts that rules take", "Lines of matches")
     )
     words = after(comparing, "Say that `words.l` is this:")
+    compared = after(comparing, "Then `lexlook same small.l words.l`")
     given = re.search(r"`printf '([^']*)' \| lexlook trace a\.l`", traced)[1]
     cuts = [line for names, rows in tables(cutting) for line in rows if "As in" in names]
-    return (
-        "//! The examples of lexlook in docs/MANUAL.md: written by `scripts/rows.py`.\n\n"
-        + table("DRAWN", "(&str, &str)", [row([small, after(pictures, "Then this is written:")])],
-                "/// A specification, and its picture.\n")
-        + table("COMPARED", "(&str, &str, &str)", [row([small, words, after(comparing, "Then `lexlook same small.l words.l`")])],
-                "\n/// `small.l` and `words.l`, and the line of what they do not do the same.\n")
-        + table("CUT", "(&str, &str)", [row([lines_of(cut["As in"]), code(cut["What is written"]) + "\n"]) for cut in cuts],
-                "\n/// A specification, and the line of what stands against cuts at newlines.\n")
-        + table("TAKEN", "(&str, &str)", [row([after(taken, "Of this one"), after(taken, "it writes\n")])],
-                "\n/// A specification, and the lines of the texts that its rules take.\n")
-        + table("TRACED", "(&str, &str, &str)", [row([after(traced, "Say that `a.l` is this:"), given, after(traced, "Then `printf")])],
-                "\n/// A specification, an input, and the lines of its matches.\n")
+    return file(
+        "# The examples of lexlook in docs/MANUAL.md: written by scripts/rows.py.\n",
+        row("picture", ("spec", small), ("written", after(pictures, "Then this is written:"))),
+        row("same", ("names", "small.l words.l"), ("spec", small), ("again", words), ("written", compared)),
+        *(row("lines", ("spec", lines_of(cut["As in"])), ("written", code(cut["What is written"]) + "\n")) for cut in cuts),
+        row("words", ("spec", after(taken, "Of this one")), ("written", after(taken, "it writes\n"))),
+        row("trace", ("spec", after(traced, "Say that `a.l` is this:")), ("input", given), ("written", after(traced, "Then `printf"))),
     )
-
-
-def words(code):
-    """The words of a file of the source, without comments and layout."""
-    found = re.findall(r'"(?:[^"\\]|\\.)*"|\w+|[^\s\w]', re.sub(r"(?m)^\s*//.*$", "", code))
-    return [word for word, after in zip(found, [*found[1:], ""]) if word != "," or after not in ")]}"]
 
 
 def check(files):
     """Tells which files are not what would be written."""
-    stale = [name for name, code in files.items() if words((CRATES / name).read_text()) != words(code)]
+    stale = [name for name, text in files.items() if not (DATA / name).exists() or (DATA / name).read_text() != text]
     for name in stale:
         print(f"{name} is not what scripts/rows.py writes")
     return 1 if stale else 0
@@ -249,11 +200,11 @@ if sys.argv[1:] == ["--flex"]:
     compare(text)
 else:
     files = {
-        "lextest_product/src/examples.rt": examples(),
-        "lextest_product/src/manual.rt": examples_of_manual(text),
-        "lextest_looks/src/manual.rt": examples_of_lexlook(text),
+        "examples.txt": examples(),
+        "manual.txt": examples_of_manual(text),
+        "manual_looks.txt": examples_of_lexlook(text),
     }
     if sys.argv[1:] == ["--check"]:
         sys.exit(check(files))
-    for name, code in files.items():
-        (CRATES / name).write_text(code)
+    for name, rows in files.items():
+        (DATA / name).write_text(rows)

@@ -1,6 +1,6 @@
 #!/usr/bin/env python3
-"""Writes the table that the tests of lextest_tokens run, crates/lextest_tokens/src/rows.rt: the tokens that flex 2.6.4 finds in the
-inputs of two specifications of examples/, and by some small ones. Run `rt fmt` in that crate after it.
+"""Writes rows for crates/lextest_product, into data/tokens.txt: the tokens that flex 2.6.4 finds in the inputs of two
+specifications of examples/, and by some small ones.
 
     scripts/tokens.py
 
@@ -9,6 +9,8 @@ its macro YY_USER_ACTION, which runs before each action, or where an action may 
 import subprocess
 import tempfile
 from pathlib import Path
+
+from row_format import escaped, file, group, row
 
 ROOT = Path(__file__).resolve().parent.parent
 EXAMPLES = ["c_tokens", "json"]
@@ -56,43 +58,20 @@ def told(spec, given):
         return [tuple(map(int, line.split())) for line in run.stderr.splitlines()], run.returncode
 
 
-def quoted(text):
-    return '"' + text.replace("\\", "\\\\").replace('"', '\\"').replace("\n", "\\n").replace("\t", "\\t") + '"'
-
-
-def table(name, spec, given, tokens, status, count):
-    """A table of one specification: where the number is the count of rules, it is the default rule."""
-    yield f"/// What flex finds by `{name}`."
-    yield f"pub const {name.upper()}: Listing = Listing {{"
-    yield f"    spec: {quoted(spec)},"
-    yield f"    given: {quoted(given)},"
-    yield f"    status: {status},"
-    yield "    tokens: &["
+def listing(name, spec, given, tokens, status, count):
+    """The row of one specification: each token is a line of its rule, its condition, its line and its text. Where the number of the
+    rule is the count of rules, it is the default rule."""
+    lines = []
     for rule, condition, start, length in tokens:
-        number = "None" if rule == count else f"Some({rule})"
+        number = "-" if rule == count else rule
         line = 1 + given.count("\n", 0, start)
-        yield f"        ({number}, {condition}, {line}, {quoted(given[start:start + length])}),"
-    yield "    ],"
-    yield "};"
-    yield ""
+        lines.append(f'{number} {condition} {line} "{escaped(given[start:start + length])}"\n')
+    fields = [("spec", spec), ("input", given), ("written", "".join(lines)), ("told", f"status {status}\n")]
+    return group(name, [row("tokens", *fields)])
 
 
 def main():
-    lines = [
-        "//! The tokens that flex finds, by `scripts/tokens.py`.",
-        "",
-        "/// A token: the number of its rule, or none for the default rule, its condition, its line, and its text.",
-        "pub type Row = (Option<u32>, u8, usize, &'static str);",
-        "",
-        "/// A specification, an input, the status that its scan ends with, and its tokens.",
-        "pub struct Listing {",
-        "    pub spec: &'static str,",
-        "    pub given: &'static str,",
-        "    pub status: u8,",
-        "    pub tokens: &'static [Row],",
-        "}",
-        "",
-    ]
+    groups = ["# The tokens that flex 2.6.4 finds: written by scripts/tokens.py.\n"]
     for name in EXAMPLES:
         spec = (ROOT / "examples" / f"{name}.l").read_text()
         given = (ROOT / "examples" / f"{name}.input").read_text()
@@ -101,7 +80,7 @@ def main():
         # each line of a pattern is a rule, but for those of the end of the input
         count = sum(1 for line in rules.splitlines() if line and not line.startswith("<COMMENT><<EOF>>") and not line.startswith("<STRING><<EOF>>"))
         tokens, status = told(head + spec + "\n%%\n", given.encode())
-        lines += table(name, spec, given, tokens, status, count)
+        groups.append(listing(name, spec, given, tokens, status, count))
     for name, rules, given in SMALL:
         head = HEAD.replace("MACRO\n", "")
         spec = "%%\n" + "".join(f"{pattern} {action}\n" for pattern, action in rules)
@@ -112,8 +91,8 @@ def main():
             for number, (pattern, action) in enumerate(rules)
         )
         tokens, status = told(f"{head}%%\n{body}.|\\n {{ T({len(rules)}); ECHO; }}\n%%\n", given.encode())
-        lines += table(name, spec, given, tokens, status, len(rules))
-    (ROOT / "crates/lextest_tokens/src/rows.rt").write_text("\n".join(lines))
+        groups.append(listing(name, spec, given, tokens, status, len(rules)))
+    (ROOT / "crates/lextest_product/data/tokens.txt").write_text(file(*groups))
 
 
 if __name__ == "__main__":

@@ -1,28 +1,40 @@
-//! Rows of tables.
-use lexspec::ReadOptions;
+//! Rows of data/.
+use crate::kind::Kind;
 
-/// A specification, an input, what is written, and the status of the scan.
-pub(crate) type Row = (&'static str, &'static str, &'static str, u8);
+/// A field of a row: its name, and what it says.
+#[derive(Drop)]
+pub(crate) struct Field<'a> {
+    pub(crate) name: &'a [u8],
+    pub(crate) value: Vec<u8>,
+}
 
-/// A specification that is refused, and the line that tells it.
-pub(crate) type Refusal = (&'static str, &'static str);
+/// What is asked, what of, and what is answered; and the line of the file that begins it.
+#[derive(Drop)]
+pub(crate) struct Row<'a> {
+    pub(crate) line: u64,
+    pub(crate) kind: Kind,
+    pub(crate) fields: Vec<Field<'a>>,
+}
 
-/// A specification of many equal parts: what stands before them, the part, how many there are, and what stands after
-/// them.
-pub(crate) type Long = (&'static str, &'static str, u32, &'static str);
+impl Row<'_> {
+    /// What a field says: nothing where there is no such field.
+    pub(crate) fn value(&self, name: &str) -> &[u8] {
+        for field in &self.fields {
+            if field.name == name.as_bytes() {
+                return field.value.as_slice();
+            }
+        }
+        b""
+    }
 
-/// How patterns are read: as they stand, with letters for both cases, and with intervals over series.
-pub(crate) const PLAIN: ReadOptions = ReadOptions {
-    fold: false,
-    posix: false,
-};
+    /// Whether the row has this flag.
+    pub(crate) fn has_flag(&self, flag: &str) -> bool {
+        self.value("flag") == flag.as_bytes()
+    }
+}
 
-pub(crate) const FOLD: ReadOptions = ReadOptions {
-    fold: true,
-    posix: false,
-};
-
-pub(crate) const POSIX: ReadOptions = ReadOptions {
-    fold: false,
-    posix: true,
-};
+/// The number that a text is.
+pub(crate) fn number_of(text: &[u8]) -> Option<usize> {
+    let text = std::str::from_utf8(text).ok()?;
+    text.parse::<usize>().ok()
+}

@@ -1,0 +1,158 @@
+//! The lines and statuses of faults.
+use lexkit::{
+    ArgsError, BuildError, Fault, GenError, MemorySink, PatternError, PatternErrorKind, RunError,
+    ScanError, SpecError, SpecErrorKind, TableError, WriteFault, write_fault,
+};
+use std::alloc::Global;
+
+/// Whether the program would end with this status and this line.
+fn is_told(alloc: Global, fault: Fault<'_>, status: u8, line: &str) -> bool {
+    let mut sink = MemorySink::new(alloc);
+    let written = write_fault(fault, &mut sink).is_ok();
+    written && sink.written() == line.as_bytes() && fault.status() == status
+}
+
+#[test]
+fn tells_each_fault(rt: HostRuntime) {
+    const ROWS: &[(Fault<'static>, u8, &str)] = &[
+        (Fault::Args(ArgsError::Usage), 64, "lex: usage\n"),
+        (
+            Fault::Args(ArgsError::OutOfMemory),
+            71,
+            "lex: out of memory\n",
+        ),
+        (
+            Fault::Scan(ScanError::Generate(GenError::OutOfMemory)),
+            71,
+            "lex: out of memory\n",
+        ),
+        (
+            Fault::Scan(ScanError::Generate(GenError::Build(BuildError::TooManyStates))),
+            65,
+            "lex: TooManyStates\n",
+        ),
+        (
+            Fault::Scan(ScanError::Generate(GenError::Build(BuildError::TooManyPositions))),
+            65,
+            "lex: TooManyPositions\n",
+        ),
+        (
+            Fault::Scan(ScanError::Generate(GenError::Build(BuildError::OutOfMemory))),
+            71,
+            "lex: out of memory\n",
+        ),
+        (
+            Fault::Scan(ScanError::Table(TableError::Truncated)),
+            65,
+            "lex: table: Truncated\n",
+        ),
+        (
+            Fault::Scan(ScanError::Table(TableError::BadField(28))),
+            65,
+            "lex: table: BadField at 28\n",
+        ),
+        (
+            Fault::Scan(ScanError::Table(TableError::OutOfMemory)),
+            71,
+            "lex: out of memory\n",
+        ),
+        (Fault::File("a.l"), 66, "lex: cannot read a.l\n"),
+        (Fault::File("missing.l"), 66, "lex: cannot read missing.l\n"),
+        (Fault::File(""), 66, "lex: cannot read \n"),
+        (Fault::Output, 74, "lex: write fault\n"),
+    ];
+    for &(fault, status, line) in ROWS {
+        assert!(rt; is_told(rt.alloc(), fault, status, line), "{line}");
+    }
+}
+
+#[test]
+fn tells_each_fault_of_a_run(rt: HostRuntime) {
+    const ROWS: &[(RunError, u8, &str)] = &[
+        (RunError::Read, 74, "lex: read fault\n"),
+        (RunError::TooManyReads, 74, "lex: too many reads\n"),
+        (RunError::Write, 74, "lex: write fault\n"),
+        (RunError::OutOfMemory, 71, "lex: out of memory\n"),
+        (RunError::Stack, 70, "lex: condition stack\n"),
+        (RunError::Failed, 74, "lex: failed\n"),
+    ];
+    for &(error, status, line) in ROWS {
+        let fault = Fault::Scan(ScanError::Run(error));
+        assert!(rt; is_told(rt.alloc(), fault, status, line), "{line}");
+    }
+}
+
+const MISSING_OPERAND: SpecErrorKind = SpecErrorKind::Pattern(PatternError {
+    kind: PatternErrorKind::MissingOperand,
+    at: 0,
+});
+
+const TOO_BIG: SpecErrorKind = SpecErrorKind::Pattern(PatternError {
+    kind: PatternErrorKind::TooBig,
+    at: 65_535,
+});
+
+const NO_MEMORY_IN_A_PATTERN: SpecErrorKind = SpecErrorKind::Pattern(PatternError {
+    kind: PatternErrorKind::OutOfMemory,
+    at: 7,
+});
+
+#[test]
+fn tells_each_fault_of_a_specification(rt: HostRuntime) {
+    const ROWS: &[(u32, SpecErrorKind, u8, &str)] = &[
+        (
+            1,
+            SpecErrorKind::NoRulesSection,
+            65,
+            "lex: line 1: NoRulesSection\n",
+        ),
+        (
+            12,
+            SpecErrorKind::BadDefinitionLine,
+            65,
+            "lex: line 12: BadDefinitionLine\n",
+        ),
+        (2, MISSING_OPERAND, 65, "lex: line 2: MissingOperand at 0\n"),
+        (2, TOO_BIG, 65, "lex: line 2: TooBig at 65535\n"),
+        (2, NO_MEMORY_IN_A_PATTERN, 71, "lex: out of memory\n"),
+        (
+            3,
+            SpecErrorKind::UnknownStatement,
+            65,
+            "lex: line 3: UnknownStatement\n",
+        ),
+        (
+            4_098,
+            SpecErrorKind::TooManyRules,
+            65,
+            "lex: line 4098: TooManyRules\n",
+        ),
+        (9, SpecErrorKind::TooLong, 65, "lex: line 9: TooLong\n"),
+        (2, SpecErrorKind::OutOfMemory, 71, "lex: out of memory\n"),
+    ];
+    for &(line, kind, status, told) in ROWS {
+        let error = SpecError { line, kind };
+        let fault = Fault::Scan(ScanError::Generate(GenError::Spec(error)));
+        assert!(rt; is_told(rt.alloc(), fault, status, told), "{told}");
+    }
+}
+
+/// Whether a sink of this room refuses the line, and has these bytes of it.
+fn is_told_within(alloc: Global, room: usize, written: &str) -> bool {
+    let mut sink = MemorySink::failing_after(alloc, room);
+    let got = write_fault(Fault::File("a.l"), &mut sink);
+    got == Err(WriteFault) && sink.written() == written.as_bytes()
+}
+
+#[test]
+fn stops_at_a_write_fault(rt: HostRuntime) {
+    let rows: &[(usize, &str)] = &[
+        (0, ""),
+        (3, "lex"),
+        (9, "lex: cann"),
+        (17, "lex: cannot read "),
+    ];
+    for &(room, written) in rows {
+        assert!(rt; is_told_within(rt.alloc(), room, written), "room {room}");
+    }
+}

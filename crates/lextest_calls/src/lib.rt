@@ -1,0 +1,43 @@
+//! Tests that call the product: turn by turn, by pieces, with ends that fail and memory that is refused, and what a program in C
+//! calls. Callers are named by the pages of crates, and call lexkit and lexscan.
+#![tactic(auto)]
+
+#[cfg(test)]
+mod automata;
+#[cfg(test)]
+mod building;
+pub mod caller;
+#[cfg(test)]
+mod error_words;
+#[cfg(test)]
+mod fault_lines;
+#[cfg(test)]
+mod for_c;
+#[cfg(test)]
+mod longest;
+#[cfg(test)]
+mod looks;
+#[cfg(test)]
+mod machines;
+#[cfg(test)]
+mod packing;
+#[cfg(test)]
+mod pieces;
+#[cfg(test)]
+mod pipelines;
+#[cfg(test)]
+mod plain;
+#[cfg(test)]
+mod refused;
+#[cfg(test)]
+mod reports;
+#[cfg(test)]
+mod scanning;
+#[cfg(test)]
+mod scans;
+#[cfg(test)]
+mod table_files;
+#[cfg(test)]
+mod turns;
+#[cfg(test)]
+mod writers;

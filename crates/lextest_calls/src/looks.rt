@@ -1,0 +1,118 @@
+//! What lexlook leaves where its output fails, and table files that it compares.
+ghost use Rattle.std.specs.Prelude.{◌≡◌};
+
+use lexkit::{MemorySink, Options, Sink, generate, write_tables};
+use lexlook_calls::{Given, LookError, draw, tell_same, tell_words};
+use std::alloc::Global;
+
+const WORDS: &[u8] = b"%%\nif ;\n[a-z]+ ;\n";
+
+/// What is answered of a picture, and what is written of it.
+fn drawn(alloc: Global, mut sink: MemorySink) -> (Result<(), LookError>, Vec<u8>)
+    requires { ⟦<MemorySink as Sink>⟧.failures sink ≡ 0 }
+{
+    let answer = draw(alloc, WORDS, Options::new(), &mut sink);
+    (answer, sink.into_bytes())
+}
+
+#[test]
+fn a_fault_leaves_a_front(rt: HostRuntime) {
+    let (answer, whole) = drawn(rt.alloc(), MemorySink::new(rt.alloc()));
+    assert!(rt; answer.is_ok());
+    for room in 0..whole.len() {
+        let (answer, bytes) = drawn(rt.alloc(), MemorySink::failing_after(rt.alloc(), room));
+        assert!(rt; answer == Err(LookError::Write));
+        assert!(rt; whole.as_slice().starts_with(bytes.as_slice()));
+    }
+}
+
+/// What is answered of the texts of rules, and what is written of them.
+fn told(alloc: Global, mut sink: MemorySink) -> (Result<(), LookError>, Vec<u8>)
+    requires { ⟦<MemorySink as Sink>⟧.failures sink ≡ 0 }
+{
+    let answer = tell_words(alloc, WORDS, Options::new(), &mut sink);
+    (answer, sink.into_bytes())
+}
+
+#[test]
+fn a_fault_leaves_a_front_of_the_lines(rt: HostRuntime) {
+    let (answer, whole) = told(rt.alloc(), MemorySink::new(rt.alloc()));
+    assert!(rt; answer.is_ok());
+    for room in 0..whole.len() {
+        let (answer, written) = told(rt.alloc(), MemorySink::failing_after(rt.alloc(), room));
+        assert!(rt; answer == Err(LookError::Write));
+        assert!(rt; whole.as_slice().starts_with(written.as_slice()));
+    }
+}
+
+/// What is answered of two files, and what is written.
+fn said(
+    alloc: Global,
+    left: &[u8],
+    right: &[u8],
+    mut sink: MemorySink,
+) -> (Result<bool, LookError>, Vec<u8>)
+    requires { ⟦<MemorySink as Sink>⟧.failures sink ≡ 0 }
+{
+    let this = Given {
+        name: "a.l",
+        bytes: left,
+    };
+    let that = Given {
+        name: "b.l",
+        bytes: right,
+    };
+    let answer = tell_same(alloc, this, that, Options::new(), &mut sink);
+    (answer, sink.into_bytes())
+}
+
+/// Whether this is said of two files: nothing where they do the same.
+fn is_said(alloc: Global, left: &[u8], right: &[u8], line: &str) -> bool {
+    let (answer, bytes) = said(alloc, left, right, MemorySink::new(alloc));
+    match answer {
+        Ok(same) => same == line.is_empty() && bytes.as_slice() == line.as_bytes(),
+        Err(_) => false,
+    }
+}
+
+/// The table file of a specification.
+fn table_file(alloc: Global, text: &[u8]) -> Option<Vec<u8>> {
+    let made = match generate(alloc, text, Options::new()) {
+        Ok(made) => made,
+        Err(_) => return None,
+    };
+    let mut sink = MemorySink::new(alloc);
+    match write_tables(&made.tables, &mut sink) {
+        Ok(()) => Some(sink.into_bytes()),
+        Err(_) => None,
+    }
+}
+
+#[test]
+fn compares_table_files(rt: HostRuntime) {
+    let text = b"%x C\n%%\na BEGIN(C);\n<C>b ;\n";
+    let other = b"%x C\n%%\na BEGIN(C);\n<C>b ECHO;\n";
+    let file = table_file(rt.alloc(), text);
+    let other_file = table_file(rt.alloc(), other);
+    let bytes = file.as_deref().unwrap_or(b"");
+    let others = other_file.as_deref().unwrap_or(b"");
+    assert!(rt; is_said(rt.alloc(), bytes, bytes, ""));
+    assert!(rt; is_said(rt.alloc(), bytes, text, ""));
+    assert!(rt; is_said(rt.alloc(), text, bytes, ""));
+    assert!(rt;
+        is_said(
+            rt.alloc(),
+            bytes,
+            other,
+            "in C after \"b\": a.l rule 1, b.l line 4\n"
+        )
+    );
+    assert!(rt;
+        is_said(
+            rt.alloc(),
+            bytes,
+            others,
+            "in condition 1 after \"b\": a.l rule 1, b.l rule 1\n"
+        )
+    );
+}

@@ -1,0 +1,263 @@
+//! What stays where memory is refused. No request is refused in these tests themselves: `scripts/refuse-memory.py` runs
+//! each of them with the first request refused, then the second, and so on. A run must then end well, or fail with the
+//! name of an error that says that memory ran out.
+use crate::building::{machine_of, made};
+use crate::turns::{Turns, go_on, turn};
+use lexkit::{
+    ArgsError, BuildError, Flat, GenError, Job, MemorySink, MemorySource, Options,
+    PatternErrorKind, RunError, ScanError, Sink, SpecErrorKind, TableError, ToWrite, generate,
+    read_args, scan_spec, scan_table,
+};
+use lexscan::{Scanner, Turn, Window, run};
+use std::alloc::{AllocError, Global};
+use std::test::Fail;
+
+/// Each match is given back but for a letter.
+const LETTERS: &str = "%%\n[a-z]+ yyless(1);\n";
+
+const INPUT: &[u8] = b"abcdefghijklmnopqrstuvwxyzabcdefghijklmn";
+
+/// Whether all that was taken from the start of the text on is held after a refused turn, and no turn is taken any
+/// more.
+fn holds_all(scanner: &mut Turns<'_, '_>, start: usize, answer: Result<Turn, RunError>) -> bool {
+    let taken = scanner.taken() as usize;
+    answer == Err(RunError::OutOfMemory)
+        && INPUT.get(start..taken) == Some(scanner.held())
+        && turn(scanner) == Err(RunError::Failed)
+}
+
+/// Whether all turns are taken, or one is refused and holds what it has to.
+fn goes_through(alloc: Global, machine: &Flat) -> bool {
+    let mut source = MemorySource::new(INPUT);
+    let mut sink = MemorySink::new(alloc);
+    let mut scanner = Scanner::new(alloc, machine, &mut source, &mut sink, 10_000);
+    for start in 0..40usize {
+        let answer = turn(&mut scanner);
+        if answer != Ok(Turn::Went) {
+            return holds_all(&mut scanner, start, answer);
+        }
+    }
+    turn(&mut scanner) == Ok(Turn::Ended(0))
+}
+
+/// Goes through all turns. After a refused turn all that was taken from the start of the text on is held, and no turn
+/// is taken any more.
+#[test]
+fn refused_turns(rt: HostRuntime) -> Result<(), Fail> {
+    let machine = machine_of(rt.alloc(), LETTERS)?;
+    assert!(rt; goes_through(rt.alloc(), &machine));
+    Ok(())
+}
+
+/// Each match asks for all the letters, and keeps one.
+const ONE_OF_MANY: &str = "%%\na ;\na*b ;\n";
+
+const THOUSAND: &[u8] = &[b'a'; 1_000];
+
+/// Whether each turn is taken once all bytes are, or the first one is refused.
+fn takes_each_turn(alloc: Global, machine: &Flat) -> bool {
+    let mut source = MemorySource::new(THOUSAND);
+    let mut sink = MemorySink::new(alloc);
+    let mut scanner = Scanner::new(alloc, machine, &mut source, &mut sink, 10_000);
+    if turn(&mut scanner) == Err(RunError::OutOfMemory) {
+        return true;
+    }
+    let went = go_on(&mut scanner, 999);
+    turn(&mut scanner) == Ok(Turn::Ended(0)) && went
+}
+
+/// Where memory for marks of walks in vain is refused, that is not told: once all bytes are taken, each turn is taken.
+#[test]
+fn refused_marks(rt: HostRuntime) -> Result<(), Fail> {
+    let machine = machine_of(rt.alloc(), ONE_OF_MANY)?;
+    assert!(rt; takes_each_turn(rt.alloc(), &machine));
+    Ok(())
+}
+
+/// Whether a run ends well or tells that memory ran out, and nothing is written by it.
+fn runs_well(alloc: Global, machine: &Flat) -> bool {
+    let mut source = MemorySource::new(INPUT);
+    let mut sink = MemorySink::new(alloc);
+    let result = run(alloc, machine, &mut source, &mut sink, 10_000);
+    let told = result == Ok(0) || result == Err(RunError::OutOfMemory);
+    told && sink.written().is_empty()
+}
+
+/// A run ends well, or tells that memory ran out; nothing is written by it.
+#[test]
+fn refused_run(rt: HostRuntime) -> Result<(), Fail> {
+    let machine = machine_of(rt.alloc(), LETTERS)?;
+    assert!(rt; runs_well(rt.alloc(), &machine));
+    Ok(())
+}
+
+/// A specification, an input, what is written, and the status.
+type Scan = (&'static [u8], &'static [u8], &'static [u8], u8);
+
+/// Scans with REJECT, with conditions, with names, and one that is warned of.
+const SCANS: &[Scan] = &[
+    (
+        b"%%\na |\nab |\nabc |\nabcd ECHO; REJECT;\n.|\\n ;\n",
+        b"abcd",
+        b"abcdabcaba",
+        0,
+    ),
+    (
+        b"%x C\n%%\n\"/*\" BEGIN(C);\n<C>\"*/\" BEGIN(INITIAL);\n<C>.|\\n ;\n<C><<EOF>> printf(\"open\"); exit(3);\n",
+        b"a/*b*/c/*d",
+        b"acopen",
+        3,
+    ),
+    (
+        b"N {D}+\nD [0-9]\n%%\n{N}\".\"{N} printf(\"F\");\n",
+        b"aa",
+        b"aa",
+        0,
+    ),
+    (
+        b"%{\nint n;\n%}\n%%\na+ ;\naa ;\n%%\nint main(){}\n",
+        b"aa",
+        b"",
+        0,
+    ),
+];
+
+/// Whether the fault of a specification says that memory ran out, in the words of its layer.
+fn is_want_of_memory(error: GenError) -> bool {
+    match error {
+        GenError::OutOfMemory | GenError::Build(BuildError::OutOfMemory) => true,
+        GenError::Build(_) => false,
+        GenError::Spec(fault) => match fault.kind {
+            SpecErrorKind::OutOfMemory => true,
+            SpecErrorKind::Pattern(fault) => fault.kind == PatternErrorKind::OutOfMemory,
+            _ => false,
+        },
+    }
+}
+
+/// Tables are made, or memory ran out.
+#[test]
+fn refused_generate(rt: HostRuntime) -> Result<(), Fail> {
+    for &(text, ..) in SCANS {
+        match generate(rt.alloc(), text, Options::new()) {
+            Ok(_) => {}
+            Err(error) => {
+                assert!(rt; is_want_of_memory(error), "{error:?}");
+                return Err(error)?;
+            }
+        }
+    }
+    Ok(())
+}
+
+/// Whether the fault of a scan says that memory ran out: before anything is read or written, or in the scan.
+fn is_want_in_a_scan(error: ScanError, calls: u64, written: &[u8]) -> bool {
+    match error {
+        ScanError::Generate(fault) => {
+            is_want_of_memory(fault) && calls == 0 && written.is_empty()
+        }
+        other => other == ScanError::Run(RunError::OutOfMemory),
+    }
+}
+
+/// What a scan answers, and whether it wrote all, or a beginning of it where memory ran out.
+type Scanned = (Result<u8, ScanError>, bool);
+
+fn scanned(alloc: Global, row: &Scan) -> Result<Scanned, AllocError> {
+    let (text, input, want, status) = *row;
+    let mut source = MemorySource::new(input);
+    let mut sink = ToWrite::new(Vec::with_capacity(alloc, 16)?);
+    let got = scan_spec(alloc, text, Options::new(), &mut source, &mut sink);
+    let written = sink.into_inner();
+    let so = match got {
+        Ok(answer) => answer == status && written.len() == want.len(),
+        Err(error) => is_want_in_a_scan(error, source.calls(), &written),
+    };
+    Ok((got, so && want.starts_with(&written)))
+}
+
+/// A scan writes all, or memory ran out: before anything is read, or in the scan.
+#[test]
+fn refused_scan_spec(rt: HostRuntime) -> Result<(), Fail> {
+    for row in SCANS {
+        let (got, so) = scanned(rt.alloc(), row)?;
+        assert!(rt; so, "{got:?}");
+        got?;
+    }
+    Ok(())
+}
+
+/// The same of the fault of a scan by a table file.
+fn is_want_by_table(error: ScanError, calls: u64, written: &[u8]) -> bool {
+    if error == ScanError::Table(TableError::OutOfMemory) {
+        calls == 0 && written.is_empty()
+    } else {
+        error == ScanError::Run(RunError::OutOfMemory)
+    }
+}
+
+fn scanned_by_table(alloc: Global, file: &[u8]) -> Result<Scanned, AllocError> {
+    let mut source = MemorySource::new(b"if iff");
+    let mut sink = ToWrite::new(Vec::with_capacity(alloc, 16)?);
+    let got = scan_table(alloc, file, &mut source, &mut sink);
+    let written = sink.into_inner();
+    let so = match got {
+        Ok(answer) => answer == 0 && written.len() == 3,
+        Err(error) => is_want_by_table(error, source.calls(), &written),
+    };
+    Ok((got, so && b"K I".starts_with(&written)))
+}
+
+/// The same by a table file.
+#[test]
+fn refused_scan_table(rt: HostRuntime) -> Result<(), Fail> {
+    let text = b"%%\nif printf(\"K\");\n[a-z]+ printf(\"I\");\n";
+    let file = made(rt.alloc(), text)?;
+    let (got, so) = scanned_by_table(rt.alloc(), file.written())?;
+    assert!(rt; so, "{got:?}");
+    got?;
+    Ok(())
+}
+
+/// A window that was refused room holds what it held.
+#[test]
+fn refused_room(rt: HostRuntime) -> Result<(), Fail> {
+    let mut window = Window::new(rt.alloc());
+    for (at, &byte) in INPUT.iter().enumerate() {
+        let room = window.reserve();
+        assert!(rt; INPUT.get(..at) == Some(window.slice(0, window.len())));
+        if room.is_err() {
+            return Ok(());
+        }
+        window.push(byte);
+    }
+    Ok(())
+}
+
+/// What the words of a line ask for.
+fn job_of(alloc: Global, line: &[&str]) -> Result<Result<Job, ArgsError>, AllocError> {
+    let mut words = Vec::new(alloc);
+    for word in line {
+        words.push(String::from_str(alloc, *word)?)?;
+    }
+    Ok(read_args(alloc, words.as_slice()))
+}
+
+/// The words of a command line are read, or memory ran out.
+#[test]
+fn refused_words(rt: HostRuntime) -> Result<(), Fail> {
+    const LINES: &[(&[&str], bool)] = &[
+        (&["-tv", "a.l"], true),
+        (&["--scan-spec"], false),
+        (&["--scan-spec", "a", "--scan-table", "b"], false),
+        (&["--scan-table", "b"], true),
+    ];
+    for &(line, is_read) in LINES {
+        match job_of(rt.alloc(), line)? {
+            Ok(_) => assert!(rt; is_read, "{line:?}"),
+            Err(ArgsError::Usage) => assert!(rt; !is_read, "{line:?}"),
+            Err(ArgsError::OutOfMemory) => {}
+        }
+    }
+    Ok(())
+}

@@ -1,0 +1,90 @@
+//! Scans over memory. What they promise is left out, so that what calls them is proved in less time.
+ghost use Rattle.std.specs.Prelude.{◌≡◌};
+
+use lexkit::{MemorySink, MemorySource, Options, ScanError, Sink, Source, scan_spec, scan_table};
+use lexspec::ReadOptions;
+use std::alloc::Global;
+
+/// Patterns as they stand.
+pub(crate) const PLAIN: ReadOptions = ReadOptions {
+    fold: false,
+    posix: false,
+};
+
+/// Where a source or a sink fails: nowhere, after so many bytes, or in a flush; or where a source answers its end once,
+/// after so many bytes.
+#[derive(Clone, Copy)]
+pub(crate) enum Failing {
+    Never,
+    Read(usize),
+    End(usize),
+    Write(usize),
+    Flush,
+}
+
+/// A source of these bytes that fails there.
+pub(crate) fn source_that<'a>(failing: Failing, input: &'a [u8]) -> MemorySource<'a>
+    ensures ends { ⟦<MemorySource<'a> as Source>⟧.ends result ≡ 0 }
+    ensures failures { ⟦<MemorySource<'a> as Source>⟧.failures result ≡ 0 }
+{
+    match failing {
+        Failing::Read(given) => MemorySource::failing_after(input, given),
+        Failing::End(given) => MemorySource::ending_after(input, given),
+        _ => MemorySource::new(input),
+    }
+}
+
+/// A sink that fails there.
+pub(crate) fn sink_that(alloc: Global, failing: Failing) -> MemorySink
+    ensures failures { ⟦<MemorySink as Sink>⟧.failures result ≡ 0 }
+{
+    match failing {
+        Failing::Write(room) => MemorySink::failing_after(alloc, room),
+        Failing::Flush => MemorySink::failing_flush(alloc),
+        _ => MemorySink::new(alloc),
+    }
+}
+
+/// What a scan answers and writes, and how often the source is called.
+#[derive(Drop)]
+pub(crate) struct Scan {
+    pub(crate) answer: Result<u8, ScanError>,
+    pub(crate) sink: MemorySink,
+    pub(crate) calls: u64,
+}
+
+impl Scan {
+    /// Whether this is answered, and this is written.
+    pub(crate) fn does(&self, answer: Result<u8, ScanError>, written: &[u8]) -> bool {
+        self.answer == answer && self.sink.written() == written
+    }
+
+    /// Whether nothing is read, and nothing is written.
+    pub(crate) fn touches_nothing(&self) -> bool {
+        self.calls == 0 && self.sink.written().is_empty()
+    }
+}
+
+/// A scan by a specification.
+pub(crate) fn scanned(alloc: Global, text: &[u8], input: &[u8], failing: Failing) -> Scan {
+    let mut source = source_that(failing, input);
+    let mut sink = sink_that(alloc, failing);
+    let answer = scan_spec(alloc, text, Options::new(), &mut source, &mut sink);
+    Scan {
+        answer,
+        sink,
+        calls: source.calls(),
+    }
+}
+
+/// A scan by a table file.
+pub(crate) fn scanned_by_table(alloc: Global, file: &[u8], input: &[u8]) -> Scan {
+    let mut source = MemorySource::new(input);
+    let mut sink = MemorySink::new(alloc);
+    let answer = scan_table(alloc, file, &mut source, &mut sink);
+    Scan {
+        answer,
+        sink,
+        calls: source.calls(),
+    }
+}

@@ -1,0 +1,170 @@
+//! Table files whose bytes are worked with: each front of one, and the greatest.
+ghost use Rattle.std.specs.Prelude.{◌<◌};
+
+use crate::building::made;
+use crate::scanning::scanned_by_table;
+use lexkit::{MemorySink, ScanError, TableError, Tables, WriteFault, read_tables, write_tables};
+use std::alloc::{AllocError, Global};
+use std::test::Fail;
+
+const KEYS: &[u8] = b"%%\nif printf(\"K\");\n[a-z]+ printf(\"I\");\n";
+
+/// The file of the rules `if` and `[a-z]+`.
+fn worked(alloc: Global) -> Result<Vec<u8>, Fail> {
+    Ok(made(alloc, KEYS)?.into_bytes())
+}
+
+/// Why the bytes are no table file, where a scan by them is refused for it too, and touches nothing.
+fn refusal(alloc: Global, bytes: &[u8]) -> Option<TableError> {
+    let error = read_tables(alloc, bytes).err()?;
+    let scan = scanned_by_table(alloc, bytes, b"a");
+    let refused = scan.answer == Err(ScanError::Table(error)) && scan.touches_nothing();
+    if refused { Some(error) } else { None }
+}
+
+/// Whether the bytes are no table file, for this reason.
+fn is_no_file(alloc: Global, bytes: &[u8], error: TableError) -> bool {
+    refusal(alloc, bytes) == Some(error)
+}
+
+/// Whether the bytes are a table's, which is written as they are.
+fn is_rewritten(alloc: Global, bytes: &[u8]) -> bool {
+    match rewritten(alloc, bytes) {
+        Ok(sink) => sink.written() == bytes,
+        Err(_) => false,
+    }
+}
+
+/// What is written of the table that is read from the bytes.
+fn rewritten(alloc: Global, bytes: &[u8]) -> Result<MemorySink, TableError> {
+    let tables = read_tables(alloc, bytes)?;
+    let mut sink = MemorySink::new(alloc);
+    match write_tables(&tables, &mut sink) {
+        Ok(()) => Ok(sink),
+        Err(_) => Err(TableError::OutOfMemory),
+    }
+}
+
+/// Whether a table has so many conditions, rules and classes.
+fn counts(tables: &Tables, conditions: usize, rules: usize, classes: u32) -> bool {
+    let parts = tables.parts();
+    parts.conditions.len() == conditions && parts.rules.len() == rules && parts.classes == classes
+}
+
+/// Whether a table has so many rows, and these two columns of slots.
+fn has_slots(tables: &Tables, rows: usize, checks: &[u32], nexts: &[u32]) -> bool {
+    let parts = tables.parts();
+    parts.rows.len() == rows && parts.checks.as_slice() == checks && parts.nexts.as_slice() == nexts
+}
+
+#[test]
+fn a_file_is_read(rt: HostRuntime) -> Result<(), Fail> {
+    let worked = worked(rt.alloc())?;
+    let tables = read_tables(rt.alloc(), &worked)?;
+    assert!(rt; counts(&tables, 1, 2, 4));
+    let checks = [1, 2, 3, 1, 3, 4, 0, 0, 0];
+    assert!(rt; has_slots(&tables, 5, &checks, &[0, 0, 0, 3, 4, 0, 0, 0, 0]));
+    Ok(())
+}
+
+#[test]
+fn no_file_is_a_prefix_of_another(rt: HostRuntime) -> Result<(), Fail> {
+    let alloc = rt.alloc();
+    let worked = worked(alloc)?;
+    for (n, _) in worked.iter().enumerate() {
+        assert!(rt; is_no_file(alloc, &worked[..n], TableError::Truncated));
+    }
+    let mut longer = worked;
+    longer.push(0)?;
+    assert!(rt; is_no_file(alloc, &longer, TableError::TrailingBytes));
+    Ok(())
+}
+
+/// The number of a digit, as a letter of a number to the base 16.
+fn digit_of(digit: u8) -> u8
+    requires { digit < 16 }
+{
+    if digit < 10 {
+        b'0' + digit
+    } else {
+        b'a' + (digit - 10)
+    }
+}
+
+/// Adds a rule of this byte.
+fn add_byte(text: &mut Vec<u8>, byte: u8) -> Result<(), AllocError> {
+    let rule = [
+        b'\\',
+        b'x',
+        digit_of(byte / 16),
+        digit_of(byte % 16),
+        b' ',
+        b';',
+        b'\n',
+    ];
+    text.extend_from_slice(&rule)
+}
+
+/// `%x` and this many names: of one letter, of two, and so on.
+fn conditions(alloc: Global, count: u32) -> Result<Vec<u8>, AllocError> {
+    let mut text = Vec::from_slice(alloc, b"%x".as_slice())?;
+    let mut name = Vec::from_slice(alloc, b" ".as_slice())?;
+    for _ in 0..count {
+        name.push(b'c')?;
+        text.extend_from_slice(&name)?;
+    }
+    text.extend_from_slice(b"\n%%\n")?;
+    Ok(text)
+}
+
+/// A specification of 255 conditions, of 4,096 rules, and of 256 bytes that no two rules read alike.
+fn greatest(alloc: Global) -> Result<Vec<u8>, AllocError> {
+    let mut text = conditions(alloc, 254)?;
+    for byte in 0..=255u8 {
+        add_byte(&mut text, byte)?;
+    }
+    for _ in 0..3_840 {
+        text.extend_from_slice(b"aa ;\n")?;
+    }
+    Ok(text)
+}
+
+/// The file of the most conditions, rules and classes of bytes is read back.
+#[test]
+fn the_greatest_counts_are_read(rt: HostRuntime) -> Result<(), Fail> {
+    let alloc = rt.alloc();
+    let text = greatest(alloc)?;
+    let sink = made(alloc, &text)?;
+    let file = sink.written();
+    let tables = read_tables(alloc, file)?;
+    assert!(rt; counts(&tables, 255, 4_096, 256));
+    assert!(rt; is_rewritten(alloc, file));
+    Ok(())
+}
+
+/// A fault before the place where the file is cut short is the one that is named.
+#[test]
+fn the_fault_before_the_end_is_named(rt: HostRuntime) -> Result<(), Fail> {
+    let mut bytes = worked(rt.alloc())?;
+    assert!(rt; bytes.len() == 471);
+    bytes[100] = 4;
+    bytes.truncate(200);
+    assert!(rt; is_no_file(rt.alloc(), &bytes, TableError::BadField(100)));
+    Ok(())
+}
+
+/// Whether a sink that takes just these bytes refuses the table, and has them.
+fn fills_a_sink(alloc: Global, tables: &Tables, prefix: &[u8]) -> bool {
+    let mut sink = MemorySink::failing_after(alloc, prefix.len());
+    write_tables(tables, &mut sink) == Err(WriteFault) && sink.written() == prefix
+}
+
+#[test]
+fn a_prefix_is_written(rt: HostRuntime) -> Result<(), Fail> {
+    let worked = worked(rt.alloc())?;
+    let tables = read_tables(rt.alloc(), &worked)?;
+    for (n, _) in worked.iter().enumerate() {
+        assert!(rt; fills_a_sink(rt.alloc(), &tables, &worked[..n]), "{n}");
+    }
+    Ok(())
+}
