@@ -17,3 +17,5 @@ pub mod Turns
 pub mod Ties
 pub mod Scanners
 pub mod Pushes
+pub mod Steps
+pub mod Scans

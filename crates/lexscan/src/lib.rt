@@ -6,6 +6,7 @@ mod attempt;
 mod burst;
 mod further;
 mod push;
+mod scan;
 mod scanner;
 mod turn;
 mod whole;

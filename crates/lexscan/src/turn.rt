@@ -16,7 +16,8 @@ ghost use Rattle.lexscan_window.specs.Memos.{AreTrue};
 ghost use Rattle.lexscan.specs.Stands.{MakesTurn};
 ghost use Rattle.lexscan.specs.Ties.{HandedOn};
 ghost use Rattle.lexscan.specs.Turns.{TurnCounts, MoveLeft, MayMove, MayTurn};
-ghost use Rattle.lexscan.specs.Moves.{stays, left_bytes, left_at, Left, EndLeft, EndsScan, EndsTurn, MatchLeft, Moved};
+ghost use Rattle.lexscan.specs.Moves.{stays, left_bytes, left_at, Left, EndLeft, Moved};
+ghost use Rattle.lexscan.specs.Steps.{TurnFinished, MatchTurned};
 
 use lex_io::{Sink, Source};
 use lex_machine::Machine;
@@ -82,10 +83,7 @@ fn finish_turn<K: Sink>(
     requires live { can_write outlet.old ≡ true }
     requires inside { state.old.acting.end ≤ length state.old.reading.window.bytes }
 
-    ensures same { sink_name outlet.new ≡ sink_name outlet.old }
-    ensures handed_on { HandedOn (K.flushed (sink_of outlet.new)) result }
-    ensures ends { EndsScan K.wrote K.failures (sink_of outlet.old) (sink_of outlet.new) (can_write outlet.new)
-        state.old state.new finish result }
+    ensures { TurnFinished outlet.old outlet.new state.old state.new (Some finish) result }
 {
     match flush(outlet) {
         Err(e) => Err(e),
@@ -111,10 +109,7 @@ fn leave_match<K: Sink>(
     requires live { can_write outlet.old ≡ true }
     requires inside { state.old.acting.end ≤ length state.old.reading.window.bytes }
 
-    ensures same { sink_name outlet.new ≡ sink_name outlet.old }
-    ensures handed_on { HandedOn (K.flushed (sink_of outlet.new)) result }
-    ensures ends { EndsTurn K.wrote K.failures (sink_of outlet.old) (sink_of outlet.new) (can_write outlet.new)
-        state.old state.new finish result }
+    ensures { TurnFinished outlet.old outlet.new state.old state.new finish result }
 {
     match finish {
         Some(finish) => finish_turn(outlet, state, finish),
@@ -137,10 +132,7 @@ fn match_turn<M: Machine, K: Sink>(
     requires inside { state.old.place.at + length path.now.states ≤ length state.old.reading.window.bytes }
     requires known { (s : ℕ) → Among path.now.states s → s < M.states machine.now }
 
-    ensures same { sink_name outlet.new ≡ sink_name outlet.old }
-    ensures handed_on { HandedOn (K.flushed (sink_of outlet.new)) result }
-    ensures left { MatchLeft (M.machine machine.now) K.wrote K.failures (sink_of outlet.old) (sink_of outlet.new)
-        (can_write outlet.new) state.old state.new path.now.states result }
+    ensures { MatchTurned (M.machine machine.now) outlet.old outlet.new state.old state.new path.now.states result }
 {
     state.acting.end = 0;
     state.acting.condition = state.place.condition;
@@ -187,10 +179,7 @@ fn carry_turn<M: Machine, K: Sink>(
     requires some { 1 ≤ reach }
     requires longest { IsLongest (M.machine machine.now) state.old.place state.old.reading.window.bytes reach pick }
 
-    ensures same { sink_name outlet.new ≡ sink_name outlet.old }
-    ensures handed_on { HandedOn (K.flushed (sink_of outlet.new)) result }
-    ensures left { MatchLeft (M.machine machine.now) K.wrote K.failures (sink_of outlet.old) (sink_of outlet.new)
-        (can_write outlet.new) state.old state.new
+    ensures { MatchTurned (M.machine machine.now) outlet.old outlet.new state.old state.new
         (path_of (M.machine machine.now) state.old.place state.old.reading.window.bytes reach) result }
 {
     state.acting.condition = state.place.condition;
@@ -226,10 +215,7 @@ fn far_turn<M: Machine, K: Sink>(
     requires place { state.old.place.at + reach ≤ length state.old.reading.window.bytes }
     requires some { 1 ≤ reach }
 
-    ensures same { sink_name outlet.new ≡ sink_name outlet.old }
-    ensures handed_on { HandedOn (K.flushed (sink_of outlet.new)) result }
-    ensures left { MatchLeft (M.machine machine.now) K.wrote K.failures (sink_of outlet.old) (sink_of outlet.new)
-        (can_write outlet.new) state.old state.new
+    ensures { MatchTurned (M.machine machine.now) outlet.old outlet.new state.old state.new
         (path_of (M.machine machine.now) state.old.place state.old.reading.window.bytes reach) result }
 {
     let pick = walk_again(machine, &state.reading.window, state.place, reach);
@@ -238,7 +224,7 @@ fn far_turn<M: Machine, K: Sink>(
 
 /// The same for a machine without REJECT, by the longest match alone.
 #[inline(always)]
-fn last_turn<M: Machine, K: Sink>(
+pub fn last_turn<M: Machine, K: Sink>(
     machine: &M,
     outlet: &mut Outlet<'_, K>,
     state: &mut State,
@@ -250,10 +236,7 @@ fn last_turn<M: Machine, K: Sink>(
     requires tells { Tells (M.machine machine.now) (M.states machine.now) state.old.place
         state.old.reading.window.bytes ahead }
 
-    ensures same { sink_name outlet.new ≡ sink_name outlet.old }
-    ensures handed_on { HandedOn (K.flushed (sink_of outlet.new)) result }
-    ensures left { MatchLeft (M.machine machine.now) K.wrote K.failures (sink_of outlet.old) (sink_of outlet.new)
-        (can_write outlet.new) state.old state.new
+    ensures { MatchTurned (M.machine machine.now) outlet.old outlet.new state.old state.new
         (path_of (M.machine machine.now) state.old.place state.old.reading.window.bytes ahead.reach) result }
 {
     if let Some(pick) = near_end(machine, &state.reading.window, state.place, ahead) {
@@ -266,7 +249,7 @@ fn last_turn<M: Machine, K: Sink>(
 }
 
 /// The end action of the condition.
-fn end_turn<M: Machine, K: Sink>(
+pub fn end_turn<M: Machine, K: Sink>(
     machine: &M,
     outlet: &mut Outlet<'_, K>,
     state: &mut State,

@@ -11,9 +11,11 @@ ghost use Rattle.lexscan.specs.Stands.{Stands};
 ghost use Rattle.lexscan.specs.Ties.{RunHandedOn};
 ghost use Rattle.lexscan.specs.Runs.{Ran, FewReads, RunCounts};
 ghost use Rattle.lexscan.specs.Turns.{MayTurn};
+ghost use Rattle.lexscan.specs.Scans.{SameParts, Starts, RunsOver};
 
 use crate::further::{MOST_SHOWN, go_further};
-use crate::turn::{Turn, back_turn, has_backlog, turn_with_reject, turn_without_reject};
+use crate::scan::{Ends, Scan};
+use crate::turn::{Turn, back_turn, has_backlog, turn_with_reject};
 use lex_io::{Sink, Source};
 use lex_machine::Machine;
 use lexscan_window::{Intake, Memo, Outlet, RunError, State, StatePath};
@@ -41,19 +43,17 @@ pub fn run<M: Machine, S: Source, K: Sink>(
     ensures not_failed { IsErrOf result RunError.Failed → ⊥ }
     ensures handed_on { RunHandedOn (K.flushed sink.new) result }
 {
-    let mut intake = Intake::new(source);
-    let mut outlet = Outlet::new(sink);
-    let mut path = StatePath::new(alloc);
-    let mut memo = Memo::new(alloc);
-    let mut state = State::new(alloc, max_reads);
-    let result = run_turns(
-        machine,
-        &mut intake,
-        &mut outlet,
-        &mut path,
-        &mut memo,
-        &mut state,
-    );
+    let mut ends = Ends {
+        intake: Intake::new(source),
+        outlet: Outlet::new(sink),
+    };
+    let mut scan = Scan {
+        path: StatePath::new(alloc),
+        memo: Memo::new(alloc),
+        state: State::new(alloc, max_reads),
+    };
+    let result = run_turns(machine, &mut ends, &mut scan);
+    let Ends { intake, outlet } = ends;
     let _source = intake.into_inner();
     let _sink = outlet.into_inner();
     result
@@ -62,34 +62,27 @@ pub fn run<M: Machine, S: Source, K: Sink>(
 /// Turns until the end.
 fn run_turns<M: Machine, S: Source, K: Sink>(
     machine: &M,
-    intake: &mut Intake<'_, S>,
-    outlet: &mut Outlet<'_, K>,
-    path: &mut StatePath,
-    memo: &mut Memo,
-    state: &mut State,
+    ends: &mut Ends<'_, '_, S, K>,
+    scan: &mut Scan,
 ) -> Result<u8, RunError>
-    requires start { Stands (M.machine machine.now) 0 [] [] state.old }
-    requires going { state.old.ended ≡ None }
-    requires reading { state.old.reading.at_end ≡ false }
-    requires ready { MayTurn (M.machine machine.now) (can_read intake.old) (can_write outlet.old) state.old }
-    requires inside { state.old.place.at ≤ length state.old.reading.window.bytes }
-    requires marks { AreTrue (M.machine machine.now) state.old.reading memo.old }
+    requires starts { Starts (M.machine machine.now) ends.old scan.old }
 
-    ensures same_source { source_name intake.new ≡ source_name intake.old }
-    ensures same_sink { sink_name outlet.new ≡ sink_name outlet.old }
-    ensures ran { (given : List ℕ) × (out : List ℕ) × S.gave (source_of intake.old) given (source_of intake.new)
-        × K.wrote (sink_of outlet.old) out (sink_of outlet.new)
-        × Ran (rules_of_machine (M.machine machine.now)) given out
-        (nat_lt (S.ends (source_of intake.old)) (S.ends (source_of intake.new))) state.old.reading.max_reads result
-        × FewReads S.ends S.failures (source_of intake.old) (source_of intake.new) given state.old.reading.max_reads }
-    ensures counts { RunCounts S.ends S.failures K.failures (source_of intake.old) (source_of intake.new)
-        (sink_of outlet.old) (sink_of outlet.new) result }
-    ensures handed_on { RunHandedOn (K.flushed (sink_of outlet.new)) result }
+    ensures same { SameParts ends.old ends.new }
+    ensures ran { RunsOver (M.machine machine.now) ends.old ends.new scan.old result }
+    ensures counts { RunCounts S.ends S.failures K.failures (source_of ends.old.intake) (source_of ends.new.intake)
+        (sink_of ends.old.outlet) (sink_of ends.new.outlet) result }
+    ensures handed_on { RunHandedOn (K.flushed (sink_of ends.new.outlet)) result }
 {
     if machine.rejects() {
-        run_with_reject(machine, intake, outlet, path, state)
+        run_with_reject(
+            machine,
+            &mut ends.intake,
+            &mut ends.outlet,
+            &mut scan.path,
+            &mut scan.state,
+        )
     } else {
-        run_without_reject(machine, intake, outlet, memo, state)
+        run_without_reject(machine, ends, scan)
     }
 }
 
@@ -133,40 +126,40 @@ fn run_with_reject<M: Machine, S: Source, K: Sink>(
 /// are made in one go, but for those over many bytes that an earlier match has asked for.
 fn run_without_reject<M: Machine, S: Source, K: Sink>(
     machine: &M,
-    intake: &mut Intake<'_, S>,
-    outlet: &mut Outlet<'_, K>,
-    memo: &mut Memo,
-    state: &mut State,
+    ends: &mut Ends<'_, '_, S, K>,
+    scan: &mut Scan,
 ) -> Result<u8, RunError>
     requires no_reject { NoReject (M.machine machine.now) }
-    requires start { Stands (M.machine machine.now) 0 [] [] state.old }
-    requires going { state.old.ended ≡ None }
-    requires reading { state.old.reading.at_end ≡ false }
-    requires ready { MayTurn (M.machine machine.now) (can_read intake.old) (can_write outlet.old) state.old }
-    requires inside { state.old.place.at ≤ length state.old.reading.window.bytes }
-    requires marks { AreTrue (M.machine machine.now) state.old.reading memo.old }
+    requires starts { Starts (M.machine machine.now) ends.old scan.old }
 
-    ensures same_source { source_name intake.new ≡ source_name intake.old }
-    ensures same_sink { sink_name outlet.new ≡ sink_name outlet.old }
-    ensures ran { (given : List ℕ) × (out : List ℕ) × S.gave (source_of intake.old) given (source_of intake.new)
-        × K.wrote (sink_of outlet.old) out (sink_of outlet.new)
-        × Ran (rules_of_machine (M.machine machine.now)) given out
-        (nat_lt (S.ends (source_of intake.old)) (S.ends (source_of intake.new))) state.old.reading.max_reads result
-        × FewReads S.ends S.failures (source_of intake.old) (source_of intake.new) given state.old.reading.max_reads }
-    ensures counts { RunCounts S.ends S.failures K.failures (source_of intake.old) (source_of intake.new)
-        (sink_of outlet.old) (sink_of outlet.new) result }
-    ensures handed_on { RunHandedOn (K.flushed (sink_of outlet.new)) result }
+    ensures same { SameParts ends.old ends.new }
+    ensures ran { RunsOver (M.machine machine.now) ends.old ends.new scan.old result }
+    ensures counts { RunCounts S.ends S.failures K.failures (source_of ends.old.intake) (source_of ends.new.intake)
+        (sink_of ends.old.outlet) (sink_of ends.new.outlet) result }
+    ensures handed_on { RunHandedOn (K.flushed (sink_of ends.new.outlet)) result }
 {
     let mut most = MOST_SHOWN;
     'turns: loop {
-        if has_backlog(state) {
-            match back_turn(machine, intake, outlet, memo, state)? {
+        if has_backlog(&scan.state) {
+            match back_turn(
+                machine,
+                &mut ends.intake,
+                &mut ends.outlet,
+                &mut scan.memo,
+                &mut scan.state,
+            )? {
                 Turn::Ended(status) => return Ok(status),
                 Turn::Went => {}
             }
         } else {
-            most = go_further(machine, intake, outlet, state, most)?;
-            match turn_without_reject(machine, intake, outlet, state)? {
+            most = go_further(
+                machine,
+                &mut ends.intake,
+                &mut ends.outlet,
+                &mut scan.state,
+                most,
+            )?;
+            match scan.turn_without_reject(machine, ends)? {
                 Turn::Ended(status) => return Ok(status),
                 Turn::Went => {}
             }

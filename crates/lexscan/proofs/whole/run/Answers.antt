@@ -16,6 +16,3 @@ returns-clause-read_faults = grind (arith, common_steps)
 
 pub returns-clause-write_faults : goal.returns-clause-write_faults
 returns-clause-write_faults = grind (arith, common_steps)
-
-pub run_turns-result-requires-clause-marks : goal.run_turns-result-requires-clause-marks
-run_turns-result-requires-clause-marks = grind (arith, common_steps)
