@@ -10,6 +10,7 @@ use Rattle.lex_semantics.specs.Run.{Run}
 use Rattle.lex_semantics.specs.Scanned.{AfterTurns}
 use Rattle.lex_semantics.specs.Machine.{Machine, walk, rules_of_machine}
 use Rattle.lexscan_window.specs.declared.state.State.{State}
+use Rattle.lexscan_window.specs.declared.state.TextPlace.{TextPlace}
 use Rattle.lexscan.specs.declared.turn.Turn.{Turn}
 use Rattle.lexscan_window.specs.declared.error.RunError.{RunError}
 use Rattle.lexscan_window.specs.declared.error.RunError.TheVariants.{Stack}
@@ -40,6 +41,17 @@ abbrev pub MayGoOn : Machine → Bool → Bool → State → Result (Option Turn
 MayGoOn M source_live sink_live new (Ok (Some turn)) = MayTurn M source_live sink_live new
 MayGoOn M source_live sink_live new (Ok None) = (new.place.condition < M.conditions) × AllBelow M.conditions new.acting.stack
 MayGoOn M source_live sink_live new (Err e) = new.failed ≡ true
+
+-- The scan went back to where a turn began: to its place and its conditions, with as many bytes held and taken as there.
+pub record WentBack (p : TextPlace) (conditions : List ℕ) (count before : ℕ) (old new : State) : Type 0 where
+  pub held : new.reading.window.bytes ≡ take count old.reading.window.bytes
+  pub taken : new.reading.taken ≡ before
+  pub at_end : new.reading.at_end ≡ old.reading.at_end
+  pub max_reads : new.reading.max_reads ≡ old.reading.max_reads
+  pub place : new.place ≡ p
+  pub stack : new.acting.stack ≡ conditions
+  pub ended : new.ended ≡ None
+  pub failed : new.failed ≡ false
 
 abbrev pub HandedOnIfMade : Bool → Result (Option Turn) RunError → Type 0
 HandedOnIfMade flushed (Ok (Some turn)) = HandedOn flushed (Ok turn)

@@ -44,4 +44,4 @@ module _ {M : Type 0} {of_machine : Machine.Ghosts M} where
 
   -- what it keeps beside these
   abbrev pub push_state : PushScanner M of_machine → State
-  push_state s = s.state
+  push_state s = s.scan.state

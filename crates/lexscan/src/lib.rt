@@ -4,7 +4,10 @@
 mod asking;
 mod attempt;
 mod burst;
+mod carry;
+mod find;
 mod further;
+mod leave;
 mod push;
 mod scan;
 mod scanner;

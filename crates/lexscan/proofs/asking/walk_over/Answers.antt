@@ -29,15 +29,3 @@ loop-byte-preserved g c =
       | inr few ↦ c.loop-byte.invariant.goes i some few
       | inl more ↦ (let e : n + 1 ≡ i = omega (arith, more, le) in subst (λ k. M.goes_on (walk M c.args.first (take k c.args.bytes.now)) ≡ true) e (ap M.goes_on (sym walked) ∙ on))
     ]
-
-pub returns-clause-known : goal.returns-clause-known
-returns-clause-known = grind (arith, common_steps)
-
-pub returns-clause-walked : goal.returns-clause-walked
-returns-clause-walked = grind (arith, common_steps)
-
-pub returns-then-not-goes_on-clause-known : goal.returns-then-not-goes_on-clause-known
-returns-then-not-goes_on-clause-known = grind (arith, common_steps)
-
-pub returns-then-not-goes_on-clause-walked : goal.returns-then-not-goes_on-clause-walked
-returns-then-not-goes_on-clause-walked = grind (arith, common_steps)

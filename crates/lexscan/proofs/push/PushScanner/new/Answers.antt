@@ -20,12 +20,3 @@ returns-clause-fed g c =
       all = refl;
       waits = λ _. sym c.new-4.ensures.items;
     }
-
-pub invariant_of-result-clause-marks : goal.invariant_of-result-clause-marks
-invariant_of-result-clause-marks = grind (arith, common_steps)
-
-pub returns-clause-going : goal.returns-clause-going
-returns-clause-going = grind (arith, common_steps)
-
-pub returns-clause-machine : goal.returns-clause-machine
-returns-clause-machine = grind (arith, common_steps)
