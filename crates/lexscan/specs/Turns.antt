@@ -18,12 +18,6 @@ pub record MayTurn (M : Machine) (source_live sink_live : Bool) (s : State) : Ty
   pub condition : s.place.condition < M.conditions
   pub stack : s.failed ≡ false → AllBelow M.conditions s.acting.stack
 
--- The source and the sink may be called, and the condition is in range.
-pub record MayMove (M : Machine) (source_live sink_live : Bool) (s : State) : Type 0 where
-  pub may_read : s.reading.at_end ≡ false → source_live ≡ true
-  pub may_write : sink_live ≡ true
-  pub condition : s.place.condition < M.conditions
-
 -- What a turn adds to the counts of the two ends; and a source that has answered its end is not called. The reads so far, one
 -- that failed and that of the end among them, are no more than are allowed.
 pub record TurnCounts {S K : Type 0} (ends_of reads_of : S → ℕ) (writes_of : K → ℕ) (s s' : S) (t t' : K) (old new : Reading) (result : Result Turn RunError) : Type 0 where

@@ -49,31 +49,20 @@ bytes-preserved g c = record {
     pushed : c.push.new.self.states ≡ c.bytes.path.states ++ c.step-state.result ∷ []
     pushed = c.push.ensures ∙ ap (λ t. t ++ c.step-state.result ∷ []) c.in_ok-fetch.ensures.states
 
-pub returns-in_err-fetch-clause-took : goal.returns-in_err-fetch-clause-took
-returns-in_err-fetch-clause-took g c = Grow.took_more g.S.Source.gave _ _ _ _ _ _ g.met.S.Source.gave_more c.bytes.invariant.took c.in_err-fetch.ensures.took
-
-pub returns-in_err-fetch-clause-put : goal.returns-in_err-fetch-clause-put
-returns-in_err-fetch-clause-put g c =
-    let p = err_from_is_err_and c.from_residual.result c.from_residual.ensures.1 in
+pub returns-in_err-fetch : goal.returns-in_err-fetch
+returns-in_err-fetch g c = record {
+  same = grind (arith, common_steps);
+  same_sink = grind (arith, common_steps);
+  put = (let p = err_from_is_err_and c.from_residual.result c.from_residual.ensures.1 in
     rw (p.1, p.2) (record {
       sink = g.met.K.Sink.wrote_more _ _ _ _ _ c.bytes.invariant.put c.in_err-fetch.ensures.put.sink;
       write_faults = omega (arith, c.in_err-fetch.ensures.put.write_faults, c.bytes.invariant.write_faults);
       may_write = tt;
-    })
-
-pub returns-then-not-branch-clause-took : goal.returns-then-not-branch-clause-took
-returns-then-not-branch-clause-took g c = Grow.took_more g.S.Source.gave _ _ _ _ _ _ g.met.S.Source.gave_more c.bytes.invariant.took c.in_ok-fetch.ensures.took
-
-pub returns-then-not-branch-clause-put : goal.returns-then-not-branch-clause-put
-returns-then-not-branch-clause-put g c = record {
-  sink = g.met.K.Sink.wrote_more _ _ _ _ _ c.bytes.invariant.put c.in_ok-fetch.ensures.put.sink;
-  write_faults = omega (arith, c.in_ok-fetch.ensures.put.write_faults, c.bytes.invariant.write_faults);
-  may_write = c.in_ok-fetch.ensures.put.may_write;
-}
-
-pub returns-in_err-fetch-clause-source : goal.returns-in_err-fetch-clause-source
-returns-in_err-fetch-clause-source g c =
-    let p = err_from_is_err_and c.from_residual.result c.from_residual.ensures.1 in
+    }));
+  took = Grow.took_more g.S.Source.gave _ _ _ _ _ _ g.met.S.Source.gave_more c.bytes.invariant.took c.in_err-fetch.ensures.took;
+  looked = grind (arith, common_steps);
+  unmet = grind (arith, common_steps);
+  source = (let p = err_from_is_err_and c.from_residual.result c.from_residual.ensures.1 in
     rw (p.1, p.2) (record {
       ends = omega (arith, c.in_err-fetch.ensures.source.ends, c.bytes.invariant.ends, ap (λ b. end_step b c.fetch.new.reading.at_end) c.bytes.invariant.end_same);
       read_faults = omega (arith, c.in_err-fetch.ensures.source.read_faults, c.bytes.invariant.failures);
@@ -82,10 +71,26 @@ returns-in_err-fetch-clause-source g c =
       still = λ e. c.in_err-fetch.ensures.source.still (c.bytes.invariant.end_same ∙ e) ∙ c.bytes.invariant.still e;
       not_failed = c.in_err-fetch.ensures.source.not_failed;
       not_stack = c.in_err-fetch.ensures.source.not_stack;
-    })
+    }));
+  inside = grind (arith, common_steps);
+  some = grind (arith, common_steps);
+  known = grind (arith, common_steps);
+  too_many = grind (arith, common_steps);
+}
 
-pub returns-then-not-branch-clause-source : goal.returns-then-not-branch-clause-source
-returns-then-not-branch-clause-source g c = record {
+pub returns-then-not-branch : goal.returns-then-not-branch
+returns-then-not-branch g c = record {
+  same = grind (arith, common_steps);
+  same_sink = grind (arith, common_steps);
+  put = record {
+  sink = g.met.K.Sink.wrote_more _ _ _ _ _ c.bytes.invariant.put c.in_ok-fetch.ensures.put.sink;
+  write_faults = omega (arith, c.in_ok-fetch.ensures.put.write_faults, c.bytes.invariant.write_faults);
+  may_write = c.in_ok-fetch.ensures.put.may_write;
+};
+  took = Grow.took_more g.S.Source.gave _ _ _ _ _ _ g.met.S.Source.gave_more c.bytes.invariant.took c.in_ok-fetch.ensures.took;
+  looked = grind (arith, common_steps);
+  unmet = grind (arith, common_steps);
+  source = record {
   ends = omega (arith, c.in_ok-fetch.ensures.source.ends, c.bytes.invariant.ends, ap (λ b. end_step b c.fetch.new.reading.at_end) c.bytes.invariant.end_same);
   read_faults = omega (arith, c.in_ok-fetch.ensures.source.read_faults, c.bytes.invariant.failures);
   few_reads = c.in_ok-fetch.ensures.source.few_reads;
@@ -93,58 +98,9 @@ returns-then-not-branch-clause-source g c = record {
   still = λ e. c.in_ok-fetch.ensures.source.still (c.bytes.invariant.end_same ∙ e) ∙ c.bytes.invariant.still e;
   not_failed = λ e. cc;
   not_stack = λ e. cc;
+};
+  inside = grind (arith, common_steps);
+  some = grind (arith, common_steps);
+  known = grind (arith, common_steps);
+  too_many = grind (arith, common_steps);
 }
-
-pub byte-requires : goal.byte-requires
-byte-requires = grind (arith, common_steps)
-
-pub bytes-init : goal.bytes-init
-bytes-init = grind (arith, common_steps)
-
-pub bytes-smaller : goal.bytes-smaller
-bytes-smaller = grind (arith, common_steps)
-
-pub overflow_add-len : goal.overflow_add-len
-overflow_add-len = grind (arith, common_steps)
-
-pub overflow_add-next : goal.overflow_add-next
-overflow_add-next = grind (arith, common_steps)
-
-pub returns-in_err-fetch-clause-unmet : goal.returns-in_err-fetch-clause-unmet
-returns-in_err-fetch-clause-unmet = grind (arith, common_steps)
-
-pub returns-then-not-branch-clause-inside : goal.returns-then-not-branch-clause-inside
-returns-then-not-branch-clause-inside = grind (arith, common_steps)
-
-pub returns-then-not-branch-clause-known : goal.returns-then-not-branch-clause-known
-returns-then-not-branch-clause-known = grind (arith, common_steps)
-
-pub returns-then-not-branch-clause-looked : goal.returns-then-not-branch-clause-looked
-returns-then-not-branch-clause-looked = grind (arith, common_steps)
-
-pub returns-then-not-branch-clause-same : goal.returns-then-not-branch-clause-same
-returns-then-not-branch-clause-same = grind (arith, common_steps)
-
-pub returns-then-not-branch-clause-same_sink : goal.returns-then-not-branch-clause-same_sink
-returns-then-not-branch-clause-same_sink = grind (arith, common_steps)
-
-pub returns-then-not-branch-clause-some : goal.returns-then-not-branch-clause-some
-returns-then-not-branch-clause-some = grind (arith, common_steps)
-
-pub returns-then-not-goes_on-clause-known : goal.returns-then-not-goes_on-clause-known
-returns-then-not-goes_on-clause-known = grind (arith, common_steps)
-
-pub returns-then-not-goes_on-clause-looked : goal.returns-then-not-goes_on-clause-looked
-returns-then-not-goes_on-clause-looked = grind (arith, common_steps)
-
-pub returns-then-not-goes_on-clause-put : goal.returns-then-not-goes_on-clause-put
-returns-then-not-goes_on-clause-put = grind (arith, common_steps)
-
-pub returns-then-not-goes_on-clause-some : goal.returns-then-not-goes_on-clause-some
-returns-then-not-goes_on-clause-some = grind (arith, common_steps)
-
-pub returns-then-not-goes_on-clause-source : goal.returns-then-not-goes_on-clause-source
-returns-then-not-goes_on-clause-source = grind (arith, common_steps)
-
-pub step-state-requires : goal.step-state-requires
-step-state-requires = grind (arith, common_steps)

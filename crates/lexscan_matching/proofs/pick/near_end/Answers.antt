@@ -9,29 +9,39 @@ use Rattle.lexscan_matching.specs.Picks.{IsFirst, path_of}
 use Rattle.lexscan_matching.proofs.Picking as Pick
 use Rattle.lexscan_matching.proofs.pick.near_end.Goals as goal
 
-pub returns-in-Some-clause-first : goal.returns-in-Some-clause-first
-returns-in-Some-clause-first g c =
-    let M : Machine = g.M.Machine.machine c.args.machine.now in
+pub returns-in-Some : goal.returns-in-Some
+returns-in-Some g c = record {
+  first = (let M : Machine = g.M.Machine.machine c.args.machine.now in
     let w : List ℕ = c.args.window.now.bytes in
     let p : TextPlace = c.args.place in
     let n : ℕ = c.args.ahead.reach in
     Pick.first_same _ _ (Some c.in-Some.pick) (Pick.falling_last M p w n c.requires.tells.some c.requires.tells.inside)
-    (Pick.first_before _ (falling M 0 (path_of M p w (n - 1))) c.in-Some.pick (subst (λ l. IsFirst (filter_map (match_of M n) l) (Some c.in-Some.pick)) (c.accepts.ensures ∙ ap M.accepts c.requires.tells.state_is) c.in-Some.ensures.first))
+    (Pick.first_before _ (falling M 0 (path_of M p w (n - 1))) c.in-Some.pick (subst (λ l. IsFirst (filter_map (match_of M n) l) (Some c.in-Some.pick)) (c.accepts.ensures ∙ ap M.accepts c.requires.tells.state_is) c.in-Some.ensures.first)));
+  one = grind (arith, common_steps);
+  known = grind (arith, common_steps);
+  statements = grind (arith, common_steps);
+  short = grind (arith, common_steps);
+}
 
-pub returns-then-len-eq1-clause-one : goal.returns-then-len-eq1-clause-one
-returns-then-len-eq1-clause-one g c _ =
-    let M : Machine = g.M.Machine.machine c.args.machine.now in
+pub returns-then-len-eq1 : goal.returns-then-len-eq1
+returns-then-len-eq1 g c = record {
+  first = grind (arith, common_steps);
+  one = (λ _. (let M : Machine = g.M.Machine.machine c.args.machine.now in
     let w : List ℕ = c.args.window.now.bytes in
     let p : TextPlace = c.args.place in
     let n : ℕ = c.args.ahead.reach in
     let none : n - 1 ≡ 0 = omega (arith, c.if-len-eq1.true) in
     Pick.first_same _ _ None (Pick.falling_last M p w n c.requires.tells.some c.requires.tells.inside)
     (Pick.first_after _ (falling M 0 (path_of M p w (n - 1))) None (subst (λ l. IsFirst (filter_map (match_of M n) l) None) (c.accepts.ensures ∙ ap M.accepts c.requires.tells.state_is) c.in_default.ensures.first)
-    (ap (λ k. falling M 0 (path_of M p w k)) none))
+    (ap (λ k. falling M 0 (path_of M p w k)) none))));
+  known = grind (arith, common_steps);
+  statements = grind (arith, common_steps);
+  short = grind (arith, common_steps);
+}
 
-pub returns-in-Some-first_candidate-clause-first : goal.returns-in-Some-first_candidate-clause-first
-returns-in-Some-first_candidate-clause-first g c =
-    let M : Machine = g.M.Machine.machine c.args.machine.now in
+pub returns-in-Some-first_candidate : goal.returns-in-Some-first_candidate
+returns-in-Some-first_candidate g c = record {
+  first = (let M : Machine = g.M.Machine.machine c.args.machine.now in
     let w : List ℕ = c.args.window.now.bytes in
     let p : TextPlace = c.args.place in
     let n : ℕ = c.args.ahead.reach in
@@ -41,61 +51,9 @@ returns-in-Some-first_candidate-clause-first g c =
     (Pick.first_after _ (falling M 0 (path_of M p w k)) (Some pick) (subst (λ l. IsFirst (filter_map (match_of M n) l) None) (c.accepts.ensures ∙ ap M.accepts c.requires.tells.state_is) c.in_default.ensures.first)
     (Pick.first_same _ _ (Some pick) (Pick.falling_last M p w k (omega (arith, c.requires.tells.some, c.if-len-eq1.false)) (omega (arith, c.requires.tells.inside)))
     (Pick.first_before _ (falling M 0 (path_of M p w (k - 1))) pick
-    (subst (λ l. IsFirst (filter_map (match_of M k) l) (Some pick)) (c.accepts-2.ensures ∙ ap M.accepts c.requires.tells.before_is) c.in-Some-first_candidate.ensures.first))))
-
-pub first_candidate-requires : goal.first_candidate-requires
-first_candidate-requires = grind (arith, common_steps)
-
-pub first_candidate-requires-2 : goal.first_candidate-requires-2
-first_candidate-requires-2 = grind (arith, common_steps)
-
-pub returns-clause-first : goal.returns-clause-first
-returns-clause-first = grind (arith, common_steps)
-
-pub returns-clause-known : goal.returns-clause-known
-returns-clause-known = grind (arith, common_steps)
-
-pub returns-clause-one : goal.returns-clause-one
-returns-clause-one = grind (arith, common_steps)
-
-pub returns-clause-short : goal.returns-clause-short
-returns-clause-short = grind (arith, common_steps)
-
-pub returns-clause-statements : goal.returns-clause-statements
-returns-clause-statements = grind (arith, common_steps)
-
-pub returns-in-Some-clause-known : goal.returns-in-Some-clause-known
-returns-in-Some-clause-known = grind (arith, common_steps)
-
-pub returns-in-Some-clause-one : goal.returns-in-Some-clause-one
-returns-in-Some-clause-one = grind (arith, common_steps)
-
-pub returns-in-Some-clause-short : goal.returns-in-Some-clause-short
-returns-in-Some-clause-short = grind (arith, common_steps)
-
-pub returns-in-Some-clause-statements : goal.returns-in-Some-clause-statements
-returns-in-Some-clause-statements = grind (arith, common_steps)
-
-pub returns-in-Some-first_candidate-clause-known : goal.returns-in-Some-first_candidate-clause-known
-returns-in-Some-first_candidate-clause-known = grind (arith, common_steps)
-
-pub returns-in-Some-first_candidate-clause-one : goal.returns-in-Some-first_candidate-clause-one
-returns-in-Some-first_candidate-clause-one = grind (arith, common_steps)
-
-pub returns-in-Some-first_candidate-clause-short : goal.returns-in-Some-first_candidate-clause-short
-returns-in-Some-first_candidate-clause-short = grind (arith, common_steps)
-
-pub returns-in-Some-first_candidate-clause-statements : goal.returns-in-Some-first_candidate-clause-statements
-returns-in-Some-first_candidate-clause-statements = grind (arith, common_steps)
-
-pub returns-then-len-eq1-clause-first : goal.returns-then-len-eq1-clause-first
-returns-then-len-eq1-clause-first = grind (arith, common_steps)
-
-pub returns-then-len-eq1-clause-known : goal.returns-then-len-eq1-clause-known
-returns-then-len-eq1-clause-known = grind (arith, common_steps)
-
-pub returns-then-len-eq1-clause-short : goal.returns-then-len-eq1-clause-short
-returns-then-len-eq1-clause-short = grind (arith, common_steps)
-
-pub returns-then-len-eq1-clause-statements : goal.returns-then-len-eq1-clause-statements
-returns-then-len-eq1-clause-statements = grind (arith, common_steps)
+    (subst (λ l. IsFirst (filter_map (match_of M k) l) (Some pick)) (c.accepts-2.ensures ∙ ap M.accepts c.requires.tells.before_is) c.in-Some-first_candidate.ensures.first)))));
+  one = grind (arith, common_steps);
+  known = grind (arith, common_steps);
+  statements = grind (arith, common_steps);
+  short = grind (arith, common_steps);
+}
