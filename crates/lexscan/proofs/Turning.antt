@@ -1,9 +1,10 @@
 -- What a match or the end action makes of a scan, and what a turn makes of that.
-use Rattle.std.proofs.Common.{◌≡◌, true, List, Result, Ok, Err, arith}
+use Rattle.std.proofs.Common.{◌≡◌, ◌<◌, true, List, Result, Ok, Err, arith}
 use Rattle.std.proofs.lemmas.Grind.{common_steps}
 use Rattle.lex_io.specs.declared.source.Source as Source
 use Rattle.lex_io.specs.declared.sink.Sink as Sink
 use Rattle.lex_semantics.specs.Machine.{Machine}
+use Rattle.lex_semantics.specs.Text.{AllBelow}
 use Rattle.lex_semantics.specs.MachineLaws.{MachineLaws}
 use Rattle.lexscan_window.specs.Intakes.{source_of, can_read, sink_of, can_write}
 use Rattle.lexscan_window.specs.Memos.{AreTrue}
@@ -14,8 +15,9 @@ use Rattle.lexscan.specs.declared.turn.Turn.{Turn}
 use Rattle.lexscan.specs.Moves.{Moved}
 use Rattle.lexscan.specs.Ties.{HandedOn}
 use Rattle.lexscan.specs.Turns.{MoveLeft, TurnCounts}
-use Rattle.lexscan.specs.Scans.{IsGoing, SameEnds, MayTurnOn, MatchMade, TurnMade}
-use Rattle.lexscan.proofs.Making.{turn_made, turn_refused, turn_next}
+use Rattle.lexscan.specs.Scans.{IsGoing, SameEnds, MayTurn, MatchMade, TurnMade}
+use Rattle.lexscan.proofs.Making.{turn_made, turn_refused}
+use Rattle.lexscan.proofs.Ranging as Range
 use Rattle.lexscan.proofs.Settling.{true_moved}
 
 module _ {S K : Type 0} {of_source : Source.Ghosts S} {of_sink : Sink.Ghosts K} (M : Machine) (e e' : Ends S K of_source of_sink) (old new : Scan) where
@@ -33,7 +35,7 @@ module _ {S K : Type 0} {of_source : Source.Ghosts S} {of_sink : Sink.Ghosts K} 
   }
 
   -- a turn was made
-  pub made : MachineLaws M → (turn : Turn) → IsGoing old → MayTurnOn M e old → MatchMade M e e' old new (Ok turn) → TurnMade M e e' old new (Ok turn)
+  pub made : MachineLaws M → (turn : Turn) → IsGoing old → MayTurn M e old → MatchMade M e e' old new (Ok turn) → TurnMade M e e' old new (Ok turn)
   made laws turn going ready h = record {
     same = h.same;
     handed_on = h.handed_on;
@@ -42,17 +44,20 @@ module _ {S K : Type 0} {of_source : Source.Ghosts S} {of_sink : Sink.Ghosts K} 
     refused = h.left.refused;
     too_many = λ is. absurd (no is);
     next = record {
-      ready = turn_next M laws of_source.gave of_sink.wrote _ _ _ _ _ _ old.state _ _ new.state turn going.working ready.ready h.moved h.left;
-      inside = grind (arith, common_steps);
-      marks = λ _. h.marks;
+      may_read = λ _ _ e. h.left.may_read e;
+      may_write = λ _. h.left.may_write;
+      kept = record { condition = below.0; inside = grind (arith, common_steps); stack = λ _. below.1; marks = λ _. h.marks };
     };
   }
     where
+      below : (new.state.place.condition < M.conditions) × AllBelow M.conditions new.state.acting.stack
+      below = Range.conditions_below M laws of_source.gave of_sink.wrote _ _ _ _ old.state new.state turn h.moved (ready.kept.condition, ready.kept.stack going.working)
+
       no : {e : RunError} → ◌≡◌ {A = Result Turn RunError} (Ok turn) (Err e) → ⊥
       no p = cc
 
   -- a turn was refused
-  pub refused : MachineLaws M → (error : RunError) → IsGoing old → MayTurnOn M e old → MatchMade M e e' old new (Err error) → TurnMade M e e' old (record new { state = record new.state { failed = true } }) (Err error)
+  pub refused : MachineLaws M → (error : RunError) → IsGoing old → MayTurn M e old → MatchMade M e e' old new (Err error) → TurnMade M e e' old (record new { state = record new.state { failed = true } }) (Err error)
   refused laws error going ready h = record {
     same = h.same;
     handed_on = h.handed_on;

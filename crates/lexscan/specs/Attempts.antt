@@ -1,9 +1,9 @@
 -- Turns over the bytes that are there: what each is asked and does, over the scan before and after.
-use Rattle.std.specs.Prelude.{◌≡◌, ℕ, ◌+◌, ◌-◌, ◌^◌, ◌<◌, true, false, List, Option, None, Result, OnErr, IsErrOf}
+use Rattle.std.specs.Prelude.{◌≡◌, ℕ, ◌+◌, ◌-◌, ◌^◌, ◌<◌, true, false, List, Option, Some, None, Result, Ok, Err, ⊤, OnErr, IsErrOf}
 use Rattle.lex_io.specs.declared.source.Source as Source
 use Rattle.lex_io.specs.declared.sink.Sink as Sink
 use Rattle.lex_semantics.specs.Machine.{Machine}
-use Rattle.lexscan_window.specs.Intakes.{source_of, can_read, sink_of, can_write}
+use Rattle.lexscan_window.specs.Intakes.{source_of, sink_of}
 use Rattle.lexscan_window.specs.Reads.{read_fault_count, write_fault_count, end_step}
 use Rattle.lexscan_window.specs.declared.state.State.{State}
 use Rattle.lexscan_window.specs.declared.error.RunError.{RunError}
@@ -11,8 +11,8 @@ use Rattle.lexscan_window.specs.declared.error.RunError.TheVariants.{Read, TooMa
 use Rattle.lexscan.specs.declared.scan.Ends.{Ends}
 use Rattle.lexscan.specs.declared.scan.Scan.{Scan}
 use Rattle.lexscan.specs.declared.turn.Turn.{Turn}
-use Rattle.lexscan.specs.Pushes.{Attempts, MayGoOn, HandedOnIfMade, Standing, IsAsking}
-use Rattle.lexscan.specs.Scans.{IsGoing, Invariant, SameEnds}
+use Rattle.lexscan.specs.Pushes.{Attempts, HandedOnIfMade, Standing, IsAsking}
+use Rattle.lexscan.specs.Scans.{IsGoing, Invariant, SameEnds, MayTurn}
 
 -- Some turns led here, the scan has neither failed nor ended, and its source has not answered its end.
 pub record IsPaused (M : Machine) (s : Scan) : Type 0 where
@@ -28,6 +28,12 @@ pub record FewCounts {S K : Type 0} (ends_of reads_of : S → ℕ) (writes_of : 
   pub writes : writes_of t < 2 ^ 64 - 1
 
 module _ {S K : Type 0} {of_source : Source.Ghosts S} {of_sink : Sink.Ghosts K} where
+  -- After a turn that was made the next one may be, and after a refusal the scan has failed.
+  abbrev pub MayGoOn : Machine → Ends S K of_source of_sink → Scan → Result (Option Turn) RunError → Type 0
+  MayGoOn M e s (Ok (Some turn)) = MayTurn M e s
+  MayGoOn M e s (Ok None) = ⊤
+  MayGoOn M e s (Err error) = s.state.failed ≡ true
+
   -- A turn was made, or given up since it asks for more than the source has, or refused.
   pub record Attempted (M : Machine) (e e' : Ends S K of_source of_sink) (old new : Scan) (result : Result (Option Turn) RunError) : Type 0 where
     pub same : SameEnds e e'
@@ -39,7 +45,7 @@ module _ {S K : Type 0} {of_source : Source.Ghosts S} {of_sink : Sink.Ghosts K} 
     pub handed_on : HandedOnIfMade (of_sink.flushed (sink_of e'.outlet)) result
     pub too_many : IsErrOf result TooManyReads → ⊥
     pub refused : IsErrOf result Failed → ⊥
-    pub next : MayGoOn M (can_read e'.intake) (can_write e'.outlet) new.state result
+    pub next : MayGoOn M e' new result
     pub kept : Invariant M new
 
 -- What several turns add to the counts of the two ends, where the source had not answered its end.

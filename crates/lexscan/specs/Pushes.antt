@@ -16,7 +16,6 @@ use Rattle.lexscan_window.specs.declared.error.RunError.{RunError}
 use Rattle.lexscan_window.specs.declared.error.RunError.TheVariants.{Stack}
 use Rattle.lexscan.specs.Stands.{Stands, Fell, GoesOn, NoneAfterEnd}
 use Rattle.lexscan.specs.Ties.{HandedOn}
-use Rattle.lexscan.specs.Turns.{MayTurn}
 
 -- Over these bytes the turn after n asks for the end: they do not decide it.
 abbrev pub AsksForMore : Rules → ℕ → List ℕ → Type 0
@@ -35,12 +34,6 @@ AttemptsTo M old new got put (Err e) = GoesOn M old new got put (Err e)
 abbrev pub Attempts : {S K : Type 0} → Machine → (S → List ℕ → S → Type 0) → (K → List ℕ → K → Type 0) → S → S → K → K → State → State → Result (Option Turn) RunError → Type 0
 Attempts M gave wrote s s' t t' old new result =
     (got : List ℕ) × (put : List ℕ) × gave s got s' × wrote t put t' × NoneAfterEnd old new got × AttemptsTo M old new got put result
-
--- what is left of the two ends, where the turn was made
-abbrev pub MayGoOn : Machine → Bool → Bool → State → Result (Option Turn) RunError → Type 0
-MayGoOn M source_live sink_live new (Ok (Some turn)) = MayTurn M source_live sink_live new
-MayGoOn M source_live sink_live new (Ok None) = (new.place.condition < M.conditions) × AllBelow M.conditions new.acting.stack
-MayGoOn M source_live sink_live new (Err e) = new.failed ≡ true
 
 -- The scan went back to where a turn began: to its place and its conditions, with as many bytes held and taken as there.
 pub record WentBack (p : TextPlace) (conditions : List ℕ) (count before : ℕ) (old new : State) : Type 0 where

@@ -16,7 +16,7 @@ use Rattle.lexscan.specs.Moves.{Moved}
 use Rattle.lexscan.specs.Stands.{Stands, MakesTurn, NoneAfterEnd}
 use Rattle.lexscan.specs.Runs.{Ran, FewReads, RunCounts}
 use Rattle.lexscan.specs.Bursts.{GoesFurther, NoEarlier}
-use Rattle.lexscan.specs.Turns.{MayTurn, MoveLeft, TurnCounts}
+use Rattle.lexscan.specs.Turns.{MoveLeft, TurnCounts}
 use Rattle.lexscan.specs.Ties.{HandedOn, RunHandedOn}
 
 -- The scan has neither failed nor ended.
@@ -37,11 +37,11 @@ module _ {S K : Type 0} {of_source : Source.Ghosts S} {of_sink : Sink.Ghosts K} 
     pub source : source_name e'.intake ≡ source_name e.intake
     pub sink : sink_name e'.outlet ≡ sink_name e.outlet
 
-  -- The next turn may be made.
-  pub record MayTurnOn (M : Machine) (e : Ends S K of_source of_sink) (s : Scan) : Type 0 where
-    pub ready : MayTurn M (can_read e.intake) (can_write e.outlet) s.state
-    pub inside : s.state.place.at ≤ length s.state.reading.window.bytes
-    pub marks : s.state.failed ≡ false → AreTrue M s.state.reading s.memo
+  -- The next turn may be made: where the scan has neither failed nor ended, the source and the sink may be called.
+  pub record MayTurn (M : Machine) (e : Ends S K of_source of_sink) (s : Scan) : Type 0 where
+    pub may_read : s.state.failed ≡ false → s.state.ended ≡ None → s.state.reading.at_end ≡ false → can_read e.intake ≡ true
+    pub may_write : s.state.failed ≡ false → can_write e.outlet ≡ true
+    pub kept : Invariant M s
 
   -- A match was looked for and carried out, or the end action was, or the turn is refused: what it did to the scan, to its ends
   -- and to their counts.
@@ -61,7 +61,7 @@ module _ {S K : Type 0} {of_source : Source.Ghosts S} {of_sink : Sink.Ghosts K} 
     pub counts : TurnCounts of_source.ends of_source.failures of_sink.failures (source_of e.intake) (source_of e'.intake) (sink_of e.outlet) (sink_of e'.outlet) old.state.reading new.state.reading result
     pub refused : IsErrOf result Failed → ⊥
     pub too_many : IsErrOf result TooManyReads → (new.state.reading.taken ≡ new.state.reading.max_reads) × (new.state.reading.at_end ≡ false)
-    pub next : MayTurnOn M e' new
+    pub next : MayTurn M e' new
 
   -- A turn of any scan: after a refusal or the end it changes nothing.
   pub record TurnOf (M : Machine) (e e' : Ends S K of_source of_sink) (old new : Scan) (result : Result Turn RunError) : Type 0 where
@@ -73,7 +73,7 @@ module _ {S K : Type 0} {of_source : Source.Ghosts S} {of_sink : Sink.Ghosts K} 
     pub refused : IsErrOf result Failed → old.state.failed ≡ true
     pub after_end : (status : ℕ) → old.state.failed ≡ false → old.state.ended ≡ Some status → (result ≡ Ok (Turn.Ended status)) × (source_of e'.intake ≡ source_of e.intake) × (sink_of e'.outlet ≡ sink_of e.outlet) × (new.state ≡ old.state)
     pub too_many : IsErrOf result TooManyReads → (new.state.reading.taken ≡ new.state.reading.max_reads) × (new.state.reading.at_end ≡ false)
-    pub next : MayTurnOn M e' new
+    pub next : MayTurn M e' new
 
   -- Several turns in one go, over the bytes held and those that the source has ready; or the turn after some was refused, since
   -- the sink failed.
@@ -90,14 +90,14 @@ module _ {S K : Type 0} {of_source : Source.Ghosts S} {of_sink : Sink.Ghosts K} 
     pub no_earlier : NoEarlier old.state new.state
     pub going : new.state.ended ≡ None
     pub working : OnOk result (new.state.failed ≡ false)
-    pub next : MayTurnOn M e' new
+    pub next : MayTurn M e' new
 
   -- A scan that has made no turn.
   pub record IsFresh (M : Machine) (e : Ends S K of_source of_sink) (s : Scan) : Type 0 where
     pub start : Stands M 0 [] [] s.state
     pub going : s.state.ended ≡ None
     pub reading : s.state.reading.at_end ≡ false
-    pub next : MayTurnOn M e s
+    pub next : MayTurn M e s
 
   -- All turns until the end, or until one is refused.
   pub record RunMade (M : Machine) (e e' : Ends S K of_source of_sink) (old : Scan) (result : Result ℕ RunError) : Type 0 where

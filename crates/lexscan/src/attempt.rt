@@ -2,7 +2,7 @@
 ghost use Rattle.std.specs.Prelude.{◌≡◌, ◌≤◌, false};
 ghost use Rattle.lexscan_window.specs.Intakes.{source_of, sink_of};
 ghost use Rattle.lexscan.specs.Ties.{HandedOn};
-ghost use Rattle.lexscan.specs.Scans.{IsGoing, MayTurnOn, SameEnds};
+ghost use Rattle.lexscan.specs.Scans.{IsGoing, MayTurn, SameEnds};
 ghost use Rattle.lexscan.specs.Pushes.{Standing, WentBack, TurnsOver};
 ghost use Rattle.lexscan.specs.Attempts.{Attempted, IsPaused, FewCounts, TurnsCount, TurnsLeft};
 
@@ -37,7 +37,7 @@ impl Scan {
         stack: &mut Stack,
     ) -> Result<Option<Turn>, RunError>
         requires going { IsGoing self.old }
-        requires ready { MayTurnOn (M.machine machine.now) ends.old self.old }
+        requires ready { MayTurn (M.machine machine.now) ends.old self.old }
         requires stood { Standing (M.machine machine.now) self.old.state }
         ensures { Attempted (M.machine machine.now) ends.old ends.new self.old self.new result }
     {
@@ -66,7 +66,7 @@ impl Scan {
         ends: &mut Ends<'_, '_, S, K>,
     ) -> Result<Turn, RunError>
         requires paused { IsPaused (M.machine machine.now) self.old }
-        requires ready { MayTurnOn (M.machine machine.now) ends.old self.old }
+        requires ready { MayTurn (M.machine machine.now) ends.old self.old }
         ensures same { SameEnds ends.old ends.new }
         ensures ran { TurnsOver (M.machine machine.now) S.gave K.wrote (source_of ends.old.intake)
             (source_of ends.new.intake) (sink_of ends.old.outlet) (sink_of ends.new.outlet) self.old.state
@@ -109,6 +109,7 @@ impl Scan {
             outlet: Outlet::new(sink),
         };
         let result = self.turns_over(machine, &mut ends);
+        // What was lent is given back.
         let Ends { intake, outlet } = ends;
         let _source = intake.into_inner();
         let _sink = outlet.into_inner();

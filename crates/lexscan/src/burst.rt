@@ -49,6 +49,7 @@ pub fn burst_over<M: Machine, K: Sink>(
     ensures { BurstMade (M.machine machine.now) outlet.old outlet.new text.now held place result }
 {
     let mut rest = text;
+    // How many bytes at the end of the text no match has asked for.
     let mut unasked = text.len() - held;
     let mut condition = place.condition;
     let mut fault = false;

@@ -2,9 +2,9 @@
 ghost use Rattle.std.specs.Prelude.{◌≡◌, ◌<◌, ◌≤◌, length, true};
 ghost use Rattle.lex_semantics.specs.MachineLaws.{NoReject};
 ghost use Rattle.lexscan_matching.specs.Backs.{IsOpen};
-ghost use Rattle.lexscan.specs.Scans.{IsGoing, MayTurnOn, MatchMade};
+ghost use Rattle.lexscan.specs.Scans.{IsGoing, MayTurn, MatchMade};
 
-use crate::carry::{end_turn, last_turn, match_turn};
+use crate::carry::{carry_end, carry_longest, carry_with_reject};
 use crate::scan::{Ends, Scan};
 use crate::turn::Turn;
 use lex_io::{Sink, Source};
@@ -34,7 +34,7 @@ impl Scan {
         ends: &mut Ends<'_, '_, S, K>,
     ) -> Result<Turn, RunError>
         requires going { IsGoing self.old }
-        requires ready { MayTurnOn (M.machine machine.now) ends.old self.old }
+        requires ready { MayTurn (M.machine machine.now) ends.old self.old }
         ensures { MatchMade (M.machine machine.now) ends.old ends.new self.old self.new result }
     {
         let place = self.state.place;
@@ -47,8 +47,8 @@ impl Scan {
             place,
         ) {
             Err(e) => Err(e),
-            Ok(false) => end_turn(machine, &mut ends.outlet, &mut self.state),
-            Ok(true) => match_turn(machine, &mut ends.outlet, &mut self.state, &self.path),
+            Ok(false) => carry_end(machine, &mut ends.outlet, &mut self.state),
+            Ok(true) => carry_with_reject(machine, &mut ends.outlet, &mut self.state, &self.path),
         }
     }
 
@@ -61,7 +61,7 @@ impl Scan {
     ) -> Result<Turn, RunError>
         requires no_reject { NoReject (M.machine machine.now) }
         requires going { IsGoing self.old }
-        requires ready { MayTurnOn (M.machine machine.now) ends.old self.old }
+        requires ready { MayTurn (M.machine machine.now) ends.old self.old }
         ensures { MatchMade (M.machine machine.now) ends.old ends.new self.old self.new result }
     {
         let place = self.state.place;
@@ -73,8 +73,8 @@ impl Scan {
             place,
         ) {
             Err(e) => Err(e),
-            Ok(None) => end_turn(machine, &mut ends.outlet, &mut self.state),
-            Ok(Some(ahead)) => last_turn(machine, &mut ends.outlet, &mut self.state, ahead),
+            Ok(None) => carry_end(machine, &mut ends.outlet, &mut self.state),
+            Ok(Some(ahead)) => carry_longest(machine, &mut ends.outlet, &mut self.state, ahead),
         }
     }
 
@@ -87,7 +87,7 @@ impl Scan {
     ) -> Result<Turn, RunError>
         requires no_reject { NoReject (M.machine machine.now) }
         requires going { IsGoing self.old }
-        requires ready { MayTurnOn (M.machine machine.now) ends.old self.old }
+        requires ready { MayTurn (M.machine machine.now) ends.old self.old }
         requires open { IsOpen (M.machine machine.now) (M.states machine.now) self.old.state.place
             self.old.state.reading ahead }
         ensures { MatchMade (M.machine machine.now) ends.old ends.new self.old self.new result }
@@ -102,8 +102,8 @@ impl Scan {
             ahead,
         ) {
             Err(e) => Err(e),
-            Ok(None) => end_turn(machine, &mut ends.outlet, &mut self.state),
-            Ok(Some(ahead)) => last_turn(machine, &mut ends.outlet, &mut self.state, ahead),
+            Ok(None) => carry_end(machine, &mut ends.outlet, &mut self.state),
+            Ok(Some(ahead)) => carry_longest(machine, &mut ends.outlet, &mut self.state, ahead),
         }
     }
 
@@ -116,7 +116,7 @@ impl Scan {
     ) -> Result<Turn, RunError>
         requires no_reject { NoReject (M.machine machine.now) }
         requires going { IsGoing self.old }
-        requires ready { MayTurnOn (M.machine machine.now) ends.old self.old }
+        requires ready { MayTurn (M.machine machine.now) ends.old self.old }
         requires behind { self.old.state.place.at < length self.old.state.reading.window.bytes }
         ensures { MatchMade (M.machine machine.now) ends.old ends.new self.old self.new result }
     {
@@ -125,7 +125,9 @@ impl Scan {
         let held = reading.window.len();
         self.memo.fit(held - place.at);
         match look(machine, &self.state.reading, &self.memo, place) {
+            // The walk came to the end of the bytes held.
             Ahead::Open(ahead) => self.match_past_held(machine, ends, ahead),
+            // It came to a mark, or the machine asks for no more.
             Ahead::Settled(settled) => {
                 note(machine, &self.state.reading, &mut self.memo, place, settled);
                 let ahead = LookAhead {
@@ -133,7 +135,7 @@ impl Scan {
                     state: settled.state,
                     before: settled.before,
                 };
-                last_turn(machine, &mut ends.outlet, &mut self.state, ahead)
+                carry_longest(machine, &mut ends.outlet, &mut self.state, ahead)
             }
         }
     }
@@ -146,7 +148,7 @@ impl Scan {
     ) -> Result<Turn, RunError>
         requires no_reject { NoReject (M.machine machine.now) }
         requires going { IsGoing self.old }
-        requires ready { MayTurnOn (M.machine machine.now) ends.old self.old }
+        requires ready { MayTurn (M.machine machine.now) ends.old self.old }
         requires behind { self.old.state.place.at < length self.old.state.reading.window.bytes }
         ensures { MatchMade (M.machine machine.now) ends.old ends.new self.old self.new result }
     {
@@ -157,6 +159,7 @@ impl Scan {
             .window
             .len()
             .saturating_sub(self.state.place.at);
+        // Walks over few bytes cost less than marks.
         if left <= BACKLOG {
             self.memo.clear();
         }

@@ -2,7 +2,7 @@
 ghost use Rattle.std.specs.Prelude.{◌+◌, ◌≤◌, length};
 ghost use Rattle.lex_semantics.specs.ByteSets.{bit_of};
 ghost use Rattle.lexscan.specs.Bursts.{Advanced};
-ghost use Rattle.lexscan.specs.Scans.{IsGoing, MayTurnOn, WentFurther};
+ghost use Rattle.lexscan.specs.Scans.{IsGoing, MayTurn, WentFurther};
 
 use crate::burst::{Burst, burst_over};
 use crate::find::has_backlog;
@@ -56,7 +56,7 @@ impl Scan {
         most: usize,
     ) -> Result<usize, RunError>
         requires going { IsGoing self.old }
-        requires ready { MayTurnOn (M.machine machine.now) ends.old self.old }
+        requires ready { MayTurn (M.machine machine.now) ends.old self.old }
         ensures { WentFurther (M.machine machine.now) ends.old ends.new self.old self.new result }
     {
         // After the end nothing is ready, and with yymore a text begins before its match.
@@ -70,11 +70,7 @@ impl Scan {
             most
         };
         let held = self.state.reading.window.len();
-        let shown = self
-            .state
-            .reading
-            .window
-            .show(ends.intake.ahead(), allowed);
+        let shown = self.state.reading.window.show(ends.intake.ahead(), allowed);
         let text = self.state.reading.window.text(shown);
         let burst = burst_over(machine, &mut ends.outlet, text, held, self.state.place);
         // What no turn has asked for stays with the source.
@@ -96,7 +92,7 @@ impl Scan {
         most: usize,
     ) -> Result<usize, RunError>
         requires going { IsGoing self.old }
-        requires ready { MayTurnOn (M.machine machine.now) ends.old self.old }
+        requires ready { MayTurn (M.machine machine.now) ends.old self.old }
         ensures { WentFurther (M.machine machine.now) ends.old ends.new self.old self.new result }
     {
         if has_backlog(&self.state) {

@@ -8,28 +8,24 @@ use crate::turn::Turn;
 use lex_io::Sink;
 use lexscan_window::{Finish, Outlet, RunError, State, flush};
 
-/// Goes to the place of the next match.
-#[tactic(auto, using(lexscan_window::proofs::Keeping::text_stays, lexscan_window::proofs::Keeping::text_dropped))]
-fn leave(state: &mut State, over: bool)
-    requires { state.old.acting.end ≤ length state.old.reading.window.bytes }
-    ensures left { Left state.old.reading.window.bytes state.old.acting over state.new }
-    ensures taken { state.new.reading.taken ≡ state.old.reading.taken }
-    ensures at_end { state.new.reading.at_end ≡ state.old.reading.at_end }
-    ensures max_reads { state.new.reading.max_reads ≡ state.old.reading.max_reads }
-    ensures ended { state.new.ended ≡ state.old.ended }
-    ensures failed { state.new.failed ≡ state.old.failed }
-    ensures matched { state.new.matched ≡ state.old.matched }
+/// The end of a turn after the actions of its match, which ended the scan, were at fault, or neither.
+#[inline(always)]
+pub fn leave_match<K: Sink>(
+    outlet: &mut Outlet<'_, K>,
+    state: &mut State,
+    finish: Option<Finish>,
+) -> Result<Turn, RunError>
+    requires live { can_write outlet.old ≡ true }
+    requires inside { state.old.acting.end ≤ length state.old.reading.window.bytes }
+
+    ensures { TurnFinished outlet.old outlet.new state.old state.new finish result }
 {
-    let end = state.acting.end;
-    if 0 < end {
-        state.place.line_start = state.reading.window.byte(end - 1) == b'\n';
-    }
-    state.place.condition = state.acting.condition;
-    if state.acting.more && !over {
-        state.place.at = end;
-    } else {
-        state.reading.window.drop_front(end);
-        state.place.at = 0;
+    match finish {
+        Some(finish) => finish_turn(outlet, state, finish),
+        None => {
+            leave(state, false);
+            Ok(Turn::Went)
+        }
     }
 }
 
@@ -58,24 +54,29 @@ fn finish_turn<K: Sink>(
     }
 }
 
-/// The end of a turn after the actions of its match: the place after it, where they neither ended the scan nor were
-/// at fault.
-#[inline(always)]
-pub fn leave_match<K: Sink>(
-    outlet: &mut Outlet<'_, K>,
-    state: &mut State,
-    finish: Option<Finish>,
-) -> Result<Turn, RunError>
-    requires live { can_write outlet.old ≡ true }
-    requires inside { state.old.acting.end ≤ length state.old.reading.window.bytes }
-
-    ensures { TurnFinished outlet.old outlet.new state.old state.new finish result }
+/// Goes to the place of the next match.
+#[tactic(auto, using(lexscan_window::proofs::Keeping::text_stays, lexscan_window::proofs::Keeping::text_dropped))]
+fn leave(state: &mut State, over: bool)
+    requires { state.old.acting.end ≤ length state.old.reading.window.bytes }
+    ensures left { Left state.old.reading.window.bytes state.old.acting over state.new }
+    ensures taken { state.new.reading.taken ≡ state.old.reading.taken }
+    ensures at_end { state.new.reading.at_end ≡ state.old.reading.at_end }
+    ensures max_reads { state.new.reading.max_reads ≡ state.old.reading.max_reads }
+    ensures ended { state.new.ended ≡ state.old.ended }
+    ensures failed { state.new.failed ≡ state.old.failed }
+    ensures matched { state.new.matched ≡ state.old.matched }
 {
-    match finish {
-        Some(finish) => finish_turn(outlet, state, finish),
-        None => {
-            leave(state, false);
-            Ok(Turn::Went)
-        }
+    let end = state.acting.end;
+    // After an empty text a line starts where it did.
+    if 0 < end {
+        state.place.line_start = state.reading.window.byte(end - 1) == b'\n';
+    }
+    state.place.condition = state.acting.condition;
+    // With yymore the text stays, at the front of the next one.
+    if state.acting.more && !over {
+        state.place.at = end;
+    } else {
+        state.reading.window.drop_front(end);
+        state.place.at = 0;
     }
 }

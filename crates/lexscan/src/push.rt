@@ -121,7 +121,7 @@ fn scan_to_end<M: Machine, K: Sink>(
     match scan.turns_between(machine, &mut source, sink) {
         Err(e) => Err(e),
         Ok(Turn::Ended(status)) => Ok(status),
-        // A turn that asks for more is told the end.
+        // One read more is allowed than bytes wait, so a turn that asks for more is told the end.
         Ok(Turn::Went) => unreachable!(),
     }
 }
@@ -139,14 +139,12 @@ pub struct PushScanner<M: Machine> {
     ghost reading: { scan.state.failed ≡ false → scan.state.ended ≡ None → scan.state.reading.at_end ≡ false },
     ghost condition: { scan.state.place.condition < (M.machine machine).conditions },
     ghost inside: { scan.state.place.at ≤ length scan.state.reading.window.bytes },
-    ghost stack: { scan.state.failed ≡ false → AllBelow (M.machine machine).conditions scan.state.acting.stack } by {
-        →_prop (AllBelow-prop (M.machine machine).conditions scan.state.acting.stack) },
+    ghost stack: { scan.state.failed ≡ false → AllBelow (M.machine machine).conditions scan.state.acting.stack } by { →_prop (AllBelow-prop (M.machine machine).conditions scan.state.acting.stack) },
     ghost marks: { scan.state.failed ≡ false → AreTrue (M.machine machine) scan.state.reading scan.memo } by { →_prop
         (AreTrue-prop (M.machine machine) scan.state.reading scan.memo) },
     ghost stood: { scan.state.failed ≡ false → Standing (M.machine machine) scan.state } by { →_prop
         (Standing-prop (M.machine machine) scan.state) },
-    ghost asking_more: { IsAsking (M.machine machine) (M.states machine) scan.state waiting.items asking } by {
-        IsAsking-prop (M.machine machine) (M.states machine) scan.state waiting.items asking },
+    ghost asking_more: { IsAsking (M.machine machine) (M.states machine) scan.state waiting.items asking } by { IsAsking-prop (M.machine machine) (M.states machine) scan.state waiting.items asking },
 }
 
 impl<M: Machine> PushScanner<M> {
@@ -205,10 +203,14 @@ impl<M: Machine> PushScanner<M> {
             Some(status) => return Ok(Turn::Ended(status)),
             None => {}
         }
-        let Some(count) = count_with(self.scan.state.reading.taken, self.waiting.len(), piece.len())
-        else {
+        let Some(count) = count_with(
+            self.scan.state.reading.taken,
+            self.waiting.len(),
+            piece.len(),
+        ) else {
             return Err(RunError::TooManyReads);
         };
+        // The state after all bytes is known, so a piece that does not end the match needs one walk.
         if let Some(last) = walk_on(&self.machine, self.asking, piece) {
             match self.waiting.extend_from_slice(piece) {
                 Err(_) => return Err(RunError::OutOfMemory),
@@ -266,11 +268,6 @@ impl<M: Machine> PushScanner<M> {
         };
         self.scan.state.reading.max_reads = count + 1;
         self.asking = None;
-        scan_to_end(
-            &self.machine,
-            &mut self.scan,
-            &self.waiting,
-            sink,
-        )
+        scan_to_end(&self.machine, &mut self.scan, &self.waiting, sink)
     }
 }

@@ -1,7 +1,7 @@
 //! One turn of a scan: it looks for the match, carries it out and leaves its place.
 ghost use Rattle.std.specs.Prelude.{◌<◌, length};
 ghost use Rattle.lex_semantics.specs.MachineLaws.{NoReject};
-ghost use Rattle.lexscan.specs.Scans.{IsGoing, MayTurnOn, TurnMade, TurnOf};
+ghost use Rattle.lexscan.specs.Scans.{IsGoing, MayTurn, TurnMade, TurnOf};
 
 use crate::find::has_backlog;
 use crate::scan::{Ends, Scan};
@@ -23,7 +23,7 @@ impl Scan {
         machine: &M,
         ends: &mut Ends<'_, '_, S, K>,
     ) -> Result<Turn, RunError>
-        requires ready { MayTurnOn (M.machine machine.now) ends.old self.old }
+        requires ready { MayTurn (M.machine machine.now) ends.old self.old }
         ensures { TurnOf (M.machine machine.now) ends.old ends.new self.old self.new result }
     {
         if self.state.failed {
@@ -42,7 +42,7 @@ impl Scan {
         ends: &mut Ends<'_, '_, S, K>,
     ) -> Result<Turn, RunError>
         requires going { IsGoing self.old }
-        requires ready { MayTurnOn (M.machine machine.now) ends.old self.old }
+        requires ready { MayTurn (M.machine machine.now) ends.old self.old }
         ensures { TurnMade (M.machine machine.now) ends.old ends.new self.old self.new result }
     {
         if machine.rejects() {
@@ -64,7 +64,7 @@ impl Scan {
         ends: &mut Ends<'_, '_, S, K>,
     ) -> Result<Turn, RunError>
         requires going { IsGoing self.old }
-        requires ready { MayTurnOn (M.machine machine.now) ends.old self.old }
+        requires ready { MayTurn (M.machine machine.now) ends.old self.old }
         ensures { TurnMade (M.machine machine.now) ends.old ends.new self.old self.new result }
     {
         match self.match_with_reject(machine, ends) {
@@ -85,7 +85,7 @@ impl Scan {
     ) -> Result<Turn, RunError>
         requires no_reject { NoReject (M.machine machine.now) }
         requires going { IsGoing self.old }
-        requires ready { MayTurnOn (M.machine machine.now) ends.old self.old }
+        requires ready { MayTurn (M.machine machine.now) ends.old self.old }
         ensures { TurnMade (M.machine machine.now) ends.old ends.new self.old self.new result }
     {
         match self.match_without_reject(machine, ends) {
@@ -107,7 +107,7 @@ impl Scan {
     ) -> Result<Turn, RunError>
         requires no_reject { NoReject (M.machine machine.now) }
         requires going { IsGoing self.old }
-        requires ready { MayTurnOn (M.machine machine.now) ends.old self.old }
+        requires ready { MayTurn (M.machine machine.now) ends.old self.old }
         requires behind { self.old.state.place.at < length self.old.state.reading.window.bytes }
         ensures { TurnMade (M.machine machine.now) ends.old ends.new self.old self.new result }
     {

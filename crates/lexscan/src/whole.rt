@@ -48,6 +48,7 @@ pub fn run<M: Machine, S: Source, K: Sink>(
         state: State::new(alloc, max_reads),
     };
     let result = run_turns(machine, &mut ends, &mut scan);
+    // What was lent is given back.
     let Ends { intake, outlet } = ends;
     let _source = intake.into_inner();
     let _sink = outlet.into_inner();

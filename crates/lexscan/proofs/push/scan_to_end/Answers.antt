@@ -37,11 +37,11 @@ returns-in-Ok-Ended-clause-left g c = record {
   failed = grind (arith, common_steps);
   kept = grind (arith, common_steps);
   stood = λ _. (
-    let M = g.M.Machine.machine c.args.machine.now in
-    let ran = rw c.in-Ok-Ended.field-0-is at c.in-Ok-Ended.ensures.ran in
-    let t = ran.5 in
-    Push.standing_on M c.args.scan.now.state c.turns_between.new.self.state t.0 ran.0 ran.1 c.requires.paused.stood t.3
-  );
+      let M = g.M.Machine.machine c.args.machine.now in
+      let ran = rw c.in-Ok-Ended.field-0-is at c.in-Ok-Ended.ensures.ran in
+      let t = ran.5 in
+      Push.standing_on M c.args.scan.now.state c.turns_between.new.self.state t.0 ran.0 ran.1 c.requires.paused.stood t.3
+      );
 }
 
 pub returns-in-Err-clause-finished : goal.returns-in-Err-clause-finished

@@ -41,12 +41,16 @@ returns-in-Ok-Went-clause-fed g c =
 
 pub returns-in-Ok-Went-clause-left : goal.returns-in-Ok-Went-clause-left
 returns-in-Ok-Went-clause-left g c = record {
-  next = record { failed = grind (arith, common_steps); kept = grind (arith, common_steps); stood = λ _. (
-    let M = g.M.Machine.machine c.args.machine.now in
-    let ran = rw c.in-Ok-Went.field-0-is at c.in-Ok-Went.ensures.ran in
-    let p = ran.5 in
-    Push.standing_on M c.args.scan.now.state c.turns_between.new.self.state p.turns ran.0 ran.1 c.requires.paused.stood p.made
-  ) };
+  next = record {
+    failed = grind (arith, common_steps);
+    kept = grind (arith, common_steps);
+    stood = λ _. (
+        let M = g.M.Machine.machine c.args.machine.now in
+        let ran = rw c.in-Ok-Went.field-0-is at c.in-Ok-Went.ensures.ran in
+        let p = ran.5 in
+        Push.standing_on M c.args.scan.now.state c.turns_between.new.self.state p.turns ran.0 ran.1 c.requires.paused.stood p.made
+        );
+  };
   reading = grind (arith, common_steps);
   asking_more = grind (arith, common_steps);
 }
@@ -72,12 +76,16 @@ returns-in-Ok-Ended-clause-fed g c =
 
 pub returns-in-Ok-Ended-clause-left : goal.returns-in-Ok-Ended-clause-left
 returns-in-Ok-Ended-clause-left g c = record {
-  next = record { failed = grind (arith, common_steps); kept = grind (arith, common_steps); stood = λ _. (
-    let M = g.M.Machine.machine c.args.machine.now in
-    let ran = rw c.in-Ok-Ended.field-0-is at c.in-Ok-Ended.ensures.ran in
-    let t = ran.5 in
-    Push.standing_on M c.args.scan.now.state c.turns_between.new.self.state t.0 ran.0 ran.1 c.requires.paused.stood t.3
-  ) };
+  next = record {
+    failed = grind (arith, common_steps);
+    kept = grind (arith, common_steps);
+    stood = λ _. (
+        let M = g.M.Machine.machine c.args.machine.now in
+        let ran = rw c.in-Ok-Ended.field-0-is at c.in-Ok-Ended.ensures.ran in
+        let t = ran.5 in
+        Push.standing_on M c.args.scan.now.state c.turns_between.new.self.state t.0 ran.0 ran.1 c.requires.paused.stood t.3
+        );
+  };
   reading = grind (arith, common_steps);
   asking_more = grind (arith, common_steps);
 }

@@ -20,26 +20,26 @@ pub returns-in_err-status : goal.returns-in_err-status
 returns-in_err-status g c = record {
   same = grind (arith, common_steps);
   ran = (
-    let inv = c.turns.invariant in
-    let h = inv.running in
-    let now = c.in_err-status.ensures in
-    let m = now.goes_on in
-    let fell = m.5.1 h.turns h.given h.out h.stands in
-    let ended : g.S.Source.ends c.turn_over_backlog.new.ends.intake.source.now ≡ g.S.Source.ends c.args.ends.now.intake.source.now + end_step false c.turn_over_backlog.new.self.state.reading.at_end =
-    omega (arith, now.counts.ends, inv.ends, Last.answered_once c.turns.scan.state.reading.at_end c.turn_over_backlog.new.self.state.reading.at_end (λ e. (m.4 e).1)) in
-    let p = err_from_is_err_and c.from_residual.result c.from_residual.ensures.1 in
-    rw (p.1, p.2) (
-      h.given ++ m.0,
-      h.out ++ m.1,
-      g.met.S.Source.gave_more _ _ _ _ _ h.source m.2,
-      g.met.K.Sink.wrote_more _ _ _ _ _ h.sink m.3,
-      Last.ran_into _ h.turns _ _ _ h.given m.0 (h.out ++ m.1) c.turn_over_backlog.new.self.state c.in_err-status.field-0.0
-          ended
-          (λ is. (let many = now.too_many (ap Err is) in (many.0 ∙ now.counts.max_reads ∙ inv.max_reads, many.1)))
-          fell,
-      Last.few_made _ c.turn_over_backlog.new.self.state _ _ _ _ _ _ _ fell.taken ended now.counts.read_faults (inv.read_faults) now.counts.few_reads (now.counts.max_reads ∙ inv.max_reads),
-    )
-  );
+      let inv = c.turns.invariant in
+      let h = inv.running in
+      let now = c.in_err-status.ensures in
+      let m = now.goes_on in
+      let fell = m.5.1 h.turns h.given h.out h.stands in
+      let ended : g.S.Source.ends c.turn_over_backlog.new.ends.intake.source.now ≡ g.S.Source.ends c.args.ends.now.intake.source.now + end_step false c.turn_over_backlog.new.self.state.reading.at_end =
+      omega (arith, now.counts.ends, inv.ends, Last.answered_once c.turns.scan.state.reading.at_end c.turn_over_backlog.new.self.state.reading.at_end (λ e. (m.4 e).1)) in
+      let p = err_from_is_err_and c.from_residual.result c.from_residual.ensures.1 in
+      rw (p.1, p.2) (
+        h.given ++ m.0,
+        h.out ++ m.1,
+        g.met.S.Source.gave_more _ _ _ _ _ h.source m.2,
+        g.met.K.Sink.wrote_more _ _ _ _ _ h.sink m.3,
+        Last.ran_into _ h.turns _ _ _ h.given m.0 (h.out ++ m.1) c.turn_over_backlog.new.self.state c.in_err-status.field-0.0
+            ended
+            (λ is. (let many = now.too_many (ap Err is) in (many.0 ∙ now.counts.max_reads ∙ inv.max_reads, many.1)))
+            fell,
+        Last.few_made _ c.turn_over_backlog.new.self.state _ _ _ _ _ _ _ fell.taken ended now.counts.read_faults (inv.read_faults) now.counts.few_reads (now.counts.max_reads ∙ inv.max_reads),
+      )
+      );
   counts = grind (arith, common_steps);
   handed_on = grind (arith, common_steps);
 }
@@ -48,23 +48,23 @@ pub returns-in-Ended : goal.returns-in-Ended
 returns-in-Ended g c = record {
   same = grind (arith, common_steps);
   ran = (
-    let inv = c.turns.invariant in
-    let h = inv.running in
-    let now = c.in_ok-status.ensures in
-    let m = rw c.in-Ended.is at now.goes_on in
-    let after = m.5.1 h.turns h.given h.out h.stands in
-    let ended : g.S.Source.ends c.turn_over_backlog.new.ends.intake.source.now ≡ g.S.Source.ends c.args.ends.now.intake.source.now + end_step false c.turn_over_backlog.new.self.state.reading.at_end =
-    omega (arith, now.counts.ends, inv.ends, Last.answered_once c.turns.scan.state.reading.at_end c.turn_over_backlog.new.self.state.reading.at_end (λ e. (m.4 e).1)) in (
-      h.given ++ m.0,
-      h.out ++ m.1,
-      g.met.S.Source.gave_more _ _ _ _ _ h.source m.2,
-      g.met.K.Sink.wrote_more _ _ _ _ _ h.sink m.3,
-      Last.ran_to _ (suc h.turns) c.in-Ended.status _ _ (h.given ++ m.0) (h.out ++ m.1) c.turn_over_backlog.new.self.state
-          ended
-          m.5.0 after,
-      Last.few_made _ c.turn_over_backlog.new.self.state _ _ _ _ _ _ _ after.taken ended now.counts.read_faults (inv.read_faults) now.counts.few_reads (now.counts.max_reads ∙ inv.max_reads),
-    )
-  );
+      let inv = c.turns.invariant in
+      let h = inv.running in
+      let now = c.in_ok-status.ensures in
+      let m = rw c.in-Ended.is at now.goes_on in
+      let after = m.5.1 h.turns h.given h.out h.stands in
+      let ended : g.S.Source.ends c.turn_over_backlog.new.ends.intake.source.now ≡ g.S.Source.ends c.args.ends.now.intake.source.now + end_step false c.turn_over_backlog.new.self.state.reading.at_end =
+      omega (arith, now.counts.ends, inv.ends, Last.answered_once c.turns.scan.state.reading.at_end c.turn_over_backlog.new.self.state.reading.at_end (λ e. (m.4 e).1)) in (
+        h.given ++ m.0,
+        h.out ++ m.1,
+        g.met.S.Source.gave_more _ _ _ _ _ h.source m.2,
+        g.met.K.Sink.wrote_more _ _ _ _ _ h.sink m.3,
+        Last.ran_to _ (suc h.turns) c.in-Ended.status _ _ (h.given ++ m.0) (h.out ++ m.1) c.turn_over_backlog.new.self.state
+            ended
+            m.5.0 after,
+        Last.few_made _ c.turn_over_backlog.new.self.state _ _ _ _ _ _ _ after.taken ended now.counts.read_faults (inv.read_faults) now.counts.few_reads (now.counts.max_reads ∙ inv.max_reads),
+      )
+      );
   counts = grind (arith, common_steps);
   handed_on = grind (arith, common_steps);
 }
@@ -102,30 +102,30 @@ pub returns-in_err-most : goal.returns-in_err-most
 returns-in_err-most g c = record {
   same = grind (arith, common_steps);
   ran = (
-    let M = g.M.Machine.machine c.args.machine.now in
-    let inv = c.turns.invariant in
-    let h = inv.running in
-    let now = c.in_err-most.ensures in
-    let m = now.goes_on in
-    let fell = m.5.4 h.turns h.given h.out h.stands in
-    let all : (h.given ++ m.5.1) ++ m.5.2 ≡ h.given ++ m.0 = append_assoc h.given m.5.1 m.5.2 ∙ ap (λ l. h.given ++ l) (sym m.5.3) in
-    let ended : g.S.Source.ends c.go_further.new.ends.intake.source.now ≡ g.S.Source.ends c.args.ends.now.intake.source.now + end_step false c.go_further.new.self.state.reading.at_end =
-    now.ends ∙ inv.ends ∙ ap (λ b. g.S.Source.ends c.args.ends.now.intake.source.now + end_step false b) (sym now.at_end) in
-    let p = err_from_is_err_and c.from_residual-in_err-most.result c.from_residual-in_err-most.ensures.1 in
-    rw (p.1, p.2) (
-      h.given ++ m.0,
-      h.out ++ m.1,
-      g.met.S.Source.gave_more _ _ _ _ _ h.source m.2,
-      g.met.K.Sink.wrote_more _ _ _ _ _ h.sink m.3,
-      subst (λ l. RanInto (rules_of_machine M) l (h.out ++ m.1) (nat_lt (g.S.Source.ends c.args.ends.now.intake.source.now) (g.S.Source.ends c.go_further.new.ends.intake.source.now)) c.args.scan.now.state.reading.max_reads c.in_err-most.field-0.0)
-          all
-          (Last.ran_into M (m.5.0 + h.turns) _ _ _ (h.given ++ m.5.1) m.5.2 (h.out ++ m.1) c.go_further.new.self.state c.in_err-most.field-0.0
-          ended
-          (λ is. absurd (no_write c.in_err-most.field-0.0 now.refusals is))
-          fell),
-      Last.few_made _ c.go_further.new.self.state _ 0 _ _ _ _ _ (fell.taken ∙ ap length all) ended (omega (arith, now.read_faults)) inv.read_faults (omega (arith, c.go_further.new.self.state.reading.few_reads)) (now.max_reads ∙ inv.max_reads),
-    )
-  );
+      let M = g.M.Machine.machine c.args.machine.now in
+      let inv = c.turns.invariant in
+      let h = inv.running in
+      let now = c.in_err-most.ensures in
+      let m = now.goes_on in
+      let fell = m.5.4 h.turns h.given h.out h.stands in
+      let all : (h.given ++ m.5.1) ++ m.5.2 ≡ h.given ++ m.0 = append_assoc h.given m.5.1 m.5.2 ∙ ap (λ l. h.given ++ l) (sym m.5.3) in
+      let ended : g.S.Source.ends c.go_further.new.ends.intake.source.now ≡ g.S.Source.ends c.args.ends.now.intake.source.now + end_step false c.go_further.new.self.state.reading.at_end =
+      now.ends ∙ inv.ends ∙ ap (λ b. g.S.Source.ends c.args.ends.now.intake.source.now + end_step false b) (sym now.at_end) in
+      let p = err_from_is_err_and c.from_residual-in_err-most.result c.from_residual-in_err-most.ensures.1 in
+      rw (p.1, p.2) (
+        h.given ++ m.0,
+        h.out ++ m.1,
+        g.met.S.Source.gave_more _ _ _ _ _ h.source m.2,
+        g.met.K.Sink.wrote_more _ _ _ _ _ h.sink m.3,
+        subst (λ l. RanInto (rules_of_machine M) l (h.out ++ m.1) (nat_lt (g.S.Source.ends c.args.ends.now.intake.source.now) (g.S.Source.ends c.go_further.new.ends.intake.source.now)) c.args.scan.now.state.reading.max_reads c.in_err-most.field-0.0)
+            all
+            (Last.ran_into M (m.5.0 + h.turns) _ _ _ (h.given ++ m.5.1) m.5.2 (h.out ++ m.1) c.go_further.new.self.state c.in_err-most.field-0.0
+            ended
+            (λ is. absurd (no_write c.in_err-most.field-0.0 now.refusals is))
+            fell),
+        Last.few_made _ c.go_further.new.self.state _ 0 _ _ _ _ _ (fell.taken ∙ ap length all) ended (omega (arith, now.read_faults)) inv.read_faults (omega (arith, c.go_further.new.self.state.reading.few_reads)) (now.max_reads ∙ inv.max_reads),
+      )
+      );
   counts = grind (arith, common_steps);
   handed_on = grind (arith, common_steps);
 }
@@ -134,31 +134,31 @@ pub returns-in_err-status-2 : goal.returns-in_err-status-2
 returns-in_err-status-2 g c = record {
   same = grind (arith, common_steps);
   ran = (
-    let inv = c.turns.invariant in
-    let first = c.in_ok-most.ensures in
-    let k = first.goes_on in
-    let h = Last.running_further (g.M.Machine.machine c.args.machine.now) g.S.Source.gave g.K.Sink.wrote _ _ _ _ _ _ c.turns.scan.state c.go_further.new.self.state k.5.0 k.0 k.1 g.met.S.Source.gave_more g.met.K.Sink.wrote_more inv.running k.2 k.3
-    (k.5.1 inv.running.turns inv.running.given inv.running.out inv.running.stands) in
-    let ends : g.S.Source.ends c.go_further.new.ends.intake.source.now ≡ g.S.Source.ends c.args.ends.now.intake.source.now + end_step false c.go_further.new.self.state.reading.at_end =
-    first.ends ∙ inv.ends ∙ ap (λ b. g.S.Source.ends c.args.ends.now.intake.source.now + end_step false b) (sym first.at_end) in
-    let now = c.in_err-status-2.ensures in
-    let m = now.goes_on in
-    let fell = m.5.1 h.turns h.given h.out h.stands in
-    let ended : g.S.Source.ends c.turn_without_reject.new.ends.intake.source.now ≡ g.S.Source.ends c.args.ends.now.intake.source.now + end_step false c.turn_without_reject.new.self.state.reading.at_end =
-    omega (arith, now.counts.ends, ends, Last.answered_once c.go_further.new.self.state.reading.at_end c.turn_without_reject.new.self.state.reading.at_end (λ e. (m.4 e).1)) in
-    let p = err_from_is_err_and c.from_residual-in_err-status-2.result c.from_residual-in_err-status-2.ensures.1 in
-    rw (p.1, p.2) (
-      h.given ++ m.0,
-      h.out ++ m.1,
-      g.met.S.Source.gave_more _ _ _ _ _ h.source m.2,
-      g.met.K.Sink.wrote_more _ _ _ _ _ h.sink m.3,
-      Last.ran_into _ h.turns _ _ _ h.given m.0 (h.out ++ m.1) c.turn_without_reject.new.self.state c.in_err-status-2.field-0.0
-          ended
-          (λ is. (let many = now.too_many (ap Err is) in (many.0 ∙ now.counts.max_reads ∙ first.max_reads ∙ inv.max_reads, many.1)))
-          fell,
-      Last.few_made _ c.turn_without_reject.new.self.state _ _ _ _ _ _ _ fell.taken ended now.counts.read_faults (first.read_faults ∙ inv.read_faults) now.counts.few_reads (now.counts.max_reads ∙ first.max_reads ∙ inv.max_reads),
-    )
-  );
+      let inv = c.turns.invariant in
+      let first = c.in_ok-most.ensures in
+      let k = first.goes_on in
+      let h = Last.running_further (g.M.Machine.machine c.args.machine.now) g.S.Source.gave g.K.Sink.wrote _ _ _ _ _ _ c.turns.scan.state c.go_further.new.self.state k.5.0 k.0 k.1 g.met.S.Source.gave_more g.met.K.Sink.wrote_more inv.running k.2 k.3
+      (k.5.1 inv.running.turns inv.running.given inv.running.out inv.running.stands) in
+      let ends : g.S.Source.ends c.go_further.new.ends.intake.source.now ≡ g.S.Source.ends c.args.ends.now.intake.source.now + end_step false c.go_further.new.self.state.reading.at_end =
+      first.ends ∙ inv.ends ∙ ap (λ b. g.S.Source.ends c.args.ends.now.intake.source.now + end_step false b) (sym first.at_end) in
+      let now = c.in_err-status-2.ensures in
+      let m = now.goes_on in
+      let fell = m.5.1 h.turns h.given h.out h.stands in
+      let ended : g.S.Source.ends c.turn_without_reject.new.ends.intake.source.now ≡ g.S.Source.ends c.args.ends.now.intake.source.now + end_step false c.turn_without_reject.new.self.state.reading.at_end =
+      omega (arith, now.counts.ends, ends, Last.answered_once c.go_further.new.self.state.reading.at_end c.turn_without_reject.new.self.state.reading.at_end (λ e. (m.4 e).1)) in
+      let p = err_from_is_err_and c.from_residual-in_err-status-2.result c.from_residual-in_err-status-2.ensures.1 in
+      rw (p.1, p.2) (
+        h.given ++ m.0,
+        h.out ++ m.1,
+        g.met.S.Source.gave_more _ _ _ _ _ h.source m.2,
+        g.met.K.Sink.wrote_more _ _ _ _ _ h.sink m.3,
+        Last.ran_into _ h.turns _ _ _ h.given m.0 (h.out ++ m.1) c.turn_without_reject.new.self.state c.in_err-status-2.field-0.0
+            ended
+            (λ is. (let many = now.too_many (ap Err is) in (many.0 ∙ now.counts.max_reads ∙ first.max_reads ∙ inv.max_reads, many.1)))
+            fell,
+        Last.few_made _ c.turn_without_reject.new.self.state _ _ _ _ _ _ _ fell.taken ended now.counts.read_faults (first.read_faults ∙ inv.read_faults) now.counts.few_reads (now.counts.max_reads ∙ first.max_reads ∙ inv.max_reads),
+      )
+      );
   counts = grind (arith, common_steps);
   handed_on = grind (arith, common_steps);
 }
@@ -167,28 +167,28 @@ pub returns-in-Ended-2 : goal.returns-in-Ended-2
 returns-in-Ended-2 g c = record {
   same = grind (arith, common_steps);
   ran = (
-    let inv = c.turns.invariant in
-    let first = c.in_ok-most.ensures in
-    let k = first.goes_on in
-    let h = Last.running_further (g.M.Machine.machine c.args.machine.now) g.S.Source.gave g.K.Sink.wrote _ _ _ _ _ _ c.turns.scan.state c.go_further.new.self.state k.5.0 k.0 k.1 g.met.S.Source.gave_more g.met.K.Sink.wrote_more inv.running k.2 k.3
-    (k.5.1 inv.running.turns inv.running.given inv.running.out inv.running.stands) in
-    let ends : g.S.Source.ends c.go_further.new.ends.intake.source.now ≡ g.S.Source.ends c.args.ends.now.intake.source.now + end_step false c.go_further.new.self.state.reading.at_end =
-    first.ends ∙ inv.ends ∙ ap (λ b. g.S.Source.ends c.args.ends.now.intake.source.now + end_step false b) (sym first.at_end) in
-    let now = c.in_ok-status-2.ensures in
-    let m = rw c.in-Ended-2.is at now.goes_on in
-    let after = m.5.1 h.turns h.given h.out h.stands in
-    let ended : g.S.Source.ends c.turn_without_reject.new.ends.intake.source.now ≡ g.S.Source.ends c.args.ends.now.intake.source.now + end_step false c.turn_without_reject.new.self.state.reading.at_end =
-    omega (arith, now.counts.ends, ends, Last.answered_once c.go_further.new.self.state.reading.at_end c.turn_without_reject.new.self.state.reading.at_end (λ e. (m.4 e).1)) in (
-      h.given ++ m.0,
-      h.out ++ m.1,
-      g.met.S.Source.gave_more _ _ _ _ _ h.source m.2,
-      g.met.K.Sink.wrote_more _ _ _ _ _ h.sink m.3,
-      Last.ran_to _ (suc h.turns) c.in-Ended-2.status _ _ (h.given ++ m.0) (h.out ++ m.1) c.turn_without_reject.new.self.state
-          ended
-          m.5.0 after,
-      Last.few_made _ c.turn_without_reject.new.self.state _ _ _ _ _ _ _ after.taken ended now.counts.read_faults (first.read_faults ∙ inv.read_faults) now.counts.few_reads (now.counts.max_reads ∙ first.max_reads ∙ inv.max_reads),
-    )
-  );
+      let inv = c.turns.invariant in
+      let first = c.in_ok-most.ensures in
+      let k = first.goes_on in
+      let h = Last.running_further (g.M.Machine.machine c.args.machine.now) g.S.Source.gave g.K.Sink.wrote _ _ _ _ _ _ c.turns.scan.state c.go_further.new.self.state k.5.0 k.0 k.1 g.met.S.Source.gave_more g.met.K.Sink.wrote_more inv.running k.2 k.3
+      (k.5.1 inv.running.turns inv.running.given inv.running.out inv.running.stands) in
+      let ends : g.S.Source.ends c.go_further.new.ends.intake.source.now ≡ g.S.Source.ends c.args.ends.now.intake.source.now + end_step false c.go_further.new.self.state.reading.at_end =
+      first.ends ∙ inv.ends ∙ ap (λ b. g.S.Source.ends c.args.ends.now.intake.source.now + end_step false b) (sym first.at_end) in
+      let now = c.in_ok-status-2.ensures in
+      let m = rw c.in-Ended-2.is at now.goes_on in
+      let after = m.5.1 h.turns h.given h.out h.stands in
+      let ended : g.S.Source.ends c.turn_without_reject.new.ends.intake.source.now ≡ g.S.Source.ends c.args.ends.now.intake.source.now + end_step false c.turn_without_reject.new.self.state.reading.at_end =
+      omega (arith, now.counts.ends, ends, Last.answered_once c.go_further.new.self.state.reading.at_end c.turn_without_reject.new.self.state.reading.at_end (λ e. (m.4 e).1)) in (
+        h.given ++ m.0,
+        h.out ++ m.1,
+        g.met.S.Source.gave_more _ _ _ _ _ h.source m.2,
+        g.met.K.Sink.wrote_more _ _ _ _ _ h.sink m.3,
+        Last.ran_to _ (suc h.turns) c.in-Ended-2.status _ _ (h.given ++ m.0) (h.out ++ m.1) c.turn_without_reject.new.self.state
+            ended
+            m.5.0 after,
+        Last.few_made _ c.turn_without_reject.new.self.state _ _ _ _ _ _ _ after.taken ended now.counts.read_faults (first.read_faults ∙ inv.read_faults) now.counts.few_reads (now.counts.max_reads ∙ first.max_reads ∙ inv.max_reads),
+      )
+      );
   counts = grind (arith, common_steps);
   handed_on = grind (arith, common_steps);
 }

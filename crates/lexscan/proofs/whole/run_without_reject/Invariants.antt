@@ -1,7 +1,7 @@
 use Rattle.std.proofs.Common.{◌≡◌, ◌+◌, false}
 use Rattle.lexscan_window.specs.Reads.{end_step}
 use Rattle.lexscan.specs.Runs.{Running}
-use Rattle.lexscan.specs.Scans.{IsGoing, SameEnds, MayTurnOn}
+use Rattle.lexscan.specs.Scans.{IsGoing, SameEnds, MayTurn}
 use Rattle.lexscan.proofs.Lasting.{left_over}
 use Rattle.lexscan.proofs.whole.run_without_reject.Given as goal
 
@@ -11,7 +11,7 @@ invariant-turns g l =
     record {
       same : SameEnds l.fn.ends l.ends;
       going : IsGoing l.scan;
-      next : MayTurnOn M l.ends l.scan;
+      next : MayTurn M l.ends l.scan;
       max_reads : l.scan.state.reading.max_reads ≡ l.fn.scan.state.reading.max_reads;
       running : Running M g.S.Source.gave g.K.Sink.wrote l.fn.ends.intake.source.now l.ends.intake.source.now l.fn.ends.outlet.sink.now l.ends.outlet.sink.now l.scan.state;
       ends : g.S.Source.ends l.ends.intake.source.now ≡ g.S.Source.ends l.fn.ends.intake.source.now + end_step false l.scan.state.reading.at_end;

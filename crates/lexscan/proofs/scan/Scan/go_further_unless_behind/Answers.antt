@@ -17,8 +17,8 @@ returns-then-has_backlog g c = record {
   going = grind (arith, common_steps);
   working = grind (arith, common_steps);
   next = record {
-    ready = grind (arith, common_steps);
-    inside = grind (arith, common_steps);
-    marks = grind (arith, common_steps);
+    may_read = grind (arith, common_steps);
+    may_write = grind (arith, common_steps);
+    kept = grind (arith, common_steps);
   };
 }

@@ -12,13 +12,13 @@ returns-in-Ok-true g c =
     let M : Machine = g.M.Machine.machine c.args.machine.now in
     let looked : Looked M c.args.self.now.state.place c.args.self.now.state.reading c.look_ahead.new.reading c.look_ahead.new.path.states =
     subst (LookedOrAtEnd M c.args.self.now.state.place c.args.self.now.state.reading c.look_ahead.new.reading c.look_ahead.new.path.states) c.in-Ok-true.field-0-test c.in-Ok-true.ensures.looked in
-    match_made M _ _ _ _ _ (grind (arith, common_steps)) c.match_turn.ensures.handed_on (tied_moved M g.S.Source.gave g.K.Sink.wrote _ _ _ _ _ c.args.self.now.state _ g.met.K.Sink.wrote_more c.look_ahead.ensures.put.sink _ (matched_moved M g.S.Source.gave g.K.Sink.wrote _ _ _ _ c.args.self.now.state c.look_ahead.new.reading c.match_turn.new.state c.look_ahead.ensures.took g.K.Sink.failures _ c.look_ahead.new.path.states c.match_turn.result looked
-    c.match_turn.ensures.left)) (grind (arith, common_steps)) (grind (arith, common_steps)) (c.requires.ready.marks c.requires.going.working)
+    match_made M _ _ _ _ _ (grind (arith, common_steps)) c.carry_with_reject.ensures.handed_on (tied_moved M g.S.Source.gave g.K.Sink.wrote _ _ _ _ _ c.args.self.now.state _ g.met.K.Sink.wrote_more c.look_ahead.ensures.put.sink _ (matched_moved M g.S.Source.gave g.K.Sink.wrote _ _ _ _ c.args.self.now.state c.look_ahead.new.reading c.carry_with_reject.new.state c.look_ahead.ensures.took g.K.Sink.failures _ c.look_ahead.new.path.states c.carry_with_reject.result looked
+    c.carry_with_reject.ensures.left)) (grind (arith, common_steps)) (grind (arith, common_steps)) (c.requires.ready.kept.marks c.requires.going.working)
 
 pub returns-in-Ok-false : goal.returns-in-Ok-false
 returns-in-Ok-false g c =
     let M : Machine = g.M.Machine.machine c.args.machine.now in
     let looked : LookedAtEnd c.args.self.now.state.place c.args.self.now.state.reading c.look_ahead.new.reading =
     subst (LookedOrAtEnd M c.args.self.now.state.place c.args.self.now.state.reading c.look_ahead.new.reading c.look_ahead.new.path.states) c.in-Ok-false.field-0-test c.in-Ok-false.ensures.looked in
-    match_made M _ _ _ _ _ (grind (arith, common_steps)) c.end_turn.ensures.handed_on (tied_moved M g.S.Source.gave g.K.Sink.wrote _ _ _ _ _ c.args.self.now.state _ g.met.K.Sink.wrote_more c.look_ahead.ensures.put.sink _ (finished_moved M g.S.Source.gave g.K.Sink.wrote _ _ _ _ c.args.self.now.state c.look_ahead.new.reading c.end_turn.new.state c.look_ahead.ensures.took c.end_turn.result
-    looked c.end_turn.ensures.bytes c.end_turn.ensures.left c.end_turn.ensures.sink.refusals c.end_turn.ensures.unchanged)) (grind (arith, common_steps)) (grind (arith, common_steps)) (c.requires.ready.marks c.requires.going.working)
+    match_made M _ _ _ _ _ (grind (arith, common_steps)) c.carry_end.ensures.handed_on (tied_moved M g.S.Source.gave g.K.Sink.wrote _ _ _ _ _ c.args.self.now.state _ g.met.K.Sink.wrote_more c.look_ahead.ensures.put.sink _ (finished_moved M g.S.Source.gave g.K.Sink.wrote _ _ _ _ c.args.self.now.state c.look_ahead.new.reading c.carry_end.new.state c.look_ahead.ensures.took c.carry_end.result
+    looked c.carry_end.ensures.bytes c.carry_end.ensures.left c.carry_end.ensures.sink.refusals c.carry_end.ensures.unchanged)) (grind (arith, common_steps)) (grind (arith, common_steps)) (c.requires.ready.kept.marks c.requires.going.working)

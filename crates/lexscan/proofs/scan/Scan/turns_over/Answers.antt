@@ -89,14 +89,14 @@ returns-in_err-attempt-clause-ran g c =
 pub returns-in_err-attempt-clause-counts : goal.returns-in_err-attempt-clause-counts
 returns-in_err-attempt-clause-counts g c = record {
   ends = (
-    let inv = c.turns.invariant in
-    let first = c.in_ok-most.ensures in
-    let ends : g.S.Source.ends c.go_further_unless_behind.new.ends.intake.source.now ≡ g.S.Source.ends c.args.ends.now.intake.source.now + end_step false c.go_further_unless_behind.new.self.state.reading.at_end =
-    first.ends ∙ inv.ends ∙ ap (λ b. g.S.Source.ends c.args.ends.now.intake.source.now + end_step false b) (sym first.at_end) in
-    let now = c.in_err-attempt.ensures in
-    let m = now.attempts in
-    omega (arith, now.ends, ends, Last.answered_once c.go_further_unless_behind.new.self.state.reading.at_end c.attempt.new.self.state.reading.at_end (λ e. (m.4 e).1))
-  );
+      let inv = c.turns.invariant in
+      let first = c.in_ok-most.ensures in
+      let ends : g.S.Source.ends c.go_further_unless_behind.new.ends.intake.source.now ≡ g.S.Source.ends c.args.ends.now.intake.source.now + end_step false c.go_further_unless_behind.new.self.state.reading.at_end =
+      first.ends ∙ inv.ends ∙ ap (λ b. g.S.Source.ends c.args.ends.now.intake.source.now + end_step false b) (sym first.at_end) in
+      let now = c.in_err-attempt.ensures in
+      let m = now.attempts in
+      omega (arith, now.ends, ends, Last.answered_once c.go_further_unless_behind.new.self.state.reading.at_end c.attempt.new.self.state.reading.at_end (λ e. (m.4 e).1))
+      );
   read_faults = grind (arith, common_steps);
   write_faults = grind (arith, common_steps);
 }
@@ -130,14 +130,14 @@ returns-in-None-clause-ran g c =
 pub returns-in-None-clause-counts : goal.returns-in-None-clause-counts
 returns-in-None-clause-counts g c = record {
   ends = (
-    let inv = c.turns.invariant in
-    let first = c.in_ok-most.ensures in
-    let ends : g.S.Source.ends c.go_further_unless_behind.new.ends.intake.source.now ≡ g.S.Source.ends c.args.ends.now.intake.source.now + end_step false c.go_further_unless_behind.new.self.state.reading.at_end =
-    first.ends ∙ inv.ends ∙ ap (λ b. g.S.Source.ends c.args.ends.now.intake.source.now + end_step false b) (sym first.at_end) in
-    let now = c.in_ok-attempt.ensures in
-    let m = rw c.in-None.is at now.attempts in
-    omega (arith, now.ends, ends, Last.answered_once c.go_further_unless_behind.new.self.state.reading.at_end c.attempt.new.self.state.reading.at_end (λ e. (m.4 e).1))
-  );
+      let inv = c.turns.invariant in
+      let first = c.in_ok-most.ensures in
+      let ends : g.S.Source.ends c.go_further_unless_behind.new.ends.intake.source.now ≡ g.S.Source.ends c.args.ends.now.intake.source.now + end_step false c.go_further_unless_behind.new.self.state.reading.at_end =
+      first.ends ∙ inv.ends ∙ ap (λ b. g.S.Source.ends c.args.ends.now.intake.source.now + end_step false b) (sym first.at_end) in
+      let now = c.in_ok-attempt.ensures in
+      let m = rw c.in-None.is at now.attempts in
+      omega (arith, now.ends, ends, Last.answered_once c.go_further_unless_behind.new.self.state.reading.at_end c.attempt.new.self.state.reading.at_end (λ e. (m.4 e).1))
+      );
   read_faults = grind (arith, common_steps);
   write_faults = grind (arith, common_steps);
 }
@@ -214,7 +214,7 @@ turns-preserved g c =
     record {
       same = record { source = now.same.source ∙ first.same.source ∙ inv.same.source; sink = now.same.sink ∙ first.same.sink ∙ inv.same.sink };
       going = record { working = works; going = m.5.0 };
-      next = record { ready = next; inside = now.kept.inside; marks = now.kept.marks };
+      next = next;
       max_reads = now.max_reads ∙ first.max_reads ∙ inv.max_reads;
       stood = Push.standing_on M mid new 1 m.0 m.1 stood one;
       onward = Push.onward_more M g.S.Source.gave g.K.Sink.wrote g.met.S.Source.gave_more g.met.K.Sink.wrote_more _ _ _ _ _ _ c.args.self.now.state mid new 1 m.0 m.1 on m.2 m.3 one;

@@ -1,7 +1,7 @@
 use Rattle.std.proofs.Common.{◌≡◌, ◌+◌, false}
 use Rattle.lexscan_window.specs.Reads.{end_step}
 use Rattle.lexscan.specs.Pushes.{Standing}
-use Rattle.lexscan.specs.Scans.{IsGoing, SameEnds, MayTurnOn}
+use Rattle.lexscan.specs.Scans.{IsGoing, SameEnds, MayTurn}
 use Rattle.lexscan.proofs.Lasting.{left_over}
 use Rattle.lexscan.proofs.Pushing.{Onward}
 use Rattle.lexscan.proofs.scan.Scan.turns_over.Given as goal
@@ -12,7 +12,7 @@ invariant-turns g l =
     record {
       same : SameEnds l.fn.ends l.ends;
       going : IsGoing l.self;
-      next : MayTurnOn M l.ends l.self;
+      next : MayTurn M l.ends l.self;
       max_reads : l.self.state.reading.max_reads ≡ l.fn.self.state.reading.max_reads;
       stood : Standing M l.self.state;
       onward : Onward M g.S.Source.gave g.K.Sink.wrote l.fn.ends.intake.source.now l.ends.intake.source.now l.fn.ends.outlet.sink.now l.ends.outlet.sink.now l.fn.self.state l.self.state;

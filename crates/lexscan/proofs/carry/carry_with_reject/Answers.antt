@@ -2,7 +2,7 @@ use Rattle.std.proofs.Common.{◌∙◌}
 use Rattle.lex_semantics.specs.Machine.{Machine}
 use Rattle.lexscan.proofs.Leaving.{match_cut, match_left}
 use Rattle.lexscan.proofs.Tying.{write_only}
-use Rattle.lexscan.proofs.carry.match_turn.Goals as goal
+use Rattle.lexscan.proofs.carry.carry_with_reject.Goals as goal
 
 pub returns-in-Err : goal.returns-in-Err
 returns-in-Err g c =

@@ -5,7 +5,7 @@ use Rattle.lex_semantics.specs.Spec.{EndAction}
 use Rattle.lexscan_window.proofs.Saying.{prefix_same}
 use Rattle.lexscan_matching.proofs.Descending.{wrote_flushed}
 use Rattle.lexscan.proofs.Tying.{write_only}
-use Rattle.lexscan.proofs.carry.end_turn.Goals as goal
+use Rattle.lexscan.proofs.carry.carry_end.Goals as goal
 
 pub returns-in-Err : goal.returns-in-Err
 returns-in-Err g c = record {

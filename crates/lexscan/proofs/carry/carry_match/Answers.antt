@@ -5,7 +5,7 @@ use Rattle.lexscan_matching.specs.Descends.{conditions_at, matches_of, Takes}
 use Rattle.lexscan_matching.proofs.Picking.{picked_takes}
 use Rattle.lexscan.proofs.Leaving.{match_cut, match_left}
 use Rattle.lexscan.proofs.Tying.{write_only}
-use Rattle.lexscan.proofs.carry.carry_turn.Goals as goal
+use Rattle.lexscan.proofs.carry.carry_match.Goals as goal
 
 pub returns-in-Err : goal.returns-in-Err
 returns-in-Err g c =
