@@ -1,5 +1,5 @@
 -- What a match or the end action makes of a scan, and what a turn makes of that.
-use Rattle.std.proofs.Common.{◌≡◌, ◌<◌, true, List, Result, Ok, Err, arith}
+use Rattle.std.proofs.Common.{◌≡◌, ◌<◌, true, Result, Ok, Err, arith}
 use Rattle.std.proofs.lemmas.Grind.{common_steps}
 use Rattle.lex_io.specs.declared.source.Source as Source
 use Rattle.lex_io.specs.declared.sink.Sink as Sink

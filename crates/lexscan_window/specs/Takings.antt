@@ -1,5 +1,5 @@
 -- What taking bytes into the window does, over the two ends and what is kept of the source, before and after.
-use Rattle.std.specs.Prelude.{◌≡◌, ℕ, ◌+◌, ◌<◌, ◌≤◌, max, Bool, true, false, List, ◌++◌, length, Option, Result, OnOk, OnErr, IfOk, IsErrOf, ◌⊎◌, if◌then◌else◌}
+use Rattle.std.specs.Prelude.{◌≡◌, ℕ, ◌+◌, ◌<◌, ◌≤◌, max, Bool, true, false, ◌++◌, length, Option, Result, OnOk, OnErr, IfOk, IsErrOf, ◌⊎◌, if◌then◌else◌}
 use Rattle.lex_io.specs.Source.{given}
 use Rattle.lex_io.specs.declared.source.Source as Source
 use Rattle.lex_io.specs.declared.sink.Sink as Sink

@@ -14,21 +14,21 @@ returns-then-not-goes_on g c = record {
   put = grind (arith, common_steps);
   took = Grow.took_none g.S.Source.gave _ _ (g.met.S.Source.gave_none _);
   looked = record {
-  reach = n + 1;
-  some = omega arith;
-  state = c.step-state.result;
-  so_far = so_far_next;
-  size = omega (arith, inside);
-  stops = inl (sym c.goes_on.ensures ∙ c.if-not-goes_on.true, refl);
-};
+    reach = n + 1;
+    some = omega arith;
+    state = c.step-state.result;
+    so_far = so_far_next;
+    size = omega (arith, inside);
+    stops = inl (sym c.goes_on.ensures ∙ c.if-not-goes_on.true, refl);
+  };
   tells = record {
-  some = omega arith;
-  inside = omega (arith, inside);
-  state_is = so_far_next.state_is;
-  before_is = before_is (omega arith);
-  known = c.step-state.ensures.known;
-  known_before = c.held.invariant.state_known;
-};
+    some = omega arith;
+    inside = omega (arith, inside);
+    state_is = so_far_next.state_is;
+    before_is = before_is (omega arith);
+    known = c.step-state.ensures.known;
+    known_before = c.held.invariant.state_known;
+  };
   unmet = grind (arith, common_steps);
   source = grind (arith, common_steps);
   too_many = grind (arith, common_steps);

@@ -19,29 +19,29 @@ returns-in-Done g c = record {
   same = grind (arith, common_steps);
   same_sink = grind (arith, common_steps);
   put = record {
-  sink = g.met.K.Sink.wrote_more _ _ _ _ _ c.fills.invariant.put c.in_ok-walk.ensures.put.sink;
-  write_faults = omega (arith, c.in_ok-walk.ensures.put.write_faults, c.fills.invariant.write_faults);
-  may_write = c.in_ok-walk.ensures.put.may_write;
-};
+    sink = g.met.K.Sink.wrote_more _ _ _ _ _ c.fills.invariant.put c.in_ok-walk.ensures.put.sink;
+    write_faults = omega (arith, c.in_ok-walk.ensures.put.write_faults, c.fills.invariant.write_faults);
+    may_write = c.in_ok-walk.ensures.put.may_write;
+  };
   took = Grow.took_more g.S.Source.gave _ _ _ _ _ _ g.met.S.Source.gave_more c.fills.invariant.took c.in_ok-walk.ensures.took;
   looked = record {
-  reach = reach;
-  some = omega (arith, reach_is, c.fills.invariant.place, sizes, stops.0);
-  state = c.in_ok-walk.walk.state;
-  so_far = so_far;
-  size = (let longer = Grow.took_more g.S.Source.gave _ _ _ _ _ _ g.met.S.Source.gave_more c.fills.invariant.took c.in_ok-walk.ensures.took in
-      let e : length new.window.bytes ≡ length c.args.reading.now.window.bytes + length longer.got = ap length longer.held ∙ length-append c.args.reading.now.window.bytes longer.got in
-      omega (arith, e, reach_is, c.fills.invariant.place, sizes));
-  stops = inl (stops.1, c.in_ok-walk.ensures.at_end ∙ ap ends_at c.in-Done.is ∙ sym reading);
-};
+    reach = reach;
+    some = omega (arith, reach_is, c.fills.invariant.place, sizes, stops.0);
+    state = c.in_ok-walk.walk.state;
+    so_far = so_far;
+    size = (let longer = Grow.took_more g.S.Source.gave _ _ _ _ _ _ g.met.S.Source.gave_more c.fills.invariant.took c.in_ok-walk.ensures.took in
+        let e : length new.window.bytes ≡ length c.args.reading.now.window.bytes + length longer.got = ap length longer.held ∙ length-append c.args.reading.now.window.bytes longer.got in
+        omega (arith, e, reach_is, c.fills.invariant.place, sizes));
+    stops = inl (stops.1, c.in_ok-walk.ensures.at_end ∙ ap ends_at c.in-Done.is ∙ sym reading);
+  };
   tells = record {
-  some = some;
-  inside = omega (arith, reach_is, c.fills.invariant.place, sizes);
-  state_is = so_far.state_is;
-  before_is = before_is some;
-  known = c.in_ok-walk.ensures.known;
-  known_before = known_before;
-};
+    some = some;
+    inside = omega (arith, reach_is, c.fills.invariant.place, sizes);
+    state_is = so_far.state_is;
+    before_is = before_is some;
+    known = c.in_ok-walk.ensures.known;
+    known_before = known_before;
+  };
   unmet = grind (arith, common_steps);
   source = grind (arith, common_steps);
   too_many = grind (arith, common_steps);
@@ -240,11 +240,11 @@ returns-in_err-walk g c = record {
   same = grind (arith, common_steps);
   same_sink = grind (arith, common_steps);
   put = (let p = err_from_is_err_and c.from_residual.result c.from_residual.ensures.1 in
-    rw (p.1, p.2) (record {
-      sink = g.met.K.Sink.wrote_more _ _ _ _ _ c.fills.invariant.put c.in_err-walk.ensures.put.sink;
-      write_faults = omega (arith, c.in_err-walk.ensures.put.write_faults, c.fills.invariant.write_faults);
-      may_write = tt;
-    }));
+      rw (p.1, p.2) (record {
+        sink = g.met.K.Sink.wrote_more _ _ _ _ _ c.fills.invariant.put c.in_err-walk.ensures.put.sink;
+        write_faults = omega (arith, c.in_err-walk.ensures.put.write_faults, c.fills.invariant.write_faults);
+        may_write = tt;
+      }));
   took = Grow.took_more g.S.Source.gave _ _ _ _ _ _ g.met.S.Source.gave_more c.fills.invariant.took c.in_err-walk.ensures.took;
   looked = grind (arith, common_steps);
   tells = grind (arith, common_steps);
@@ -277,13 +277,13 @@ returns-then-now-eq0 g c = record {
   put = grind (arith, common_steps);
   took = grind (arith, common_steps);
   looked = (let took = c.fills.invariant.took in
-    let sizes = ap length took.held ∙ length-append c.args.reading.now.window.bytes took.got in
-    let none = none_of took.got (omega (arith, sizes, c.fills.invariant.place, c.if-now-eq0.true, c.requires.inside)) in
-    record {
-      same = took.held ∙ ap (λ l. c.args.reading.now.window.bytes ++ l) none ∙ append-nil c.args.reading.now.window.bytes;
-      all = omega (arith, c.fills.invariant.place, c.if-now-eq0.true);
-      at_end = c.fills-test.false;
-    });
+      let sizes = ap length took.held ∙ length-append c.args.reading.now.window.bytes took.got in
+      let none = none_of took.got (omega (arith, sizes, c.fills.invariant.place, c.if-now-eq0.true, c.requires.inside)) in
+      record {
+        same = took.held ∙ ap (λ l. c.args.reading.now.window.bytes ++ l) none ∙ append-nil c.args.reading.now.window.bytes;
+        all = omega (arith, c.fills.invariant.place, c.if-now-eq0.true);
+        at_end = c.fills-test.false;
+      });
   tells = grind (arith, common_steps);
   unmet = grind (arith, common_steps);
   source = grind (arith, common_steps);
@@ -297,16 +297,16 @@ returns-else-now-eq0 g c = record {
   put = grind (arith, common_steps);
   took = grind (arith, common_steps);
   looked = (let took = c.fills.invariant.took in
-    let sizes = ap length took.held ∙ length-append c.args.reading.now.window.bytes took.got in
-    let some : 1 ≤ c.fills.now.reach = omega (arith, c.if-now-eq0.false) in
-    record {
-      reach = c.fills.now.reach;
-      some = some;
-      state = c.fills.now.state;
-      so_far = c.fills.invariant.so_far;
-      size = omega (arith, sizes, c.fills.invariant.place, c.requires.inside);
-      stops = inr (c.fills.invariant.goes_on some, c.fills.invariant.place, c.fills-test.false);
-    });
+      let sizes = ap length took.held ∙ length-append c.args.reading.now.window.bytes took.got in
+      let some : 1 ≤ c.fills.now.reach = omega (arith, c.if-now-eq0.false) in
+      record {
+        reach = c.fills.now.reach;
+        some = some;
+        state = c.fills.now.state;
+        so_far = c.fills.invariant.so_far;
+        size = omega (arith, sizes, c.fills.invariant.place, c.requires.inside);
+        stops = inr (c.fills.invariant.goes_on some, c.fills.invariant.place, c.fills-test.false);
+      });
   tells = grind (arith, common_steps);
   unmet = grind (arith, common_steps);
   source = grind (arith, common_steps);

@@ -10,8 +10,8 @@ returns-in-Ok-Some g c = record {
   put = grind (arith, common_steps);
   took = grind (arith, common_steps);
   there = (let ens = rw c.in-Ok-Some.field-0-is at c.in-Ok-Some.ensures in
-    let sizes = ap length ens.byte.held ∙ length-append c.args.reading.now.window.bytes _ in
-    (omega (arith, sizes, c.requires.place, c.len.ensures, c.if-next-len.false), omega (arith, sizes, c.requires.place, c.len.ensures, c.if-next-len.false), ens.byte.at_end ∙ sym c.if-ended.false));
+      let sizes = ap length ens.byte.held ∙ length-append c.args.reading.now.window.bytes _ in
+      (omega (arith, sizes, c.requires.place, c.len.ensures, c.if-next-len.false), omega (arith, sizes, c.requires.place, c.len.ensures, c.if-next-len.false), ens.byte.at_end ∙ sym c.if-ended.false));
   wanted = grind (arith, common_steps);
   source = grind (arith, common_steps);
   states = grind (arith, common_steps);

@@ -1,5 +1,4 @@
-use Rattle.std.proofs.lemmas.Grind.{common_steps}
-use Rattle.std.proofs.Common.{[], refl, sym, arith}
+use Rattle.std.proofs.Common.{[], refl, sym}
 use Rattle.lexscan.proofs.Stepping.{stands_first}
 use Rattle.lexscan.proofs.push.PushScanner.new.Goals as goal
 

@@ -1,5 +1,5 @@
 use Rattle.std.proofs.lemmas.Grind.{common_steps}
-use Rattle.std.proofs.Common.{ap, Err, subst, arith}
+use Rattle.std.proofs.Common.{subst, arith}
 use Rattle.lex_semantics.specs.Machine.{Machine}
 use Rattle.lexscan_matching.specs.Looks.{LookedOrAtEnd, Looked, LookedAtEnd}
 use Rattle.lexscan.proofs.Leaving.{matched_moved, finished_moved}

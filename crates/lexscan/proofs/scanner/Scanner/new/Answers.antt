@@ -1,5 +1,3 @@
-use Rattle.std.proofs.Common.{arith}
-use Rattle.std.proofs.lemmas.Grind.{common_steps}
 use Rattle.lexscan.proofs.Stepping.{stands_first}
 use Rattle.lexscan.proofs.scanner.Scanner.new.Goals as goal
 
