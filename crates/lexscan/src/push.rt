@@ -139,12 +139,16 @@ pub struct PushScanner<M: Machine> {
     ghost reading: { scan.state.failed ≡ false → scan.state.ended ≡ None → scan.state.reading.at_end ≡ false },
     ghost condition: { scan.state.place.condition < (M.machine machine).conditions },
     ghost inside: { scan.state.place.at ≤ length scan.state.reading.window.bytes },
-    ghost stack: { scan.state.failed ≡ false → AllBelow (M.machine machine).conditions scan.state.acting.stack } by { →_prop (AllBelow-prop (M.machine machine).conditions scan.state.acting.stack) },
+    ghost stack: { scan.state.failed ≡ false
+        → AllBelow (M.machine machine).conditions scan.state.acting.stack } by { →_prop
+            (AllBelow-prop (M.machine machine).conditions scan.state.acting.stack) },
     ghost marks: { scan.state.failed ≡ false → AreTrue (M.machine machine) scan.state.reading scan.memo } by { →_prop
         (AreTrue-prop (M.machine machine) scan.state.reading scan.memo) },
     ghost stood: { scan.state.failed ≡ false → Standing (M.machine machine) scan.state } by { →_prop
         (Standing-prop (M.machine machine) scan.state) },
-    ghost asking_more: { IsAsking (M.machine machine) (M.states machine) scan.state waiting.items asking } by { IsAsking-prop (M.machine machine) (M.states machine) scan.state waiting.items asking },
+    ghost asking_more: { IsAsking (M.machine machine) (M.states machine) scan.state waiting.items
+        asking } by { IsAsking-prop
+            (M.machine machine) (M.states machine) scan.state waiting.items asking },
 }
 
 impl<M: Machine> PushScanner<M> {

@@ -30,10 +30,12 @@ pub struct Scanner<'a, M: Machine, S: Source, K: Sink> {
     ghost may_write: { scan.state.failed ≡ false → can_write ends.outlet ≡ true },
     ghost condition: { scan.state.place.condition < (M.machine machine.now).conditions },
     ghost inside: { scan.state.place.at ≤ length scan.state.reading.window.bytes },
-    ghost stack: { scan.state.failed ≡ false → AllBelow (M.machine machine.now).conditions scan.state.acting.stack } by { →_prop
-        (AllBelow-prop (M.machine machine.now).conditions scan.state.acting.stack) },
-    ghost marks: { scan.state.failed ≡ false → AreTrue (M.machine machine.now) scan.state.reading scan.memo } by { →_prop
-        (AreTrue-prop (M.machine machine.now) scan.state.reading scan.memo) },
+    ghost stack: { scan.state.failed ≡ false
+        → AllBelow (M.machine machine.now).conditions scan.state.acting.stack } by { →_prop
+            (AllBelow-prop (M.machine machine.now).conditions scan.state.acting.stack) },
+    ghost marks: { scan.state.failed ≡ false
+        → AreTrue (M.machine machine.now) scan.state.reading scan.memo } by { →_prop
+            (AreTrue-prop (M.machine machine.now) scan.state.reading scan.memo) },
 }
 
 impl<'a, M: Machine, S: Source, K: Sink> Scanner<'a, M, S, K> {

@@ -17,7 +17,8 @@ pub enum Turn {
 }
 
 impl Scan {
-    /// One turn: one match with its actions, or the end action; or what the scan has ended with, or that it was refused.
+    /// One turn: one match with its actions, or the end action. After the end it answers the status again, and after a
+    /// refusal that the scan has failed.
     pub fn turn<M: Machine, S: Source, K: Sink>(
         &mut self,
         machine: &M,

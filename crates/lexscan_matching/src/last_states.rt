@@ -24,8 +24,8 @@ pub fn look_ahead_last<M: Machine, S: Source, K: Sink>(
     requires inside { place.at ≤ length reading.old.window.bytes }
     requires condition { place.condition < (M.machine machine.now).conditions }
 
-    ensures { LookedLast (M.machine machine.now) (M.states machine.now) intake.old intake.new outlet.old outlet.new place
-        reading.old reading.new result }
+    ensures { LookedLast (M.machine machine.now) (M.states machine.now) intake.old intake.new outlet.old outlet.new
+        place reading.old reading.new result }
 {
     let held = reading.window.len();
     let mut state = machine.start(place.condition, place.line_start);
@@ -89,8 +89,8 @@ pub fn look_ahead_more<M: Machine, S: Source, K: Sink>(
     requires known { ahead.state < M.states machine.now }
     requires known_before { ahead.before < M.states machine.now }
 
-    ensures { LookedLast (M.machine machine.now) (M.states machine.now) intake.old intake.new outlet.old outlet.new place
-        reading.old reading.new result }
+    ensures { LookedLast (M.machine machine.now) (M.states machine.now) intake.old intake.new outlet.old outlet.new
+        place reading.old reading.new result }
 {
     let mut now = ahead;
     'fills: while !reading.at_end {
