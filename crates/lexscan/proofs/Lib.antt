@@ -9,6 +9,7 @@ pub mod Bursting
 pub mod Furthering
 pub mod Settling
 pub mod Making
+pub mod Turning
 pub mod Tying
 pub mod Taking
 pub mod Pushing

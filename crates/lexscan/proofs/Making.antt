@@ -12,10 +12,9 @@ use Rattle.lexscan_window.specs.Ends.{IsEarly}
 use Rattle.lexscan_matching.specs.Looks.{Wants, Unmet}
 use Rattle.lexscan.specs.Moves.{Matched, Finished, Refused, Why, StackFaulted, Says, Moved}
 use Rattle.lexscan.specs.Stands.{Stands, MakesTurn}
-use Rattle.lexscan.specs.Turns.{MoveLeft, MayTurn}
+use Rattle.lexscan.specs.Turns.{MoveLeft}
 use Rattle.lexscan_matching.proofs.Descending.{performed_front}
 use Rattle.lexscan.proofs.Refusing as Fall
-use Rattle.lexscan.proofs.Ranging as Range
 use Rattle.lexscan.proofs.Stepping as Go
 use Rattle.lexscan.proofs.Taking as Take
 
@@ -169,9 +168,3 @@ module _ {S K : Type 0} (M : Machine) (laws : MachineLaws M) (gave : S → List 
               MakesTurn M gave wrote s s' t t' old new (Err e)
           by_order (inl early) = unmet not (m.early early)
           by_order (inr late) = from not late m.why
-
-  -- the next turn may be made
-  pub turn_next : (old_source old_sink : Bool) (new : State) (turn : Turn) → old.failed ≡ false → MayTurn M old_source old_sink old → Moved M gave wrote s s' t t' old new (Ok turn) → MoveLeft M source_live sink_live old new (Ok turn) → MayTurn M source_live sink_live new
-  turn_next old_source old_sink new turn works ready moved left =
-      let below = Range.conditions_below M laws gave wrote s s' t t' old new turn moved (ready.condition, ready.stack works) in
-      record { may_read = λ _ _ e. left.may_read e; may_write = λ _. left.may_write; condition = below.0; stack = λ _. below.1 }

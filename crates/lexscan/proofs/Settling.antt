@@ -1,7 +1,6 @@
 -- Turns over bytes that are held: they keep marks true, and a match that these bytes settle is as any other.
 use Rattle.std.proofs.Common.{◌≡◌, ℕ, ◌+◌, ◌≤◌, Bool, true, false, List, [], ◌++◌, length, drop, inl, inr, Result, Ok, Err, refl, sym, ap, subst, arith}
 use Rattle.std.specs.Prelude.{IfOk, OnOk, OnErr}
-use Rattle.std.proofs.lemmas.List.{append-nil}
 use Rattle.lex_semantics.specs.Machine.{Machine}
 use Rattle.lex_semantics.specs.Plain.{default_match}
 use Rattle.lex_semantics.specs.Trail.{falling}
@@ -12,12 +11,12 @@ use Rattle.lexscan_window.specs.declared.state.TextPlace.{TextPlace}
 use Rattle.lexscan_window.specs.declared.state.State.{State}
 use Rattle.lexscan.specs.declared.turn.Turn.{Turn}
 use Rattle.lexscan_window.specs.declared.error.RunError.{RunError}
-use Rattle.lexscan_window.specs.Reads.{Took}
 use Rattle.lexscan_matching.specs.Picks.{path_of, state_at}
 use Rattle.lexscan_matching.specs.Descends.{Conditions, conditions_at, matches_of, ending_of, Performed, CutAll, Faulted, Takes}
 use Rattle.lexscan.specs.Moves.{MatchLeft, Acted, Moved, left_bytes, stays, is_over}
 use Rattle.lexscan_window.specs.Memos.{Barren, IsTrueMark, AreTrue}
 use Rattle.lexscan_matching.specs.Backs.{IsSettled}
+use Rattle.lexscan_matching.proofs.Growing.{took_none}
 use Rattle.lexscan_matching.proofs.Barrens.{true_dropped, true_grown, Further, further}
 use Rattle.lexscan.proofs.Leaving.{matched_moved}
 
@@ -60,19 +59,6 @@ module _ {K : Type 0} (M : Machine) (wrote : K → List ℕ → K → Type 0) (t
 
   fault_same : Faulted M wrote t t' r.window.bytes p.at (matches_of M r.window.bytes p.at path) c → Faulted M wrote t t' r.window.bytes p.at (matches_of M r.window.bytes p.at path') c
   fault_same h = subst (λ ms. Faulted M wrote t t' r.window.bytes p.at ms c) all_same h
-
--- nothing was taken
-pub took_none : {S : Type 0} (gave : S → List ℕ → S → Type 0) (s : S) (r : Reading) → gave s [] s → Took gave s s r r
-took_none gave s r none = record {
-  got = [];
-  source = none;
-  text = tt;
-  held = sym (append-nil r.window.bytes);
-  taken = omega arith;
-  nothing = λ e. refl;
-  end_stays = λ e. e;
-  max_reads = refl;
-}
 
 -- a match whose longest text is known from the bytes held
 pub settled_moved : {S K : Type 0} (M : Machine) (states : ℕ) (gave : S → List ℕ → S → Type 0) (wrote : K → List ℕ → K → Type 0) (fails : K → ℕ) (s : S) (t t' : K) (live : Bool) (old new : State) (a : Settled) (result : Result Turn RunError) →

@@ -1,6 +1,10 @@
 -- What several turns in one go do.
-use Rattle.std.specs.Prelude.{◌≡◌, ℕ, ◌+◌, ◌-◌, ◌≤◌, Bool, true, false, List, ◌++◌, length, take, drop, get_or, ◌==◌, if◌then◌else◌, None, Result, Ok, Err}
+use Rattle.std.specs.Prelude.{◌≡◌, ℕ, ◌+◌, ◌-◌, ◌<◌, ◌≤◌, Bool, true, false, List, ◌++◌, length, take, drop, get_or, ◌==◌, if◌then◌else◌, None, Result, Ok, Err}
+use Rattle.lex_io.specs.declared.sink.Sink as Sink
 use Rattle.lex_semantics.specs.Machine.{Machine}
+use Rattle.lexscan_window.specs.Intakes.{sink_of, sink_name, can_write}
+use Rattle.lexscan_window.specs.declared.intake.Outlet.{Outlet}
+use Rattle.lexscan_window.specs.declared.state.TextPlace.{TextPlace}
 use Rattle.lexscan_window.specs.declared.state.State.{State}
 use Rattle.lexscan_window.specs.declared.error.RunError.{RunError}
 use Rattle.lexscan_window.specs.declared.error.RunError.TheVariants.{Write}
@@ -54,6 +58,31 @@ BurstsBy true M wrote t u text held condition line b = Broke M wrote t u text he
 abbrev pub fault_of : Bool → ℕ
 fault_of true = 1
 fault_of false = 0
+
+-- A burst was made over a text, of which so many bytes were held: what it wrote, and where it led.
+module _ {K : Type 0} {of_sink : Sink.Ghosts K} where
+  pub record BurstMade (M : Machine) (o o' : Outlet K of_sink) (text : List ℕ) (count : ℕ) (place : TextPlace) (b : Burst) : Type 0 where
+    pub same : sink_name o' ≡ sink_name o
+    pub bursts : BurstsBy b.fault M of_sink.wrote (sink_of o) (sink_of o') text count place.condition place.line_start b
+    pub failures : of_sink.failures (sink_of o') ≡ of_sink.failures (sink_of o) + fault_of b.fault
+    pub live : b.fault ≡ false → can_write o' ≡ true
+    pub condition : b.condition < M.conditions
+    pub done : b.done ≤ b.asked
+    pub held : count ≤ b.asked
+    pub asked : b.asked ≤ length text
+
+-- After a burst the scan is at the place where it led, with what it asked for taken.
+pub record Advanced (b : Burst) (got : ℕ) (old new : State) : Type 0 where
+  pub held : new.reading.window.bytes ≡ drop b.done (old.reading.window.bytes ++ take got old.reading.window.ahead)
+  pub taken : new.reading.taken ≡ old.reading.taken + got
+  pub at_end : new.reading.at_end ≡ old.reading.at_end
+  pub max_reads : new.reading.max_reads ≡ old.reading.max_reads
+  pub at : new.place.at ≡ 0
+  pub line_start : new.place.line_start ≡ b.line_start
+  pub condition : new.place.condition ≡ b.condition
+  pub stack : new.acting.stack ≡ old.acting.stack
+  pub ended : new.ended ≡ old.ended
+  pub failed : new.failed ≡ old.failed
 
 -- What several turns do: where the facts hold for n turns and two lists, they hold for some more and the lists with their bytes
 -- appended; or the next turn after some was refused.

@@ -17,3 +17,6 @@ pub mod Turns
 pub mod Ties
 pub mod Scanners
 pub mod Pushes
+pub mod Attempts
+pub mod Steps
+pub mod Scans

@@ -95,7 +95,7 @@ pub record EndsScan {K : Type 0} (wrote : K → List ℕ → K → Type 0) (fail
   pub max_reads : new.reading.max_reads ≡ old.reading.max_reads
 
 -- An action went on: the scan left its place, and the sink is as it was.
-pub record GoesOn {K : Type 0} (t t' : K) (live : Bool) (old new : State) (result : Result Turn RunError) : Type 0 where
+pub record WentOn {K : Type 0} (t t' : K) (live : Bool) (old new : State) (result : Result Turn RunError) : Type 0 where
   pub sink : t' ≡ t
   pub may_write : live ≡ true
   pub says : result ≡ Ok Turn.Went
@@ -108,7 +108,7 @@ pub record GoesOn {K : Type 0} (t t' : K) (live : Bool) (old new : State) (resul
 
 -- How a turn ends after the actions of its match, which ended the scan, were at fault, or neither.
 abbrev pub EndsTurn : {K : Type 0} → (K → List ℕ → K → Type 0) → (K → ℕ) → K → K → Bool → State → State → Option Finish → Result Turn RunError → Type 0
-EndsTurn wrote fails t t' live old new None result = GoesOn t t' live old new result
+EndsTurn wrote fails t t' live old new None result = WentOn t t' live old new result
 EndsTurn wrote fails t t' live old new (Some finish) result = EndsScan wrote fails t t' live old new finish result
 
 -- What a match leaves, where these are the states after its bytes: its action was carried out, or was cut short.

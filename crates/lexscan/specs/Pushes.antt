@@ -2,7 +2,7 @@
 use Rattle.std.specs.Prelude.{◌≡◌, ℕ, suc, ◌+◌, ◌<◌, ◌≤◌, Bool, true, false, List, [], ◌++◌, length, take, drop, Option, Some, None, Result, Ok, Err, ⊤}
 use Rattle.std.specs.Coded.{×_prop, le_prop}
 use Rattle.std.proofs.Props.{props}
-use Rattle.lex_semantics.specs.Text.{AllBelow, IsText, BeginsWith}
+use Rattle.lex_semantics.specs.Text.{IsText, BeginsWith}
 use Rattle.lex_semantics.specs.Rules.{Rules}
 use Rattle.lex_semantics.specs.Acting.{Ending, Status, StackFault}
 use Rattle.lex_semantics.specs.Run as Scan
@@ -10,12 +10,12 @@ use Rattle.lex_semantics.specs.Run.{Run}
 use Rattle.lex_semantics.specs.Scanned.{AfterTurns}
 use Rattle.lex_semantics.specs.Machine.{Machine, walk, rules_of_machine}
 use Rattle.lexscan_window.specs.declared.state.State.{State}
+use Rattle.lexscan_window.specs.declared.state.TextPlace.{TextPlace}
 use Rattle.lexscan.specs.declared.turn.Turn.{Turn}
 use Rattle.lexscan_window.specs.declared.error.RunError.{RunError}
 use Rattle.lexscan_window.specs.declared.error.RunError.TheVariants.{Stack}
 use Rattle.lexscan.specs.Stands.{Stands, Fell, GoesOn, NoneAfterEnd}
 use Rattle.lexscan.specs.Ties.{HandedOn}
-use Rattle.lexscan.specs.Turns.{MayTurn}
 
 -- Over these bytes the turn after n asks for the end: they do not decide it.
 abbrev pub AsksForMore : Rules → ℕ → List ℕ → Type 0
@@ -35,11 +35,16 @@ abbrev pub Attempts : {S K : Type 0} → Machine → (S → List ℕ → S → T
 Attempts M gave wrote s s' t t' old new result =
     (got : List ℕ) × (put : List ℕ) × gave s got s' × wrote t put t' × NoneAfterEnd old new got × AttemptsTo M old new got put result
 
--- what is left of the two ends, where the turn was made
-abbrev pub MayGoOn : Machine → Bool → Bool → State → Result (Option Turn) RunError → Type 0
-MayGoOn M source_live sink_live new (Ok (Some turn)) = MayTurn M source_live sink_live new
-MayGoOn M source_live sink_live new (Ok None) = (new.place.condition < M.conditions) × AllBelow M.conditions new.acting.stack
-MayGoOn M source_live sink_live new (Err e) = new.failed ≡ true
+-- The scan went back to where a turn began: to its place and its conditions, with as many bytes held and taken as there.
+pub record WentBack (p : TextPlace) (conditions : List ℕ) (count before : ℕ) (old new : State) : Type 0 where
+  pub held : new.reading.window.bytes ≡ take count old.reading.window.bytes
+  pub taken : new.reading.taken ≡ before
+  pub at_end : new.reading.at_end ≡ old.reading.at_end
+  pub max_reads : new.reading.max_reads ≡ old.reading.max_reads
+  pub place : new.place ≡ p
+  pub stack : new.acting.stack ≡ conditions
+  pub ended : new.ended ≡ None
+  pub failed : new.failed ≡ false
 
 abbrev pub HandedOnIfMade : Bool → Result (Option Turn) RunError → Type 0
 HandedOnIfMade flushed (Ok (Some turn)) = HandedOn flushed (Ok turn)

@@ -15,23 +15,23 @@ module _ {M S K : Type 0} {of_machine : Machine.Ghosts M} {of_source : Source.Gh
 
   -- its source
   abbrev pub scanner_source : Scanner M S K of_machine of_source of_sink → S
-  scanner_source s = source_of s.intake
+  scanner_source s = source_of s.ends.intake
 
   -- which source that is
   abbrev pub scanner_source_name : Scanner M S K of_machine of_source of_sink → ℕ
-  scanner_source_name s = source_name s.intake
+  scanner_source_name s = source_name s.ends.intake
 
   -- its sink
   abbrev pub scanner_sink : Scanner M S K of_machine of_source of_sink → K
-  scanner_sink s = sink_of s.outlet
+  scanner_sink s = sink_of s.ends.outlet
 
   -- which sink that is
   abbrev pub scanner_sink_name : Scanner M S K of_machine of_source of_sink → ℕ
-  scanner_sink_name s = sink_name s.outlet
+  scanner_sink_name s = sink_name s.ends.outlet
 
   -- what it keeps beside these
   abbrev pub scanner_state : Scanner M S K of_machine of_source of_sink → State
-  scanner_state s = s.state
+  scanner_state s = s.scan.state
 
 module _ {M : Type 0} {of_machine : Machine.Ghosts M} where
   -- of a scanner that is fed pieces: the machine that it goes by
@@ -44,4 +44,4 @@ module _ {M : Type 0} {of_machine : Machine.Ghosts M} where
 
   -- what it keeps beside these
   abbrev pub push_state : PushScanner M of_machine → State
-  push_state s = s.state
+  push_state s = s.scan.state

@@ -1,6 +1,5 @@
--- What a turn asks, and what it leaves of the two ends.
-use Rattle.std.specs.Prelude.{◌≡◌, ℕ, ◌+◌, ◌<◌, ◌≤◌, Bool, true, false, None, Result, Ok, OnOk, IsErrOf}
-use Rattle.lex_semantics.specs.Text.{AllBelow}
+-- What a turn leaves of the two ends.
+use Rattle.std.specs.Prelude.{◌≡◌, ℕ, ◌+◌, ◌≤◌, Bool, true, false, Result, Ok, OnOk, IsErrOf}
 use Rattle.lex_semantics.specs.Machine.{Machine}
 use Rattle.lexscan_window.specs.declared.state.Reading.{Reading}
 use Rattle.lexscan_window.specs.declared.state.State.{State}
@@ -10,19 +9,6 @@ use Rattle.lexscan_window.specs.declared.error.RunError.TheVariants.{TooManyRead
 use Rattle.lexscan_matching.specs.Looks.{Wants}
 use Rattle.lex_semantics.specs.ByteSets.{bit_of}
 use Rattle.lexscan_window.specs.Reads.{read_fault_count, write_fault_count, end_step}
-
--- A turn may be made, where the scan has neither failed nor ended: the source and the sink may be called, and the conditions are in range.
-pub record MayTurn (M : Machine) (source_live sink_live : Bool) (s : State) : Type 0 where
-  pub may_read : s.failed ≡ false → s.ended ≡ None → s.reading.at_end ≡ false → source_live ≡ true
-  pub may_write : s.failed ≡ false → sink_live ≡ true
-  pub condition : s.place.condition < M.conditions
-  pub stack : s.failed ≡ false → AllBelow M.conditions s.acting.stack
-
--- The source and the sink may be called, and the condition is in range.
-pub record MayMove (M : Machine) (source_live sink_live : Bool) (s : State) : Type 0 where
-  pub may_read : s.reading.at_end ≡ false → source_live ≡ true
-  pub may_write : sink_live ≡ true
-  pub condition : s.place.condition < M.conditions
 
 -- What a turn adds to the counts of the two ends; and a source that has answered its end is not called. The reads so far, one
 -- that failed and that of the end among them, are no more than are allowed.

@@ -1,7 +1,7 @@
-//! Several turns in one go, over bytes that the source has ready.
-ghost use Rattle.std.specs.Prelude.{◌≡◌, ◌+◌, ◌-◌, ◌<◌, ◌≤◌, length, true, false};
-ghost use Rattle.lexscan_window.specs.Intakes.{sink_of, sink_name, can_write};
-ghost use Rattle.lexscan.specs.Bursts.{starts_line, BurstsBy, fault_of};
+//! A burst: turns over a text alone, by its bytes and the machine. It knows of no window and no source.
+ghost use Rattle.std.specs.Prelude.{◌≡◌, ◌-◌, ◌<◌, ◌≤◌, length, true};
+ghost use Rattle.lexscan_window.specs.Intakes.{can_write};
+ghost use Rattle.lexscan.specs.Bursts.{starts_line, BurstMade};
 ghost use Rattle.lexscan_matching.specs.Glanced.{names_rule};
 
 use lex_io::Sink;
@@ -46,17 +46,10 @@ pub fn burst_over<M: Machine, K: Sink>(
     requires condition { place.condition < (M.machine machine.now).conditions }
     requires held { held ≤ length text.now }
 
-    ensures same { sink_name outlet.new ≡ sink_name outlet.old }
-    ensures bursts { BurstsBy result.fault (M.machine machine.now) K.wrote (sink_of outlet.old) (sink_of outlet.new)
-        text.now held place.condition place.line_start result }
-    ensures failures { K.failures (sink_of outlet.new) ≡ K.failures (sink_of outlet.old) + fault_of result.fault }
-    ensures live { result.fault ≡ false → can_write outlet.new ≡ true }
-    ensures condition { result.condition < (M.machine machine.now).conditions }
-    ensures done { result.done ≤ result.asked }
-    ensures held { held ≤ result.asked }
-    ensures asked { result.asked ≤ length text.now }
+    ensures { BurstMade (M.machine machine.now) outlet.old outlet.new text.now held place result }
 {
     let mut rest = text;
+    // How many bytes at the end of the text no match has asked for.
     let mut unasked = text.len() - held;
     let mut condition = place.condition;
     let mut fault = false;

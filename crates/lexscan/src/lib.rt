@@ -4,8 +4,12 @@
 mod asking;
 mod attempt;
 mod burst;
+mod carry;
+mod find;
 mod further;
+mod leave;
 mod push;
+mod scan;
 mod scanner;
 mod turn;
 mod whole;

@@ -6,12 +6,13 @@ ghost use Rattle.lex_semantics.specs.Machine.{rules_of_machine};
 ghost use Rattle.lex_semantics.specs.Text.{AllBelow};
 ghost use Rattle.lexscan_window.specs.Memos.{AreTrue, AreTrue-prop};
 ghost use Rattle.lexscan_window.specs.Reads.{write_fault_count};
+ghost use Rattle.lexscan.specs.Attempts.{IsPaused, SinkCounts, MayBeFed, PieceLeft};
 ghost use Rattle.lexscan.specs.Stacks.{AllBelow-prop};
 ghost use Rattle.lexscan.specs.Ties.{HandedOn, RunHandedOn};
 ghost use Rattle.lexscan.specs.Pushes.{Standing, Standing-prop, IsAsking, IsAsking-prop, Fed, AfterFeed, AfterFinish};
 
 use crate::asking::{walk_all, walk_on};
-use crate::attempt::turns_between;
+use crate::scan::Scan;
 use crate::turn::Turn;
 use lex_io::Sink;
 use lex_machine::Machine;
@@ -62,54 +63,36 @@ fn count_with(taken: u64, waiting: usize, piece: usize) -> Option<u64>
 /// go on waiting.
 fn scan_waiting<M: Machine, K: Sink>(
     machine: &M,
-    path: &mut StatePath,
-    memo: &mut Memo,
-    state: &mut State,
+    scan: &mut Scan,
     waiting: &mut Vec<u8>,
     piece: &[u8],
     asking: &mut Option<u32>,
     sink: &mut K,
 ) -> Result<Turn, RunError>
-    requires working { state.old.failed ≡ false }
-    requires going { state.old.ended ≡ None }
-    requires reading { state.old.reading.at_end ≡ false }
-    requires condition { state.old.place.condition < (M.machine machine.now).conditions }
-    requires inside { state.old.place.at ≤ length state.old.reading.window.bytes }
-    requires stack { AllBelow (M.machine machine.now).conditions state.old.acting.stack }
-    requires marks { AreTrue (M.machine machine.now) state.old.reading memo.old }
-    requires stood { Standing (M.machine machine.now) state.old }
-    requires limit { state.old.reading.max_reads ≡ state.old.reading.taken + length (waiting.old.items ++ piece.now) }
+    requires paused { IsPaused (M.machine machine.now) scan.old }
+    requires limit { scan.old.state.reading.max_reads ≡
+        scan.old.state.reading.taken + length (waiting.old.items ++ piece.now) }
     requires room { vec_len waiting.old + length piece.now ≤ vec_capacity waiting.old }
     requires few_writes { K.failures sink.old < 2 ^ 64 - 1 }
 
     ensures fed { (put : List ℕ) × K.wrote sink.old put sink.new
-        × ((fed out : List ℕ) → Fed (M.machine machine.now) fed out state.old (waiting.old.items ++ piece.now) →
-        AfterFeed (M.machine machine.now) fed (out ++ put) state.new waiting.new.items result) }
-    ensures write_faults { K.failures sink.new ≡ K.failures sink.old + write_fault_count result }
-    ensures not_read { IsErrOf result RunError.Read → ⊥ }
-    ensures too_many { IsErrOf result RunError.TooManyReads → ⊥ }
-    ensures refused { IsErrOf result RunError.Failed → ⊥ }
+        × ((fed out : List ℕ) → Fed (M.machine machine.now) fed out scan.old.state (waiting.old.items ++ piece.now) →
+        AfterFeed (M.machine machine.now) fed (out ++ put) scan.new.state waiting.new.items result) }
+    ensures sink { SinkCounts K.failures sink.old sink.new result }
     ensures handed_on { HandedOn (K.flushed sink.new) result }
-
-    // The next piece may be fed.
-    ensures failed { OnErr result (state.new.failed ≡ true) }
-    ensures condition { state.new.place.condition < (M.machine machine.now).conditions }
-    ensures inside { state.new.place.at ≤ length state.new.reading.window.bytes }
-    ensures stack { state.new.failed ≡ false → AllBelow (M.machine machine.now).conditions state.new.acting.stack }
-    ensures marks { state.new.failed ≡ false → AreTrue (M.machine machine.now) state.new.reading memo.new }
-    ensures stood { state.new.failed ≡ false → Standing (M.machine machine.now) state.new }
-    ensures reading { state.new.failed ≡ false → state.new.ended ≡ None → state.new.reading.at_end ≡ false }
-    ensures asking { IsAsking (M.machine machine.now) (M.states machine.now) state.new waiting.new.items asking.new }
+    ensures left { PieceLeft (M.machine machine.now) (M.states machine.now) scan.new waiting.new.items asking.new
+        result }
 {
     *asking = None;
-    let before = state.reading.taken;
+    let before = scan.state.reading.taken;
     let mut source = Waiting::new(waiting.as_slice(), piece);
-    match turns_between(machine, &mut source, sink, path, memo, state) {
+    match scan.turns_between(machine, &mut source, sink) {
         Err(e) => Err(e),
         Ok(Turn::Ended(status)) => Ok(Turn::Ended(status)),
         Ok(Turn::Went) => {
-            keep_rest(waiting, piece, (state.reading.taken - before) as usize);
-            *asking = walk_all(machine, state, waiting);
+            let taken = scan.state.reading.taken - before;
+            keep_rest(waiting, piece, taken as usize);
+            *asking = walk_all(machine, &scan.state, waiting);
             Ok(Turn::Went)
         }
     }
@@ -118,44 +101,27 @@ fn scan_waiting<M: Machine, K: Sink>(
 /// Turns over the bytes that wait and their end.
 fn scan_to_end<M: Machine, K: Sink>(
     machine: &M,
-    path: &mut StatePath,
-    memo: &mut Memo,
-    state: &mut State,
+    scan: &mut Scan,
     waiting: &[u8],
     sink: &mut K,
 ) -> Result<u8, RunError>
-    requires working { state.old.failed ≡ false }
-    requires going { state.old.ended ≡ None }
-    requires reading { state.old.reading.at_end ≡ false }
-    requires condition { state.old.place.condition < (M.machine machine.now).conditions }
-    requires inside { state.old.place.at ≤ length state.old.reading.window.bytes }
-    requires stack { AllBelow (M.machine machine.now).conditions state.old.acting.stack }
-    requires marks { AreTrue (M.machine machine.now) state.old.reading memo.old }
-    requires stood { Standing (M.machine machine.now) state.old }
-    requires limit { state.old.reading.max_reads ≡ state.old.reading.taken + length waiting.now + 1 }
+    requires paused { IsPaused (M.machine machine.now) scan.old }
+    requires limit { scan.old.state.reading.max_reads ≡ scan.old.state.reading.taken + length waiting.now + 1 }
     requires few_writes { K.failures sink.old < 2 ^ 64 - 1 }
 
     ensures finished { (put : List ℕ) × K.wrote sink.old put sink.new
-        × ((fed out : List ℕ) → Fed (M.machine machine.now) fed out state.old waiting.now →
+        × ((fed out : List ℕ) → Fed (M.machine machine.now) fed out scan.old.state waiting.now →
         AfterFinish (rules_of_machine (M.machine machine.now)) fed (out ++ put) result) }
-    ensures write_faults { K.failures sink.new ≡ K.failures sink.old + write_fault_count result }
-    ensures not_read { IsErrOf result RunError.Read → ⊥ }
-    ensures too_many { IsErrOf result RunError.TooManyReads → ⊥ }
-    ensures refused { IsErrOf result RunError.Failed → ⊥ }
+    ensures sink { SinkCounts K.failures sink.old sink.new result }
     ensures handed_on { RunHandedOn (K.flushed sink.new) result }
-
-    ensures failed { OnErr result (state.new.failed ≡ true) }
-    ensures condition { state.new.place.condition < (M.machine machine.now).conditions }
-    ensures inside { state.new.place.at ≤ length state.new.reading.window.bytes }
-    ensures stack { state.new.failed ≡ false → AllBelow (M.machine machine.now).conditions state.new.acting.stack }
-    ensures marks { state.new.failed ≡ false → AreTrue (M.machine machine.now) state.new.reading memo.new }
-    ensures stood { state.new.failed ≡ false → Standing (M.machine machine.now) state.new }
-    ensures ended { (status : ℕ) → result ≡ Ok status → state.new.ended ≡ Some status }
+    ensures left { MayBeFed (M.machine machine.now) scan.new result }
+    ensures ended { (status : ℕ) → result ≡ Ok status → scan.new.state.ended ≡ Some status }
 {
     let mut source = Waiting::new(waiting, &[]);
-    match turns_between(machine, &mut source, sink, path, memo, state) {
+    match scan.turns_between(machine, &mut source, sink) {
         Err(e) => Err(e),
         Ok(Turn::Ended(status)) => Ok(status),
+        // One read more is allowed than bytes wait, so a turn that asks for more is told the end.
         Ok(Turn::Went) => unreachable!(),
     }
 }
@@ -165,24 +131,24 @@ fn scan_to_end<M: Machine, K: Sink>(
 #[derive(Drop)]
 pub struct PushScanner<M: Machine> {
     machine: M,
-    path: StatePath,
-    memo: Memo,
-    state: State,
+    scan: Scan,
     /// The bytes that were fed and that no turn has asked for, until the scan ends or is refused.
     waiting: Vec<u8>,
     /// The machine's state after all of them, where the next match asks for more.
     asking: Option<u32>,
-    ghost reading: { state.failed ≡ false → state.ended ≡ None → state.reading.at_end ≡ false },
-    ghost condition: { state.place.condition < (M.machine machine).conditions },
-    ghost inside: { state.place.at ≤ length state.reading.window.bytes },
-    ghost stack: { state.failed ≡ false → AllBelow (M.machine machine).conditions state.acting.stack } by { →_prop
-        (AllBelow-prop (M.machine machine).conditions state.acting.stack) },
-    ghost marks: { state.failed ≡ false → AreTrue (M.machine machine) state.reading memo } by { →_prop
-        (AreTrue-prop (M.machine machine) state.reading memo) },
-    ghost stood: { state.failed ≡ false → Standing (M.machine machine) state } by { →_prop
-        (Standing-prop (M.machine machine) state) },
-    ghost asking_more: { IsAsking (M.machine machine) (M.states machine) state waiting.items asking } by { IsAsking-prop
-        (M.machine machine) (M.states machine) state waiting.items asking },
+    ghost reading: { scan.state.failed ≡ false → scan.state.ended ≡ None → scan.state.reading.at_end ≡ false },
+    ghost condition: { scan.state.place.condition < (M.machine machine).conditions },
+    ghost inside: { scan.state.place.at ≤ length scan.state.reading.window.bytes },
+    ghost stack: { scan.state.failed ≡ false
+        → AllBelow (M.machine machine).conditions scan.state.acting.stack } by { →_prop
+            (AllBelow-prop (M.machine machine).conditions scan.state.acting.stack) },
+    ghost marks: { scan.state.failed ≡ false → AreTrue (M.machine machine) scan.state.reading scan.memo } by { →_prop
+        (AreTrue-prop (M.machine machine) scan.state.reading scan.memo) },
+    ghost stood: { scan.state.failed ≡ false → Standing (M.machine machine) scan.state } by { →_prop
+        (Standing-prop (M.machine machine) scan.state) },
+    ghost asking_more: { IsAsking (M.machine machine) (M.states machine) scan.state waiting.items
+        asking } by { IsAsking-prop
+            (M.machine machine) (M.states machine) scan.state waiting.items asking },
 }
 
 impl<M: Machine> PushScanner<M> {
@@ -196,9 +162,11 @@ impl<M: Machine> PushScanner<M> {
     {
         PushScanner {
             machine,
-            path: StatePath::new(alloc),
-            memo: Memo::new(alloc),
-            state: State::new(alloc, 0),
+            scan: Scan {
+                path: StatePath::new(alloc),
+                memo: Memo::new(alloc),
+                state: State::new(alloc, 0),
+            },
             waiting: Vec::new(alloc),
             asking: None,
         }
@@ -232,17 +200,21 @@ impl<M: Machine> PushScanner<M> {
             → (push_state self.old).ended ≡ Some status
             → (result ≡ Ok (Turn.Ended status)) × (sink.new ≡ sink.old) × (self.new ≡ self.old) }
     {
-        if self.state.failed {
+        if self.scan.state.failed {
             return Err(RunError::Failed);
         }
-        match self.state.ended {
+        match self.scan.state.ended {
             Some(status) => return Ok(Turn::Ended(status)),
             None => {}
         }
-        let Some(count) = count_with(self.state.reading.taken, self.waiting.len(), piece.len())
-        else {
+        let Some(count) = count_with(
+            self.scan.state.reading.taken,
+            self.waiting.len(),
+            piece.len(),
+        ) else {
             return Err(RunError::TooManyReads);
         };
+        // The state after all bytes is known, so a piece that does not end the match needs one walk.
         if let Some(last) = walk_on(&self.machine, self.asking, piece) {
             match self.waiting.extend_from_slice(piece) {
                 Err(_) => return Err(RunError::OutOfMemory),
@@ -255,12 +227,10 @@ impl<M: Machine> PushScanner<M> {
             Err(_) => return Err(RunError::OutOfMemory),
             Ok(()) => {}
         }
-        self.state.reading.max_reads = count;
+        self.scan.state.reading.max_reads = count;
         scan_waiting(
             &self.machine,
-            &mut self.path,
-            &mut self.memo,
-            &mut self.state,
+            &mut self.scan,
             &mut self.waiting,
             piece,
             &mut self.asking,
@@ -291,24 +261,17 @@ impl<M: Machine> PushScanner<M> {
             → (push_state self.old).ended ≡ Some status
             → (result ≡ Ok status) × (sink.new ≡ sink.old) × (self.new ≡ self.old) }
     {
-        if self.state.failed {
+        if self.scan.state.failed {
             return Err(RunError::Failed);
         }
-        if let Some(status) = self.state.ended {
+        if let Some(status) = self.scan.state.ended {
             return Ok(status);
         }
-        let Some(count) = count_with(self.state.reading.taken, self.waiting.len(), 0) else {
+        let Some(count) = count_with(self.scan.state.reading.taken, self.waiting.len(), 0) else {
             return Err(RunError::TooManyReads);
         };
-        self.state.reading.max_reads = count + 1;
+        self.scan.state.reading.max_reads = count + 1;
         self.asking = None;
-        scan_to_end(
-            &self.machine,
-            &mut self.path,
-            &mut self.memo,
-            &mut self.state,
-            &self.waiting,
-            sink,
-        )
+        scan_to_end(&self.machine, &mut self.scan, &self.waiting, sink)
     }
 }

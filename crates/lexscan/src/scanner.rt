@@ -12,7 +12,8 @@ ghost use Rattle.lexscan.specs.Ties.{HandedOn};
 ghost use Rattle.lexscan.specs.Matches.{match_in, text_of};
 ghost use Rattle.lexscan.specs.Stands.{NoneAfterEnd, GoesOn, Stands};
 
-use crate::turn::{Turn, turn_of};
+use crate::scan::{Ends, Scan};
+use crate::turn::Turn;
 use lex_io::{Sink, Source};
 use lex_machine::Machine;
 use lexscan_window::{Intake, Match, Memo, Outlet, RunError, State, StatePath};
@@ -22,20 +23,19 @@ use std::alloc::Global;
 #[derive(Drop)]
 pub struct Scanner<'a, M: Machine, S: Source, K: Sink> {
     machine: &'a M,
-    intake: Intake<'a, S>,
-    outlet: Outlet<'a, K>,
-    path: StatePath,
-    memo: Memo,
-    state: State,
-    ghost may_read: { state.failed ≡ false → state.ended ≡ None → state.reading.at_end ≡ false
-        → can_read intake ≡ true },
-    ghost may_write: { state.failed ≡ false → can_write outlet ≡ true },
-    ghost condition: { state.place.condition < (M.machine machine.now).conditions },
-    ghost inside: { state.place.at ≤ length state.reading.window.bytes },
-    ghost stack: { state.failed ≡ false → AllBelow (M.machine machine.now).conditions state.acting.stack } by { →_prop
-        (AllBelow-prop (M.machine machine.now).conditions state.acting.stack) },
-    ghost marks: { state.failed ≡ false → AreTrue (M.machine machine.now) state.reading memo } by { →_prop
-        (AreTrue-prop (M.machine machine.now) state.reading memo) },
+    ends: Ends<'a, 'a, S, K>,
+    scan: Scan,
+    ghost may_read: { scan.state.failed ≡ false → scan.state.ended ≡ None → scan.state.reading.at_end ≡ false
+        → can_read ends.intake ≡ true },
+    ghost may_write: { scan.state.failed ≡ false → can_write ends.outlet ≡ true },
+    ghost condition: { scan.state.place.condition < (M.machine machine.now).conditions },
+    ghost inside: { scan.state.place.at ≤ length scan.state.reading.window.bytes },
+    ghost stack: { scan.state.failed ≡ false
+        → AllBelow (M.machine machine.now).conditions scan.state.acting.stack } by { →_prop
+            (AllBelow-prop (M.machine machine.now).conditions scan.state.acting.stack) },
+    ghost marks: { scan.state.failed ≡ false
+        → AreTrue (M.machine machine.now) scan.state.reading scan.memo } by { →_prop
+            (AreTrue-prop (M.machine machine.now) scan.state.reading scan.memo) },
 }
 
 impl<'a, M: Machine, S: Source, K: Sink> Scanner<'a, M, S, K> {
@@ -65,11 +65,15 @@ impl<'a, M: Machine, S: Source, K: Sink> Scanner<'a, M, S, K> {
     {
         Scanner {
             machine,
-            intake: Intake::new(source),
-            outlet: Outlet::new(sink),
-            path: StatePath::new(alloc),
-            memo: Memo::new(alloc),
-            state: State::new(alloc, max_reads),
+            ends: Ends {
+                intake: Intake::new(source),
+                outlet: Outlet::new(sink),
+            },
+            scan: Scan {
+                path: StatePath::new(alloc),
+                memo: Memo::new(alloc),
+                state: State::new(alloc, max_reads),
+            },
         }
     }
 
@@ -113,21 +117,14 @@ impl<'a, M: Machine, S: Source, K: Sink> Scanner<'a, M, S, K> {
             ((scanner_state self.new).reading.taken ≡ (scanner_state self.new).reading.max_reads)
             × ((scanner_state self.new).reading.at_end ≡ false) }
     {
-        turn_of(
-            self.machine,
-            &mut self.intake,
-            &mut self.outlet,
-            &mut self.path,
-            &mut self.memo,
-            &mut self.state,
-        )
+        self.scan.turn(self.machine, &mut self.ends)
     }
 
     /// The bytes from the start of the text to the last byte taken.
     pub fn held(&self) -> &[u8]
         ensures { result.now ≡ (scanner_state self.now).reading.window.bytes }
     {
-        let window = &self.state.reading.window;
+        let window = &self.scan.state.reading.window;
         window.slice(0, window.len())
     }
 
@@ -135,7 +132,7 @@ impl<'a, M: Machine, S: Source, K: Sink> Scanner<'a, M, S, K> {
     pub fn condition(&self) -> u8
         ensures { result ≡ (scanner_state self.now).place.condition }
     {
-        self.state.place.condition
+        self.scan.state.place.condition
     }
 
     /// The match that the last turn carried out: the longest of the earliest rule, or after REJECT the one that was not
@@ -144,14 +141,19 @@ impl<'a, M: Machine, S: Source, K: Sink> Scanner<'a, M, S, K> {
         ensures told { result ≡ match_in (scanner_state self.now) }
         ensures small { IfSome result (λ m. m.start + m.length < 2 ^ 64) }
     {
-        if self.state.failed {
+        if self.scan.state.failed {
             return None;
         }
-        let rule = self.state.matched?;
-        let window = &self.state.reading.window;
-        let end = self.state.acting.end;
-        let before = self.state.reading.taken.saturating_sub(window.len() as u64);
-        let place = before + self.state.place.at as u64;
+        let rule = self.scan.state.matched?;
+        let window = &self.scan.state.reading.window;
+        let end = self.scan.state.acting.end;
+        let before = self
+            .scan
+            .state
+            .reading
+            .taken
+            .saturating_sub(window.len() as u64);
+        let place = before + self.scan.state.place.at as u64;
         Some(Match {
             rule,
             start: place.saturating_sub(end as u64),
@@ -167,7 +169,7 @@ impl<'a, M: Machine, S: Source, K: Sink> Scanner<'a, M, S, K> {
         match self.matched() {
             None => &[],
             Some(matched) => {
-                let state = &self.state;
+                let state = &self.scan.state;
                 state.reading.window.before(state.place.at, matched.length)
             }
         }
@@ -177,13 +179,13 @@ impl<'a, M: Machine, S: Source, K: Sink> Scanner<'a, M, S, K> {
     pub fn taken(&self) -> u64
         ensures { result ≡ (scanner_state self.now).reading.taken }
     {
-        self.state.reading.taken
+        self.scan.state.reading.taken
     }
 
     /// The sink, for a look at what was written between two turns.
     pub fn sink(&self) -> &K
         ensures { result.now ≡ scanner_sink self.now }
     {
-        self.outlet.sink()
+        self.ends.outlet.sink()
     }
 }

@@ -1,19 +1,16 @@
 //! A whole run.
-ghost use Rattle.std.specs.Prelude.{◌≡◌, ℕ, ◌+◌, ◌-◌, ◌^◌, ◌<◌, ◌≤◌, List, [], length, true, false, None, IsErrOf};
-ghost use Rattle.std.specs.Prelude.{nat_lt};
+ghost use Rattle.std.specs.Prelude.{◌≡◌, ℕ, ◌+◌, ◌-◌, ◌^◌, ◌<◌, ◌≤◌, List, IsErrOf, nat_lt};
 ghost use Rattle.lex_semantics.specs.Machine.{rules_of_machine};
 ghost use Rattle.lex_semantics.specs.MachineLaws.{NoReject};
-ghost use Rattle.lex_semantics.specs.Text.{AllBelow};
-ghost use Rattle.lexscan_window.specs.Intakes.{source_of, source_name, can_read, sink_of, sink_name, can_write};
-ghost use Rattle.lexscan_window.specs.Memos.{AreTrue};
 ghost use Rattle.lexscan_window.specs.Reads.{read_fault_count, write_fault_count};
-ghost use Rattle.lexscan.specs.Stands.{Stands};
 ghost use Rattle.lexscan.specs.Ties.{RunHandedOn};
-ghost use Rattle.lexscan.specs.Runs.{Ran, FewReads, RunCounts};
-ghost use Rattle.lexscan.specs.Turns.{MayTurn};
+ghost use Rattle.lexscan.specs.Runs.{Ran, FewReads};
+ghost use Rattle.lexscan.specs.Scans.{IsFresh, RunMade};
 
-use crate::further::{MOST_SHOWN, go_further};
-use crate::turn::{Turn, back_turn, has_backlog, turn_with_reject, turn_without_reject};
+use crate::find::has_backlog;
+use crate::further::MOST_SHOWN;
+use crate::scan::{Ends, Scan};
+use crate::turn::Turn;
 use lex_io::{Sink, Source};
 use lex_machine::Machine;
 use lexscan_window::{Intake, Memo, Outlet, RunError, State, StatePath};
@@ -41,19 +38,18 @@ pub fn run<M: Machine, S: Source, K: Sink>(
     ensures not_failed { IsErrOf result RunError.Failed → ⊥ }
     ensures handed_on { RunHandedOn (K.flushed sink.new) result }
 {
-    let mut intake = Intake::new(source);
-    let mut outlet = Outlet::new(sink);
-    let mut path = StatePath::new(alloc);
-    let mut memo = Memo::new(alloc);
-    let mut state = State::new(alloc, max_reads);
-    let result = run_turns(
-        machine,
-        &mut intake,
-        &mut outlet,
-        &mut path,
-        &mut memo,
-        &mut state,
-    );
+    let mut ends = Ends {
+        intake: Intake::new(source),
+        outlet: Outlet::new(sink),
+    };
+    let mut scan = Scan {
+        path: StatePath::new(alloc),
+        memo: Memo::new(alloc),
+        state: State::new(alloc, max_reads),
+    };
+    let result = run_turns(machine, &mut ends, &mut scan);
+    // What was lent is given back.
+    let Ends { intake, outlet } = ends;
     let _source = intake.into_inner();
     let _sink = outlet.into_inner();
     result
@@ -62,34 +58,16 @@ pub fn run<M: Machine, S: Source, K: Sink>(
 /// Turns until the end.
 fn run_turns<M: Machine, S: Source, K: Sink>(
     machine: &M,
-    intake: &mut Intake<'_, S>,
-    outlet: &mut Outlet<'_, K>,
-    path: &mut StatePath,
-    memo: &mut Memo,
-    state: &mut State,
+    ends: &mut Ends<'_, '_, S, K>,
+    scan: &mut Scan,
 ) -> Result<u8, RunError>
-    requires start { Stands (M.machine machine.now) 0 [] [] state.old }
-    requires going { state.old.ended ≡ None }
-    requires reading { state.old.reading.at_end ≡ false }
-    requires ready { MayTurn (M.machine machine.now) (can_read intake.old) (can_write outlet.old) state.old }
-    requires inside { state.old.place.at ≤ length state.old.reading.window.bytes }
-    requires marks { AreTrue (M.machine machine.now) state.old.reading memo.old }
-
-    ensures same_source { source_name intake.new ≡ source_name intake.old }
-    ensures same_sink { sink_name outlet.new ≡ sink_name outlet.old }
-    ensures ran { (given : List ℕ) × (out : List ℕ) × S.gave (source_of intake.old) given (source_of intake.new)
-        × K.wrote (sink_of outlet.old) out (sink_of outlet.new)
-        × Ran (rules_of_machine (M.machine machine.now)) given out
-        (nat_lt (S.ends (source_of intake.old)) (S.ends (source_of intake.new))) state.old.reading.max_reads result
-        × FewReads S.ends S.failures (source_of intake.old) (source_of intake.new) given state.old.reading.max_reads }
-    ensures counts { RunCounts S.ends S.failures K.failures (source_of intake.old) (source_of intake.new)
-        (sink_of outlet.old) (sink_of outlet.new) result }
-    ensures handed_on { RunHandedOn (K.flushed (sink_of outlet.new)) result }
+    requires fresh { IsFresh (M.machine machine.now) ends.old scan.old }
+    ensures { RunMade (M.machine machine.now) ends.old ends.new scan.old result }
 {
     if machine.rejects() {
-        run_with_reject(machine, intake, outlet, path, state)
+        run_with_reject(machine, ends, scan)
     } else {
-        run_without_reject(machine, intake, outlet, memo, state)
+        run_without_reject(machine, ends, scan)
     }
 }
 
@@ -97,32 +75,16 @@ fn run_turns<M: Machine, S: Source, K: Sink>(
 #[inline(never)]
 fn run_with_reject<M: Machine, S: Source, K: Sink>(
     machine: &M,
-    intake: &mut Intake<'_, S>,
-    outlet: &mut Outlet<'_, K>,
-    path: &mut StatePath,
-    state: &mut State,
+    ends: &mut Ends<'_, '_, S, K>,
+    scan: &mut Scan,
 ) -> Result<u8, RunError>
-    requires start { Stands (M.machine machine.now) 0 [] [] state.old }
-    requires going { state.old.ended ≡ None }
-    requires reading { state.old.reading.at_end ≡ false }
-    requires ready { MayTurn (M.machine machine.now) (can_read intake.old) (can_write outlet.old) state.old }
-    requires inside { state.old.place.at ≤ length state.old.reading.window.bytes }
-
-    ensures same_source { source_name intake.new ≡ source_name intake.old }
-    ensures same_sink { sink_name outlet.new ≡ sink_name outlet.old }
-    ensures ran { (given : List ℕ) × (out : List ℕ) × S.gave (source_of intake.old) given (source_of intake.new)
-        × K.wrote (sink_of outlet.old) out (sink_of outlet.new)
-        × Ran (rules_of_machine (M.machine machine.now)) given out
-        (nat_lt (S.ends (source_of intake.old)) (S.ends (source_of intake.new))) state.old.reading.max_reads result
-        × FewReads S.ends S.failures (source_of intake.old) (source_of intake.new) given state.old.reading.max_reads }
-    ensures counts { RunCounts S.ends S.failures K.failures (source_of intake.old) (source_of intake.new)
-        (sink_of outlet.old) (sink_of outlet.new) result }
-    ensures handed_on { RunHandedOn (K.flushed (sink_of outlet.new)) result }
+    requires fresh { IsFresh (M.machine machine.now) ends.old scan.old }
+    ensures { RunMade (M.machine machine.now) ends.old ends.new scan.old result }
 {
     let mut most = MOST_SHOWN;
     'turns: loop {
-        most = go_further(machine, intake, outlet, state, most)?;
-        match turn_with_reject(machine, intake, outlet, path, state)? {
+        most = scan.go_further(machine, ends, most)?;
+        match scan.turn_with_reject(machine, ends)? {
             Turn::Ended(status) => return Ok(status),
             Turn::Went => {}
         }
@@ -133,40 +95,23 @@ fn run_with_reject<M: Machine, S: Source, K: Sink>(
 /// are made in one go, but for those over many bytes that an earlier match has asked for.
 fn run_without_reject<M: Machine, S: Source, K: Sink>(
     machine: &M,
-    intake: &mut Intake<'_, S>,
-    outlet: &mut Outlet<'_, K>,
-    memo: &mut Memo,
-    state: &mut State,
+    ends: &mut Ends<'_, '_, S, K>,
+    scan: &mut Scan,
 ) -> Result<u8, RunError>
     requires no_reject { NoReject (M.machine machine.now) }
-    requires start { Stands (M.machine machine.now) 0 [] [] state.old }
-    requires going { state.old.ended ≡ None }
-    requires reading { state.old.reading.at_end ≡ false }
-    requires ready { MayTurn (M.machine machine.now) (can_read intake.old) (can_write outlet.old) state.old }
-    requires inside { state.old.place.at ≤ length state.old.reading.window.bytes }
-    requires marks { AreTrue (M.machine machine.now) state.old.reading memo.old }
-
-    ensures same_source { source_name intake.new ≡ source_name intake.old }
-    ensures same_sink { sink_name outlet.new ≡ sink_name outlet.old }
-    ensures ran { (given : List ℕ) × (out : List ℕ) × S.gave (source_of intake.old) given (source_of intake.new)
-        × K.wrote (sink_of outlet.old) out (sink_of outlet.new)
-        × Ran (rules_of_machine (M.machine machine.now)) given out
-        (nat_lt (S.ends (source_of intake.old)) (S.ends (source_of intake.new))) state.old.reading.max_reads result
-        × FewReads S.ends S.failures (source_of intake.old) (source_of intake.new) given state.old.reading.max_reads }
-    ensures counts { RunCounts S.ends S.failures K.failures (source_of intake.old) (source_of intake.new)
-        (sink_of outlet.old) (sink_of outlet.new) result }
-    ensures handed_on { RunHandedOn (K.flushed (sink_of outlet.new)) result }
+    requires fresh { IsFresh (M.machine machine.now) ends.old scan.old }
+    ensures { RunMade (M.machine machine.now) ends.old ends.new scan.old result }
 {
     let mut most = MOST_SHOWN;
     'turns: loop {
-        if has_backlog(state) {
-            match back_turn(machine, intake, outlet, memo, state)? {
+        if has_backlog(&scan.state) {
+            match scan.turn_over_backlog(machine, ends)? {
                 Turn::Ended(status) => return Ok(status),
                 Turn::Went => {}
             }
         } else {
-            most = go_further(machine, intake, outlet, state, most)?;
-            match turn_without_reject(machine, intake, outlet, state)? {
+            most = scan.go_further(machine, ends, most)?;
+            match scan.turn_without_reject(machine, ends)? {
                 Turn::Ended(status) => return Ok(status),
                 Turn::Went => {}
             }

@@ -1,6 +1,6 @@
 -- The states after the bytes that a match has asked for, while the window grows.
 use Rattle.std.proofs.Common.{◌≡◌, ℕ, suc, zero, ◌+◌, ◌-◌, ◌≤◌, ◌<◌, Bool, true, false, List, [], ◌∷◌, ◌++◌, length, take, drop, get_or, ◌⊎◌, inl, inr, refl, sym, ◌∙◌, ap, subst, arith}
-use Rattle.std.proofs.lemmas.List.{take-append-le, length-append, append_assoc, length-drop, drop-append-le, get_or-drop}
+use Rattle.std.proofs.lemmas.List.{take-append-le, length-append, append-nil, append_assoc, length-drop, drop-append-le, get_or-drop}
 use Rattle.lex_semantics.specs.Text.{Among}
 use Rattle.lex_semantics.specs.Machine.{Machine, walk, state_after}
 use Rattle.lex_semantics.specs.Trail.{trail_from}
@@ -89,6 +89,19 @@ known_more n s path path' e lt h t a = elim (among_append path (s ∷ []) t (sub
     last : Among (s ∷ []) t → t < n
     last (inl k) = omega (arith, k, lt)
     last (inr k) = absurd k
+
+-- nothing was taken
+pub took_none : {S : Type 0} (gave : S → List ℕ → S → Type 0) (s : S) (r : Reading) → gave s [] s → Took gave s s r r
+took_none gave s r none = record {
+  got = [];
+  source = none;
+  text = tt;
+  held = sym (append-nil r.window.bytes);
+  taken = omega arith;
+  nothing = λ e. refl;
+  end_stays = λ e. e;
+  max_reads = refl;
+}
 
 -- bytes taken before, and after
 pub took_more : {S : Type 0} (gave : S → List ℕ → S → Type 0) (r s t : S) (a b c : Reading) → ((r s t : S) (xs ys : List ℕ) → gave r xs s → gave s ys t → gave r (xs ++ ys) t) →

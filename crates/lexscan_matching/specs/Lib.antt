@@ -4,3 +4,4 @@ pub mod Picks
 pub mod Backs
 pub mod Fronts
 pub mod Glanced
+pub mod Calls

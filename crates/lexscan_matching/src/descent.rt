@@ -1,14 +1,11 @@
 //! The matches at a place, from the longest down.
-ghost use Rattle.std.specs.Prelude.{◌≡◌, ℕ, ◌+◌, ◌-◌, ◌^◌, ◌<◌, ◌≤◌, List, [], length, filter_map, true, false, OnOk};
-ghost use Rattle.std.specs.Prelude.{OnErr, IfOk, IfErr, IfSome};
+ghost use Rattle.std.specs.Prelude.{◌≡◌, ℕ, ◌+◌, ◌<◌, ◌≤◌, length, filter_map, true, IfSome};
 ghost use Rattle.lex_semantics.specs.Text.{Among};
 ghost use Rattle.lex_semantics.specs.PlainMachine.{kept_by, match_of};
 ghost use Rattle.lex_machine.specs.Views.{cut_of};
-ghost use Rattle.lexscan_window.specs.Intakes.{sink_of, sink_name, can_write};
-ghost use Rattle.lexscan_window.specs.Reads.{write_fault_count};
-ghost use Rattle.lexscan_window.specs.Ends.{SinkLeft};
-ghost use Rattle.lexscan_matching.specs.Descends.{matches_of, conditions_of, finished_of, Tried, CutOff, CutAll};
-ghost use Rattle.lexscan_matching.specs.Descends.{Performed, Takes, TakesUnlessAgain};
+ghost use Rattle.lexscan_window.specs.Intakes.{can_write};
+ghost use Rattle.lexscan_matching.specs.Descends.{matches_of};
+ghost use Rattle.lexscan_matching.specs.Calls.{RulesTried, MatchesTried};
 
 use lex_io::Sink;
 use lex_machine::{Cut, Machine};
@@ -54,17 +51,8 @@ fn try_rules<M: Machine, K: Sink>(
     requires known { (i : ℕ) → Among rules.now i → i < (M.machine machine.now).count }
     requires inside { acting.old.end ≤ length window.now.bytes }
 
-    ensures same { sink_name outlet.new ≡ sink_name outlet.old }
-    ensures sink { SinkLeft K.failures (sink_of outlet.old) (sink_of outlet.new) (can_write outlet.new) result }
-
-    ensures inside { acting.new.end ≤ length window.now.bytes }
-    ensures tried { IfOk result (λ step. Tried (M.machine machine.now) K.wrote (sink_of outlet.old) (sink_of outlet.new)
-        window.now.bytes at (filter_map (match_of (M.machine machine.now) len) rules.now) (conditions_of acting.old)
-        acting.new step) }
-    ensures takes { IfOk result (TakesUnlessAgain (M.machine machine.now) window.now.bytes at
-        (filter_map (match_of (M.machine machine.now) len) rules.now) (conditions_of acting.old) matched.new) }
-    ensures cut_off { OnErr result (CutOff (M.machine machine.now) K.wrote (sink_of outlet.old) (sink_of outlet.new)
-        window.now.bytes at (filter_map (match_of (M.machine machine.now) len) rules.now) (conditions_of acting.old)) }
+    ensures { RulesTried (M.machine machine.now) outlet.old outlet.new window.now.bytes at
+        (filter_map (match_of (M.machine machine.now) len) rules.now) acting.old acting.new matched.new result }
 {
     let held = window.len();
     for rule in rules {
@@ -100,20 +88,9 @@ pub fn descend<M: Machine, K: Sink>(
     requires known { (state : ℕ) → Among path.now.states state → state < M.states machine.now }
     requires inside { acting.old.end ≤ length window.now.bytes }
 
-    ensures same { sink_name outlet.new ≡ sink_name outlet.old }
-    ensures sink { SinkLeft K.failures (sink_of outlet.old) (sink_of outlet.new) (can_write outlet.new) result }
-
-    ensures inside { acting.new.end ≤ length window.now.bytes }
-    ensures performed { IfOk result (λ ended. Performed (M.machine machine.now)
-        K.wrote (sink_of outlet.old) (sink_of outlet.new) window.now.bytes at
-        (matches_of (M.machine machine.now) window.now.bytes at path.now.states)
-        (conditions_of acting.old) acting.new (finished_of ended)) }
-    ensures takes { OnOk result (Takes (M.machine machine.now) window.now.bytes at
-        (matches_of (M.machine machine.now) window.now.bytes at path.now.states) (conditions_of acting.old)
-        matched.new) }
-    ensures cut_off { OnErr result (CutAll (M.machine machine.now)
-        K.wrote (sink_of outlet.old) (sink_of outlet.new) window.now.bytes at
-        (matches_of (M.machine machine.now) window.now.bytes at path.now.states) (conditions_of acting.old)) }
+    ensures { MatchesTried (M.machine machine.now) outlet.old outlet.new window.now.bytes at
+        (matches_of (M.machine machine.now) window.now.bytes at path.now.states) acting.old acting.new matched.new
+        result }
 {
     let mut len = path.len();
     'lengths: while 0 < len {

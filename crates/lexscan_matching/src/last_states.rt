@@ -1,11 +1,9 @@
 //! One match, which takes bytes from the source as it asks for them, by its last two states.
-ghost use Rattle.std.specs.Prelude.{◌≡◌, ℕ, ◌+◌, ◌-◌, ◌^◌, ◌<◌, ◌≤◌, List, [], length, true, false, OnOk, OnErr};
-ghost use Rattle.std.specs.Prelude.{IfOk, IsErrOf, IfSome, drop, ◌⊎◌};
-ghost use Rattle.lexscan_window.specs.Intakes.{source_of, source_name, can_read, sink_of, sink_name, can_write};
-ghost use Rattle.lexscan_window.specs.Reads.{Took, read_fault_count, end_step};
-ghost use Rattle.lexscan_window.specs.Ends.{SourceLeft, NothingPut};
-ghost use Rattle.lexscan_matching.specs.Looks.{SoFar, Wants};
-ghost use Rattle.lexscan_matching.specs.Picks.{LookedSome, Tells, path_of, state_at};
+ghost use Rattle.std.specs.Prelude.{◌≡◌, ◌+◌, ◌-◌, ◌<◌, ◌≤◌, length, true, false, drop, ◌⊎◌};
+ghost use Rattle.lexscan_window.specs.Intakes.{can_read, can_write};
+ghost use Rattle.lexscan_matching.specs.Looks.{SoFar};
+ghost use Rattle.lexscan_matching.specs.Picks.{path_of, state_at};
+ghost use Rattle.lexscan_matching.specs.Calls.{LookedLast};
 
 use crate::pick::LookAhead;
 use lex_io::{Sink, Source};
@@ -26,19 +24,8 @@ pub fn look_ahead_last<M: Machine, S: Source, K: Sink>(
     requires inside { place.at ≤ length reading.old.window.bytes }
     requires condition { place.condition < (M.machine machine.now).conditions }
 
-    ensures same { source_name intake.new ≡ source_name intake.old }
-    ensures same_sink { sink_name outlet.new ≡ sink_name outlet.old }
-    ensures put { NothingPut K.wrote K.failures (sink_of outlet.old) (sink_of outlet.new) (can_write outlet.new)
-        result }
-    ensures took { Took S.gave (source_of intake.old) (source_of intake.new) reading.old reading.new }
-    ensures looked { IfOk result (λ ahead. LookedSome (M.machine machine.now) place reading.old reading.new ahead) }
-    ensures tells { IfOk result
-        (λ ahead. IfSome ahead (Tells (M.machine machine.now) (M.states machine.now) place reading.new.window.bytes)) }
-    ensures unmet { OnErr result (Wants (M.machine machine.now) place reading.new) }
-    ensures source { SourceLeft S.ends S.failures (source_of intake.old) (source_of intake.new) (can_read intake.new)
-        reading.old reading.new result }
-
-    ensures too_many { IsErrOf result RunError.TooManyReads → reading.new.taken ≡ reading.new.max_reads }
+    ensures { LookedLast (M.machine machine.now) (M.states machine.now) intake.old intake.new outlet.old outlet.new
+        place reading.old reading.new result }
 {
     let held = reading.window.len();
     let mut state = machine.start(place.condition, place.line_start);
@@ -102,19 +89,8 @@ pub fn look_ahead_more<M: Machine, S: Source, K: Sink>(
     requires known { ahead.state < M.states machine.now }
     requires known_before { ahead.before < M.states machine.now }
 
-    ensures same { source_name intake.new ≡ source_name intake.old }
-    ensures same_sink { sink_name outlet.new ≡ sink_name outlet.old }
-    ensures put { NothingPut K.wrote K.failures (sink_of outlet.old) (sink_of outlet.new) (can_write outlet.new)
-        result }
-    ensures took { Took S.gave (source_of intake.old) (source_of intake.new) reading.old reading.new }
-    ensures looked { IfOk result (λ ahead. LookedSome (M.machine machine.now) place reading.old reading.new ahead) }
-    ensures tells { IfOk result
-        (λ ahead. IfSome ahead (Tells (M.machine machine.now) (M.states machine.now) place reading.new.window.bytes)) }
-    ensures unmet { OnErr result (Wants (M.machine machine.now) place reading.new) }
-    ensures source { SourceLeft S.ends S.failures (source_of intake.old) (source_of intake.new) (can_read intake.new)
-        reading.old reading.new result }
-
-    ensures too_many { IsErrOf result RunError.TooManyReads → reading.new.taken ≡ reading.new.max_reads }
+    ensures { LookedLast (M.machine machine.now) (M.states machine.now) intake.old intake.new outlet.old outlet.new
+        place reading.old reading.new result }
 {
     let mut now = ahead;
     'fills: while !reading.at_end {

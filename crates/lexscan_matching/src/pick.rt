@@ -1,15 +1,12 @@
 //! The longest match at a place, without the states before its last two.
-ghost use Rattle.std.specs.Prelude.{◌≡◌, ℕ, ◌+◌, ◌-◌, ◌^◌, ◌<◌, ◌≤◌, List, [], length, filter_map, Some, true, false};
-ghost use Rattle.std.specs.Prelude.{OnOk, OnErr, IfOk, IfErr, IfSome};
+ghost use Rattle.std.specs.Prelude.{◌≡◌, ℕ, ◌+◌, ◌<◌, ◌≤◌, length, filter_map, true, IfSome};
 ghost use Rattle.lex_semantics.specs.Text.{Among};
 ghost use Rattle.lex_semantics.specs.PlainMachine.{match_of};
-ghost use Rattle.lex_semantics.specs.Trail.{falling};
 ghost use Rattle.lex_semantics.specs.MachineLaws.{NoReject};
-ghost use Rattle.lexscan_window.specs.Intakes.{sink_of, sink_name, can_write};
-ghost use Rattle.lexscan_window.specs.Reads.{write_fault_count};
-ghost use Rattle.lexscan_window.specs.Ends.{SinkLeft};
-ghost use Rattle.lexscan_matching.specs.Descends.{matches_of, CutAll, Performed, conditions_of, finished_of};
+ghost use Rattle.lexscan_window.specs.Intakes.{can_write};
+ghost use Rattle.lexscan_matching.specs.Descends.{matches_of};
 ghost use Rattle.lexscan_matching.specs.Picks.{IsFirst, IsLongest, HasStatements, Tells, path_of};
+ghost use Rattle.lexscan_matching.specs.Calls.{PickedNear, PickCarried};
 
 use crate::descent::kept_length;
 use lex_io::Sink;
@@ -100,15 +97,7 @@ pub fn near_end<'m, M: Machine>(
     requires condition { place.condition < (M.machine machine.now).conditions }
     requires tells { Tells (M.machine machine.now) (M.states machine.now) place window.now.bytes ahead }
 
-    ensures first { IfSome result (λ pick. IsFirst
-        (falling (M.machine machine.now) 0 (path_of (M.machine machine.now) place window.now.bytes ahead.reach))
-        (Some pick)) }
-    ensures one { ahead.reach ≡ 1 → IsFirst
-        (falling (M.machine machine.now) 0 (path_of (M.machine machine.now) place window.now.bytes ahead.reach))
-        result }
-    ensures known { IfSome result (λ pick. pick.rule < (M.machine machine.now).count) }
-    ensures statements { IfSome result (HasStatements (M.machine machine.now)) }
-    ensures short { IfSome result (λ pick. pick.keep ≤ ahead.reach) }
+    ensures { PickedNear (M.machine machine.now) place window.now.bytes ahead.reach result }
 {
     let len = ahead.reach;
     if let Some(pick) = first_candidate(machine, machine.accepts(ahead.state), len) {
@@ -140,20 +129,9 @@ pub fn carry_pick<M: Machine, K: Sink>(
     requires some { 1 ≤ reach }
     requires longest { IsLongest (M.machine machine.now) place window.now.bytes reach pick }
 
-    ensures same { sink_name outlet.new ≡ sink_name outlet.old }
-    ensures sink { SinkLeft K.failures (sink_of outlet.old) (sink_of outlet.new) (can_write outlet.new) result }
-
-    ensures inside { acting.new.end ≤ length window.now.bytes }
-    ensures performed { IfOk result (λ ended. Performed (M.machine machine.now)
-        K.wrote (sink_of outlet.old) (sink_of outlet.new) window.now.bytes place.at
+    ensures { PickCarried (M.machine machine.now) outlet.old outlet.new window.now.bytes place.at
         (matches_of (M.machine machine.now) window.now.bytes place.at
-        (path_of (M.machine machine.now) place window.now.bytes reach))
-        (conditions_of acting.old) acting.new (finished_of ended)) }
-    ensures cut_off { OnErr result (CutAll (M.machine machine.now)
-        K.wrote (sink_of outlet.old) (sink_of outlet.new) window.now.bytes place.at
-        (matches_of (M.machine machine.now) window.now.bytes place.at
-        (path_of (M.machine machine.now) place window.now.bytes reach))
-        (conditions_of acting.old)) }
+        (path_of (M.machine machine.now) place window.now.bytes reach)) acting.old acting.new result }
 {
     let held = window.len();
     acting.more = false;

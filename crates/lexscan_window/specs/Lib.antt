@@ -4,6 +4,7 @@ pub mod Answer
 pub mod Intakes
 pub mod Reads
 pub mod Ends
+pub mod Takings
 pub mod Acts
 pub mod Memos
 pub mod Waits

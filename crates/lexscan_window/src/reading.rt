@@ -1,13 +1,8 @@
 //! What a scanner keeps of its source.
-ghost use Rattle.std.specs.Prelude.{◌≡◌, ℕ, ◌+◌, ◌-◌, ◌^◌, ◌<◌, ◌≤◌, List, [], ◌∷◌, ◌++◌, length, max, true, false};
-ghost use Rattle.std.specs.Prelude.{OnOk, OnErr, IfOk, IsErrOf, ◌⊎◌, if◌then◌else◌};
-ghost use Rattle.lex_io.specs.Source.{given};
-ghost use Rattle.lex_semantics.specs.Text.{IsText};
-ghost use Rattle.lexscan_window.specs.Walks.{Grown, Walked, StopsAt, ends_at};
-ghost use Rattle.lexscan_window.specs.Reads.{Took, IsThere, IsWanted, IsShort, is_end, read_fault_count, end_step};
-ghost use Rattle.lexscan_window.specs.Intakes.{source_of, source_name, can_read, sink_of, sink_name, can_write};
-ghost use Rattle.lex_semantics.specs.ByteSets.{bit_of};
-ghost use Rattle.lexscan_window.specs.Ends.{SourceLeft, NothingPut};
+ghost use Rattle.std.specs.Prelude.{◌≡◌, ◌<◌, ◌≤◌, [], ◌∷◌, length, true, false, OnOk};
+ghost use Rattle.lexscan_window.specs.Walks.{Walked, StopsAt, ends_at};
+ghost use Rattle.lexscan_window.specs.Intakes.{can_read, can_write};
+ghost use Rattle.lexscan_window.specs.Takings.{ByteTaken, WindowFilled, ByteFetched};
 
 use crate::error::RunError;
 use crate::intake::{Intake, Outlet};
@@ -29,28 +24,7 @@ fn take_plain<S: Source, K: Sink>(
     requires sink { can_write outlet.old ≡ true }
     requires more { reading.old.at_end ≡ false }
 
-    ensures same { source_name intake.new ≡ source_name intake.old }
-    ensures same_sink { sink_name outlet.new ≡ sink_name outlet.old }
-    ensures put { NothingPut K.wrote K.failures (sink_of outlet.old) (sink_of outlet.new) (can_write outlet.new)
-        result }
-    ensures tied { OnOk result (S.waits (source_of intake.old) ≡ true → K.flushed (sink_of outlet.new) ≡ true) }
-    ensures byte { S.gave (source_of intake.old) (given result) (source_of intake.new) }
-    ensures text { IsText (given result) }
-    ensures ends { S.ends (source_of intake.new) ≡ S.ends (source_of intake.old) + (if is_end result then 1 else 0) }
-    ensures failures { S.failures (source_of intake.new) ≡ S.failures (source_of intake.old) + read_fault_count result }
-    ensures live { OnOk result (reading.new.at_end ≡ false → can_read intake.new ≡ true) }
-
-    ensures held { reading.new.window.bytes ≡ reading.old.window.bytes ++ given result }
-    ensures taken { reading.new.taken ≡ reading.old.taken + length (given result) }
-    ensures at_end { reading.new.at_end ≡ is_end result }
-    ensures max_reads { reading.new.max_reads ≡ reading.old.max_reads }
-    ensures few_reads { reading.new.taken + bit_of reading.new.at_end + read_fault_count result
-        ≤ reading.new.max_reads }
-
-    ensures too_many { IsErrOf result RunError.TooManyReads → reading.old.taken ≡ reading.old.max_reads }
-    ensures at_limit { reading.old.taken ≡ reading.old.max_reads → IsErrOf result RunError.TooManyReads }
-    ensures not_failed { IsErrOf result RunError.Failed → ⊥ }
-    ensures not_stack { IsErrOf result RunError.Stack → ⊥ }
+    ensures { ByteTaken intake.old intake.new outlet.old outlet.new reading.old reading.new result }
 {
     if reading.taken >= reading.max_reads {
         return Err(RunError::TooManyReads);
@@ -86,31 +60,9 @@ fn take_byte<S: Source, K: Sink>(
     requires sink { can_write outlet.old ≡ true }
     requires more { reading.old.at_end ≡ false }
 
-    ensures same { source_name intake.new ≡ source_name intake.old }
-    ensures same_sink { sink_name outlet.new ≡ sink_name outlet.old }
-    ensures put { NothingPut K.wrote K.failures (sink_of outlet.old) (sink_of outlet.new) (can_write outlet.new)
-        result }
-    ensures tied { OnOk result (S.waits (source_of intake.old) ≡ true → K.flushed (sink_of outlet.new) ≡ true) }
-    ensures byte { S.gave (source_of intake.old) (given result) (source_of intake.new) }
-    ensures text { IsText (given result) }
-    ensures ends { S.ends (source_of intake.new) ≡ S.ends (source_of intake.old) + (if is_end result then 1 else 0) }
-    ensures failures { S.failures (source_of intake.new) ≡ S.failures (source_of intake.old) + read_fault_count result }
-    ensures live { OnOk result (reading.new.at_end ≡ false → can_read intake.new ≡ true) }
-
-    ensures held { reading.new.window.bytes ≡ reading.old.window.bytes ++ given result }
-    ensures taken { reading.new.taken ≡ reading.old.taken + length (given result) }
-    ensures at_end { reading.new.at_end ≡ is_end result }
-    ensures max_reads { reading.new.max_reads ≡ reading.old.max_reads }
-    ensures few_reads { reading.new.taken + bit_of reading.new.at_end + read_fault_count result
-        ≤ reading.new.max_reads }
-
+    ensures byte { ByteTaken intake.old intake.new outlet.old outlet.new reading.old reading.new result }
     ensures states { path.new.states ≡ path.old.states }
     ensures room { OnOk result (path.new.room ≡ true) }
-
-    ensures too_many { IsErrOf result RunError.TooManyReads → reading.old.taken ≡ reading.old.max_reads }
-    ensures at_limit { reading.old.taken ≡ reading.old.max_reads → IsErrOf result RunError.TooManyReads }
-    ensures not_failed { IsErrOf result RunError.Failed → ⊥ }
-    ensures not_stack { IsErrOf result RunError.Stack → ⊥ }
 {
     if reading.max_reads <= reading.taken {
         return Err(RunError::TooManyReads);
@@ -156,25 +108,8 @@ pub fn fill<M: Machine, S: Source, K: Sink>(
     requires more { reading.old.at_end ≡ false }
     requires known { first < M.states machine.now }
 
-    ensures same { source_name intake.new ≡ source_name intake.old }
-    ensures same_sink { sink_name outlet.new ≡ sink_name outlet.old }
-    ensures put { NothingPut K.wrote K.failures (sink_of outlet.old) (sink_of outlet.new) (can_write outlet.new)
-        result }
-    ensures tied { OnOk result (S.waits (source_of intake.old) ≡ true → K.flushed (sink_of outlet.new) ≡ true) }
-    ensures ready { IfOk result (λ walk. walk.count ≤ max 1 (length (S.ready (source_of intake.old)))) }
-    ensures took { Took S.gave (source_of intake.old) (source_of intake.new) reading.old reading.new }
-    ensures source { SourceLeft S.ends S.failures (source_of intake.old) (source_of intake.new) (can_read intake.new)
-        reading.old reading.new result }
-    ensures grown { IfOk result (λ walk. Grown (M.machine machine.now) reading.old reading.new first walk) }
-    ensures at_end { IfOk result (λ walk. reading.new.at_end ≡ ends_at walk.stop) }
-    ensures some { IfOk result (λ walk. ends_at walk.stop ≡ false → 1 ≤ walk.count) }
-    ensures known { IfOk result (λ walk. walk.state < M.states machine.now) }
-    ensures known_before { IfOk result (λ walk. walk.before < M.states machine.now) }
-
-    ensures unchanged { OnErr result ((reading.new.window.bytes ≡ reading.old.window.bytes)
-        × (reading.new.at_end ≡ false)) }
-    ensures too_many { IsErrOf result RunError.TooManyReads → reading.new.taken ≡ reading.new.max_reads }
-    ensures at_limit { reading.old.taken ≡ reading.old.max_reads → IsErrOf result RunError.TooManyReads }
+    ensures { WindowFilled (M.machine machine.now) (M.states machine.now) intake.old intake.new outlet.old outlet.new
+        reading.old reading.new first result }
 {
     if intake.ahead().is_empty() {
         return match take_plain(intake, outlet, reading) {
@@ -209,21 +144,8 @@ pub fn fetch<S: Source, K: Sink>(
     requires sink { can_write outlet.old ≡ true }
     requires place { next ≤ length reading.old.window.bytes }
 
-    ensures same { source_name intake.new ≡ source_name intake.old }
-    ensures same_sink { sink_name outlet.new ≡ sink_name outlet.old }
-    ensures put { NothingPut K.wrote K.failures (sink_of outlet.old) (sink_of outlet.new) (can_write outlet.new)
+    ensures { ByteFetched intake.old intake.new outlet.old outlet.new reading.old reading.new path.old path.new next
         result }
-    ensures took { Took S.gave (source_of intake.old) (source_of intake.new) reading.old reading.new }
-    ensures there { IfOk result (λ there. IsThere reading.old reading.new next there) }
-    ensures wanted { OnErr result (IsWanted reading.old reading.new next ⊎ IsShort reading.old reading.new next) }
-    ensures source { SourceLeft S.ends S.failures (source_of intake.old) (source_of intake.new) (can_read intake.new)
-        reading.old reading.new result }
-
-    ensures states { path.new.states ≡ path.old.states }
-    ensures room { IfOk result (λ there. there ≡ true → path.new.room ≡ true) }
-
-    ensures too_many { IsErrOf result RunError.TooManyReads →
-        (reading.new.taken ≡ reading.new.max_reads) × IsWanted reading.old reading.new next }
 {
     if next < reading.window.len() {
         return match path.reserve() {

@@ -1,5 +1,6 @@
 use Rattle.std.proofs.Common.{◌≡◌, ℕ, ◌+◌, ◌-◌, ◌<◌, ◌≤◌, List, [], ◌++◌, length, get_or, take, drop, take_all, length-drop, Bool, true, false, refl, sym, ap, subst, ◌∙◌, arith}
 use Rattle.std.specs.Prelude.{nat_eq, max, min}
+use Rattle.std.proofs.lemmas.Grind.{common_steps}
 use Rattle.std.proofs.lemmas.Bool.Decides.{nat_tests}
 use Rattle.std.proofs.lemmas.List.{get_or-take, get_or-drop, drop-drop}
 use Rattle.lex_semantics.specs.Text.{IsText, BeginsWith}
@@ -203,13 +204,22 @@ turns-preserved-in-Some-silent_part g c = record {
       c.turns.invariant.rest c.turns.invariant.inside c.turns.invariant.done c.turns.invariant.first c.in-Some.ensures.way (c.in-Some-silent_part.ensures c.turns.first c.turns.rest.now c.in-Some.ensures.way) refl c.min-unasked.result c.min-unasked.ensures in let h = c.turns.invariant.held in omega (arith, a, h));
 }
 
-pub returns-clause-bursts : goal.returns-clause-bursts
-returns-clause-bursts g c = elim c.turns-test.branch [
-  | else-turns-test w ↦ rw (w.fault-is ∙ c.turns.invariant.fault, w.outlet-is, w.unasked-is, c.starts_line.ensures) c.turns.invariant.went
-  | then-turns-test+in_default w ↦ rw (w.fault-is ∙ c.turns.invariant.fault, w.outlet-is, w.unasked-is, c.starts_line.ensures) c.turns.invariant.went
-  | then-turns-test+in-Some+in_default-silent_part+then-not-names_rule w ↦ rw (w.fault-is ∙ c.turns.invariant.fault, w.outlet-is, w.unasked-is, c.starts_line.ensures) c.turns.invariant.went
-  | then-turns-test+in-Some+in_default-silent_part+else-not-names_rule+in_default-do_gist w ↦ (let put = w.in_default-do_gist.ensures.bytes in
-      rw (w.fault-is, w.outlet-is, w.unasked-is, c.starts_line.ensures) (broke_then (g.M.Machine.machine c.args.machine.now) (g.M.Machine.laws c.args.machine.now) c.args.text.now (is_text_from c.args.text.now (λ k. let f = c.type_inv.text k in omega (arith, f))) c.args.place.line_start c.turns.rest.now c.turns.unasked c.turns.condition c.turns.first w.in-Some.way w.longest_match-longest.result
-      c.turns.invariant.rest c.turns.invariant.inside c.turns.invariant.done c.turns.invariant.first w.in-Some.ensures.way w.longest_match-longest.ensures (sym w.names_rule.ensures ∙ w.if-not-names_rule.false)
-      g.K.Sink.wrote g.met.K.Sink.wrote_none g.met.K.Sink.wrote_more c.args.outlet.now.sink.now c.turns.outlet.sink.now w.do_gist.new.outlet.sink.now c.args.held c.args.place.condition c.turns.invariant.held c.turns.invariant.went w.min-unasked-in-turns.result w.min-unasked-in-turns.ensures put.0 put.1 put.2))
-]
+pub returns : goal.returns
+returns g c = record {
+  same = grind (arith, common_steps);
+  bursts = (elim c.turns-test.branch [
+    | else-turns-test w ↦ rw (w.fault-is ∙ c.turns.invariant.fault, w.outlet-is, w.unasked-is, c.starts_line.ensures) c.turns.invariant.went
+    | then-turns-test+in_default w ↦ rw (w.fault-is ∙ c.turns.invariant.fault, w.outlet-is, w.unasked-is, c.starts_line.ensures) c.turns.invariant.went
+    | then-turns-test+in-Some+in_default-silent_part+then-not-names_rule w ↦ rw (w.fault-is ∙ c.turns.invariant.fault, w.outlet-is, w.unasked-is, c.starts_line.ensures) c.turns.invariant.went
+    | then-turns-test+in-Some+in_default-silent_part+else-not-names_rule+in_default-do_gist w ↦ (let put = w.in_default-do_gist.ensures.bytes in
+        rw (w.fault-is, w.outlet-is, w.unasked-is, c.starts_line.ensures) (broke_then (g.M.Machine.machine c.args.machine.now) (g.M.Machine.laws c.args.machine.now) c.args.text.now (is_text_from c.args.text.now (λ k. let f = c.type_inv.text k in omega (arith, f))) c.args.place.line_start c.turns.rest.now c.turns.unasked c.turns.condition c.turns.first w.in-Some.way w.longest_match-longest.result
+        c.turns.invariant.rest c.turns.invariant.inside c.turns.invariant.done c.turns.invariant.first w.in-Some.ensures.way w.longest_match-longest.ensures (sym w.names_rule.ensures ∙ w.if-not-names_rule.false)
+        g.K.Sink.wrote g.met.K.Sink.wrote_none g.met.K.Sink.wrote_more c.args.outlet.now.sink.now c.turns.outlet.sink.now w.do_gist.new.outlet.sink.now c.args.held c.args.place.condition c.turns.invariant.held c.turns.invariant.went w.min-unasked-in-turns.result w.min-unasked-in-turns.ensures put.0 put.1 put.2))
+  ]);
+  failures = grind (arith, common_steps);
+  live = grind (arith, common_steps);
+  condition = grind (arith, common_steps);
+  done = grind (arith, common_steps);
+  held = grind (arith, common_steps);
+  asked = grind (arith, common_steps);
+}

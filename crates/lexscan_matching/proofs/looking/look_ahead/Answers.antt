@@ -1,3 +1,4 @@
+use Rattle.std.proofs.lemmas.Grind.{common_steps}
 use Rattle.std.proofs.Common.{◌≡◌, ◌+◌, ◌≤◌, ◌++◌, ◌∷◌, [], true, length, get_or, sym, ap, subst, ◌∙◌, arith}
 use Rattle.std.proofs.lemmas.List.{length-append}
 use Rattle.std.proofs.lemmas.Result.{err_from_is_err_and}
@@ -48,48 +49,58 @@ bytes-preserved g c = record {
     pushed : c.push.new.self.states ≡ c.bytes.path.states ++ c.step-state.result ∷ []
     pushed = c.push.ensures ∙ ap (λ t. t ++ c.step-state.result ∷ []) c.in_ok-fetch.ensures.states
 
-pub returns-in_err-fetch-clause-took : goal.returns-in_err-fetch-clause-took
-returns-in_err-fetch-clause-took g c = Grow.took_more g.S.Source.gave _ _ _ _ _ _ g.met.S.Source.gave_more c.bytes.invariant.took c.in_err-fetch.ensures.took
-
-pub returns-in_err-fetch-clause-put : goal.returns-in_err-fetch-clause-put
-returns-in_err-fetch-clause-put g c =
-    let p = err_from_is_err_and c.from_residual.result c.from_residual.ensures.1 in
-    rw (p.1, p.2) (record {
-      sink = g.met.K.Sink.wrote_more _ _ _ _ _ c.bytes.invariant.put c.in_err-fetch.ensures.put.sink;
-      write_faults = omega (arith, c.in_err-fetch.ensures.put.write_faults, c.bytes.invariant.write_faults);
-      may_write = tt;
-    })
-
-pub returns-then-not-branch-clause-took : goal.returns-then-not-branch-clause-took
-returns-then-not-branch-clause-took g c = Grow.took_more g.S.Source.gave _ _ _ _ _ _ g.met.S.Source.gave_more c.bytes.invariant.took c.in_ok-fetch.ensures.took
-
-pub returns-then-not-branch-clause-put : goal.returns-then-not-branch-clause-put
-returns-then-not-branch-clause-put g c = record {
-  sink = g.met.K.Sink.wrote_more _ _ _ _ _ c.bytes.invariant.put c.in_ok-fetch.ensures.put.sink;
-  write_faults = omega (arith, c.in_ok-fetch.ensures.put.write_faults, c.bytes.invariant.write_faults);
-  may_write = c.in_ok-fetch.ensures.put.may_write;
+pub returns-in_err-fetch : goal.returns-in_err-fetch
+returns-in_err-fetch g c = record {
+  same = grind (arith, common_steps);
+  same_sink = grind (arith, common_steps);
+  put = (let p = err_from_is_err_and c.from_residual.result c.from_residual.ensures.1 in
+      rw (p.1, p.2) (record {
+        sink = g.met.K.Sink.wrote_more _ _ _ _ _ c.bytes.invariant.put c.in_err-fetch.ensures.put.sink;
+        write_faults = omega (arith, c.in_err-fetch.ensures.put.write_faults, c.bytes.invariant.write_faults);
+        may_write = tt;
+      }));
+  took = Grow.took_more g.S.Source.gave _ _ _ _ _ _ g.met.S.Source.gave_more c.bytes.invariant.took c.in_err-fetch.ensures.took;
+  looked = grind (arith, common_steps);
+  unmet = grind (arith, common_steps);
+  source = (let p = err_from_is_err_and c.from_residual.result c.from_residual.ensures.1 in
+      rw (p.1, p.2) (record {
+        ends = omega (arith, c.in_err-fetch.ensures.source.ends, c.bytes.invariant.ends, ap (λ b. end_step b c.fetch.new.reading.at_end) c.bytes.invariant.end_same);
+        read_faults = omega (arith, c.in_err-fetch.ensures.source.read_faults, c.bytes.invariant.failures);
+        few_reads = c.in_err-fetch.ensures.source.few_reads;
+        may_read = tt;
+        still = λ e. c.in_err-fetch.ensures.source.still (c.bytes.invariant.end_same ∙ e) ∙ c.bytes.invariant.still e;
+        not_failed = c.in_err-fetch.ensures.source.not_failed;
+        not_stack = c.in_err-fetch.ensures.source.not_stack;
+      }));
+  inside = grind (arith, common_steps);
+  some = grind (arith, common_steps);
+  known = grind (arith, common_steps);
+  too_many = grind (arith, common_steps);
 }
 
-pub returns-in_err-fetch-clause-source : goal.returns-in_err-fetch-clause-source
-returns-in_err-fetch-clause-source g c =
-    let p = err_from_is_err_and c.from_residual.result c.from_residual.ensures.1 in
-    rw (p.1, p.2) (record {
-      ends = omega (arith, c.in_err-fetch.ensures.source.ends, c.bytes.invariant.ends, ap (λ b. end_step b c.fetch.new.reading.at_end) c.bytes.invariant.end_same);
-      read_faults = omega (arith, c.in_err-fetch.ensures.source.read_faults, c.bytes.invariant.failures);
-      few_reads = c.in_err-fetch.ensures.source.few_reads;
-      may_read = tt;
-      still = λ e. c.in_err-fetch.ensures.source.still (c.bytes.invariant.end_same ∙ e) ∙ c.bytes.invariant.still e;
-      not_failed = c.in_err-fetch.ensures.source.not_failed;
-      not_stack = c.in_err-fetch.ensures.source.not_stack;
-    })
-
-pub returns-then-not-branch-clause-source : goal.returns-then-not-branch-clause-source
-returns-then-not-branch-clause-source g c = record {
-  ends = omega (arith, c.in_ok-fetch.ensures.source.ends, c.bytes.invariant.ends, ap (λ b. end_step b c.fetch.new.reading.at_end) c.bytes.invariant.end_same);
-  read_faults = omega (arith, c.in_ok-fetch.ensures.source.read_faults, c.bytes.invariant.failures);
-  few_reads = c.in_ok-fetch.ensures.source.few_reads;
-  may_read = c.in_ok-fetch.ensures.source.may_read;
-  still = λ e. c.in_ok-fetch.ensures.source.still (c.bytes.invariant.end_same ∙ e) ∙ c.bytes.invariant.still e;
-  not_failed = λ e. cc;
-  not_stack = λ e. cc;
+pub returns-then-not-branch : goal.returns-then-not-branch
+returns-then-not-branch g c = record {
+  same = grind (arith, common_steps);
+  same_sink = grind (arith, common_steps);
+  put = record {
+    sink = g.met.K.Sink.wrote_more _ _ _ _ _ c.bytes.invariant.put c.in_ok-fetch.ensures.put.sink;
+    write_faults = omega (arith, c.in_ok-fetch.ensures.put.write_faults, c.bytes.invariant.write_faults);
+    may_write = c.in_ok-fetch.ensures.put.may_write;
+  };
+  took = Grow.took_more g.S.Source.gave _ _ _ _ _ _ g.met.S.Source.gave_more c.bytes.invariant.took c.in_ok-fetch.ensures.took;
+  looked = grind (arith, common_steps);
+  unmet = grind (arith, common_steps);
+  source = record {
+    ends = omega (arith, c.in_ok-fetch.ensures.source.ends, c.bytes.invariant.ends, ap (λ b. end_step b c.fetch.new.reading.at_end) c.bytes.invariant.end_same);
+    read_faults = omega (arith, c.in_ok-fetch.ensures.source.read_faults, c.bytes.invariant.failures);
+    few_reads = c.in_ok-fetch.ensures.source.few_reads;
+    may_read = c.in_ok-fetch.ensures.source.may_read;
+    still = λ e. c.in_ok-fetch.ensures.source.still (c.bytes.invariant.end_same ∙ e) ∙ c.bytes.invariant.still e;
+    not_failed = λ e. cc;
+    not_stack = λ e. cc;
+  };
+  inside = grind (arith, common_steps);
+  some = grind (arith, common_steps);
+  known = grind (arith, common_steps);
+  too_many = grind (arith, common_steps);
 }

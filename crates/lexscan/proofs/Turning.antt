@@ -1,0 +1,69 @@
+-- What a match or the end action makes of a scan, and what a turn makes of that.
+use Rattle.std.proofs.Common.{◌≡◌, ◌<◌, true, Result, Ok, Err, arith}
+use Rattle.std.proofs.lemmas.Grind.{common_steps}
+use Rattle.lex_io.specs.declared.source.Source as Source
+use Rattle.lex_io.specs.declared.sink.Sink as Sink
+use Rattle.lex_semantics.specs.Machine.{Machine}
+use Rattle.lex_semantics.specs.Text.{AllBelow}
+use Rattle.lex_semantics.specs.MachineLaws.{MachineLaws}
+use Rattle.lexscan_window.specs.Intakes.{source_of, can_read, sink_of, can_write}
+use Rattle.lexscan_window.specs.Memos.{AreTrue}
+use Rattle.lexscan_window.specs.declared.error.RunError.{RunError}
+use Rattle.lexscan.specs.declared.scan.Ends.{Ends}
+use Rattle.lexscan.specs.declared.scan.Scan.{Scan}
+use Rattle.lexscan.specs.declared.turn.Turn.{Turn}
+use Rattle.lexscan.specs.Moves.{Moved}
+use Rattle.lexscan.specs.Ties.{HandedOn}
+use Rattle.lexscan.specs.Turns.{MoveLeft, TurnCounts}
+use Rattle.lexscan.specs.Scans.{IsGoing, SameEnds, MayTurn, MatchMade, TurnMade}
+use Rattle.lexscan.proofs.Making.{turn_made, turn_refused}
+use Rattle.lexscan.proofs.Ranging as Range
+use Rattle.lexscan.proofs.Settling.{true_moved}
+
+module _ {S K : Type 0} {of_source : Source.Ghosts S} {of_sink : Sink.Ghosts K} (M : Machine) (e e' : Ends S K of_source of_sink) (old new : Scan) where
+  -- a match was made, and the marks are true after it
+  pub match_made : (result : Result Turn RunError) → SameEnds e e' → HandedOn (of_sink.flushed (sink_of e'.outlet)) result → Moved M of_source.gave of_sink.wrote (source_of e.intake) (source_of e'.intake) (sink_of e.outlet) (sink_of e'.outlet) old.state new.state result →
+      MoveLeft M (can_read e'.intake) (can_write e'.outlet) old.state new.state result → TurnCounts of_source.ends of_source.failures of_sink.failures (source_of e.intake) (source_of e'.intake) (sink_of e.outlet) (sink_of e'.outlet) old.state.reading new.state.reading result →
+      AreTrue M old.state.reading new.memo → MatchMade M e e' old new result
+  match_made result same handed moved left counts marks = record {
+    same = same;
+    handed_on = handed;
+    moved = moved;
+    left = left;
+    counts = counts;
+    marks = true_moved M of_source.gave of_sink.wrote _ _ _ _ old.state new.state new.memo result moved marks;
+  }
+
+  -- a turn was made
+  pub made : MachineLaws M → (turn : Turn) → IsGoing old → MayTurn M e old → MatchMade M e e' old new (Ok turn) → TurnMade M e e' old new (Ok turn)
+  made laws turn going ready h = record {
+    same = h.same;
+    handed_on = h.handed_on;
+    goes_on = turn_made M laws of_source.gave of_sink.wrote _ _ _ _ _ _ old.state new.state turn going.working going.going h.moved h.left;
+    counts = h.counts;
+    refused = h.left.refused;
+    too_many = λ is. absurd (no is);
+    next = record {
+      may_read = λ _ _ e. h.left.may_read e;
+      may_write = λ _. h.left.may_write;
+      kept = record { condition = below.0; inside = grind (arith, common_steps); stack = λ _. below.1; marks = λ _. h.marks };
+    };
+  }
+    where
+      below : (new.state.place.condition < M.conditions) × AllBelow M.conditions new.state.acting.stack
+      below = Range.conditions_below M laws of_source.gave of_sink.wrote _ _ _ _ old.state new.state turn h.moved (ready.kept.condition, ready.kept.stack going.working)
+
+      no : {e : RunError} → ◌≡◌ {A = Result Turn RunError} (Ok turn) (Err e) → ⊥
+      no p = cc
+
+  -- a turn was refused
+  pub refused : MachineLaws M → (error : RunError) → IsGoing old → MayTurn M e old → MatchMade M e e' old new (Err error) → TurnMade M e e' old (record new { state = record new.state { failed = true } }) (Err error)
+  refused laws error going ready h = record {
+    same = h.same;
+    handed_on = h.handed_on;
+    goes_on = turn_refused M laws of_source.gave of_sink.wrote _ _ _ _ _ _ old.state new.state error going.going h.moved h.left;
+    counts = h.counts;
+    refused = h.left.refused;
+    too_many = grind (arith, common_steps);
+    next = grind (arith, common_steps);
+  }
