@@ -29,6 +29,6 @@ hands_on file told fed out p b old new count P handed left =
         machine = P.machine;
         text = P.text;
         finished = P.finished;
-        stands = subst (λ l. StandsAt (machine_in p) p.stage told fed l p.scanner.state p.scanner.waiting.items) (ap (λ l. out ++ l) (sym split) ∙ sym (append_assoc out first (rest b))) P.stands;
+        stands = subst (λ l. StandsAt (machine_in p) p.stage told fed l p.scanner.scan.state p.scanner.waiting.items) (ap (λ l. out ++ l) (sym split) ∙ sym (append_assoc out first (rest b))) P.stands;
       };
     }

@@ -124,43 +124,43 @@ module _ (file : List ℕ) (told : Bool) (fed out : List ℕ) (p p' : PieceScan)
 
   -- a piece more, where the scan goes on
   pub fed_progress : (piece : List ℕ) → IsText piece → (result : Result Turn RunError) → p.stage ≡ stages.Going → p'.stage ≡ stage_of result → p'.finished ≡ p.finished
-      → ((fed out : List ℕ) → Fed (machine_in p) fed out p.scanner.state p.scanner.waiting.items → AfterFeed (machine_in p) (fed ++ piece) (out ++ put) p'.scanner.state p'.scanner.waiting.items result)
-      → (IsErrOf result runs.TooManyReads → 2 ^ 64 - 1 ≤ p.scanner.state.reading.taken + length p.scanner.waiting.items + length piece)
+      → ((fed out : List ℕ) → Fed (machine_in p) fed out p.scanner.scan.state p.scanner.waiting.items → AfterFeed (machine_in p) (fed ++ piece) (out ++ put) p'.scanner.scan.state p'.scanner.waiting.items result)
+      → (IsErrOf result runs.TooManyReads → 2 ^ 64 - 1 ≤ p.scanner.scan.state.reading.taken + length p.scanner.waiting.items + length piece)
       → Progress file told (fed_with told fed piece) out p'
   fed_progress piece text result going stage finished after many =
-      let (untrue, ended, h) = going_on M p.stage told fed (out ++ rest p.backlog) p.scanner.state p.scanner.waiting.items going P.stands in
+      let (untrue, ended, h) = going_on M p.stage told fed (out ++ rest p.backlog) p.scanner.scan.state p.scanner.waiting.items going P.stands in
       let all : IsText (fed ++ piece) = append_text fed piece P.text text in
-      let count : IsErrOf result runs.TooManyReads → 2 ^ 64 - 1 ≤ length (fed ++ piece) = λ is. omega (arith, many is, length-append fed piece, fed_count M fed (out ++ rest p.backlog) p.scanner.state p.scanner.waiting.items h ended) in
-      let stands = fed_stands M (fed ++ piece) ((out ++ rest p.backlog) ++ put) p'.scanner.state p'.scanner.waiting.items all result (after fed (out ++ rest p.backlog) h) count in
+      let count : IsErrOf result runs.TooManyReads → 2 ^ 64 - 1 ≤ length (fed ++ piece) = λ is. omega (arith, many is, length-append fed piece, fed_count M fed (out ++ rest p.backlog) p.scanner.scan.state p.scanner.waiting.items h ended) in
+      let stands = fed_stands M (fed ++ piece) ((out ++ rest p.backlog) ++ put) p'.scanner.scan.state p'.scanner.waiting.items all result (after fed (out ++ rest p.backlog) h) count in
       record {
         machine = subst (IsMachineOf file) (sym same_machine) P.machine;
         text = fed_text told fed piece P.text text;
         finished = finished ∙ P.finished;
         stands =
-            subst (λ N. StandsAt N p'.stage told (fed_with told fed piece) (out ++ rest p'.backlog) p'.scanner.state p'.scanner.waiting.items) (sym same_machine)
-            (subst (λ t. StandsAt M t told (fed_with told fed piece) (out ++ rest p'.backlog) p'.scanner.state p'.scanner.waiting.items) (sym stage)
-            (subst (λ l. StandsAt M (stage_of result) told l (out ++ rest p'.backlog) p'.scanner.state p'.scanner.waiting.items) (sym (fed_told told fed piece untrue))
-            (subst (λ b. StandsAt M (stage_of result) b (fed ++ piece) (out ++ rest p'.backlog) p'.scanner.state p'.scanner.waiting.items) (sym untrue)
-            (subst (λ l. StandsAt M (stage_of result) false (fed ++ piece) l p'.scanner.state p'.scanner.waiting.items) written stands))));
+            subst (λ N. StandsAt N p'.stage told (fed_with told fed piece) (out ++ rest p'.backlog) p'.scanner.scan.state p'.scanner.waiting.items) (sym same_machine)
+            (subst (λ t. StandsAt M t told (fed_with told fed piece) (out ++ rest p'.backlog) p'.scanner.scan.state p'.scanner.waiting.items) (sym stage)
+            (subst (λ l. StandsAt M (stage_of result) told l (out ++ rest p'.backlog) p'.scanner.scan.state p'.scanner.waiting.items) (sym (fed_told told fed piece untrue))
+            (subst (λ b. StandsAt M (stage_of result) b (fed ++ piece) (out ++ rest p'.backlog) p'.scanner.scan.state p'.scanner.waiting.items) (sym untrue)
+            (subst (λ l. StandsAt M (stage_of result) false (fed ++ piece) l p'.scanner.scan.state p'.scanner.waiting.items) written stands))));
       }
 
   -- its end, where the scan goes on
   pub end_progress : (result : Result ℕ RunError) → p.stage ≡ stages.Going → p'.stage ≡ end_of result → p'.finished ≡ true
-      → ((fed out : List ℕ) → Fed (machine_in p) fed out p.scanner.state p.scanner.waiting.items → AfterFinish (rules_of_machine (machine_in p)) fed (out ++ put) result)
-      → (IsErrOf result runs.TooManyReads → 2 ^ 64 - 1 ≤ p.scanner.state.reading.taken + length p.scanner.waiting.items)
+      → ((fed out : List ℕ) → Fed (machine_in p) fed out p.scanner.scan.state p.scanner.waiting.items → AfterFinish (rules_of_machine (machine_in p)) fed (out ++ put) result)
+      → (IsErrOf result runs.TooManyReads → 2 ^ 64 - 1 ≤ p.scanner.scan.state.reading.taken + length p.scanner.waiting.items)
       → Progress file true fed out p'
   end_progress result going stage finished after many =
-      let (untrue, ended, h) = going_on M p.stage told fed (out ++ rest p.backlog) p.scanner.state p.scanner.waiting.items going P.stands in
-      let count : IsErrOf result runs.TooManyReads → 2 ^ 64 - 1 ≤ length fed = λ is. omega (arith, many is, fed_count M fed (out ++ rest p.backlog) p.scanner.state p.scanner.waiting.items h ended) in
-      let stands = end_stands M fed ((out ++ rest p.backlog) ++ put) p'.scanner.state p'.scanner.waiting.items P.text result (after fed (out ++ rest p.backlog) h) count in
+      let (untrue, ended, h) = going_on M p.stage told fed (out ++ rest p.backlog) p.scanner.scan.state p.scanner.waiting.items going P.stands in
+      let count : IsErrOf result runs.TooManyReads → 2 ^ 64 - 1 ≤ length fed = λ is. omega (arith, many is, fed_count M fed (out ++ rest p.backlog) p.scanner.scan.state p.scanner.waiting.items h ended) in
+      let stands = end_stands M fed ((out ++ rest p.backlog) ++ put) p'.scanner.scan.state p'.scanner.waiting.items P.text result (after fed (out ++ rest p.backlog) h) count in
       record {
         machine = subst (IsMachineOf file) (sym same_machine) P.machine;
         text = P.text;
         finished = finished;
         stands =
-            subst (λ N. StandsAt N p'.stage true fed (out ++ rest p'.backlog) p'.scanner.state p'.scanner.waiting.items) (sym same_machine)
-            (subst (λ t. StandsAt M t true fed (out ++ rest p'.backlog) p'.scanner.state p'.scanner.waiting.items) (sym stage)
-            (subst (λ l. StandsAt M (end_of result) true fed l p'.scanner.state p'.scanner.waiting.items) written stands));
+            subst (λ N. StandsAt N p'.stage true fed (out ++ rest p'.backlog) p'.scanner.scan.state p'.scanner.waiting.items) (sym same_machine)
+            (subst (λ t. StandsAt M t true fed (out ++ rest p'.backlog) p'.scanner.scan.state p'.scanner.waiting.items) (sym stage)
+            (subst (λ l. StandsAt M (end_of result) true fed l p'.scanner.scan.state p'.scanner.waiting.items) written stands));
       }
 
 -- where the scan has ended or stopped, a piece more and the end
@@ -169,7 +169,7 @@ fed_still file told fed out piece p text not P = record {
   machine = P.machine;
   text = fed_text told fed piece P.text text;
   finished = P.finished;
-  stands = stays (machine_in p) p.stage told fed piece (out ++ rest p.backlog) p.scanner.state p.scanner.waiting.items not P.stands;
+  stands = stays (machine_in p) p.stage told fed piece (out ++ rest p.backlog) p.scanner.scan.state p.scanner.waiting.items not P.stands;
 }
 
 pub end_still : (file : List ℕ) (told : Bool) (fed out : List ℕ) (p : PieceScan) → (p.stage ≡ stages.Going → ⊥) → Progress file told fed out p → Progress file true fed out (record p { finished = true })
@@ -177,5 +177,5 @@ end_still file told fed out p not P = record {
   machine = P.machine;
   text = P.text;
   finished = refl;
-  stands = stays_told (machine_in p) p.stage told fed (out ++ rest p.backlog) p.scanner.state p.scanner.waiting.items not P.stands;
+  stands = stays_told (machine_in p) p.stage told fed (out ++ rest p.backlog) p.scanner.scan.state p.scanner.waiting.items not P.stands;
 }

@@ -8,12 +8,12 @@ abbrev pub invariant-turns : goal.invariant-turns
 invariant-turns g l =
     record {
       same_machine : l.scanner.machine.now ≡ l.machine;
-      going : l.scanner.state.ended ≡ None;
-      most : l.scanner.state.reading.max_reads ≡ 18446744073709551615;
-      ends : l.scanner.intake.source.now.ends ≡ 0 + end_step false l.scanner.state.reading.at_end;
-      listed : Listed (g.M.Machine.machine l.machine) l.input (Some l.scanner.intake.source.now.rest.now) 0 l.scanner.intake.source.now.ends l.fn.list.items l.list.items l.scanner.state;
+      going : l.scanner.scan.state.ended ≡ None;
+      most : l.scanner.scan.state.reading.max_reads ≡ 18446744073709551615;
+      ends : l.scanner.ends.intake.source.now.ends ≡ 0 + end_step false l.scanner.scan.state.reading.at_end;
+      listed : Listed (g.M.Machine.machine l.machine) l.input (Some l.scanner.ends.intake.source.now.rest.now) 0 l.scanner.ends.intake.source.now.ends l.fn.list.items l.list.items l.scanner.scan.state;
     }
 
 -- the text's start goes on, or the place does
 abbrev pub decreases-turns : goal.decreases-turns
-decreases-turns g l = left_over l.scanner.state.reading.max_reads l.scanner.state
+decreases-turns g l = left_over l.scanner.scan.state.reading.max_reads l.scanner.scan.state

@@ -8,7 +8,7 @@ use Rattle.liblex_calls.proofs.piece_scan.PieceScan.new.Goals as goal
 pub returns : goal.returns
 returns c file is =
     let same = ap (λ f. table_machine f.tables) c.new.ensures.machine in
-    let s = c.new.result.state in let w = c.new.result.waiting.items in
+    let s = c.new.result.scan.state in let w = c.new.result.waiting.items in
     let stands = subst (λ N. StandsAt N stages.Going false [] [] s w) (sym same) (first_stands (table_machine c.args.flat.tables) s w c.new.ensures.fed c.new.ensures.going) in
     record {
       machine = subst (IsMachineOf file) (sym same) is;
