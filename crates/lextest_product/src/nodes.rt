@@ -8,12 +8,12 @@ use std::alloc::{AllocError, Global};
 
 /// A node of a tree, before its parts.
 #[derive(Clone, Copy)]
-enum Node<'a> {
+enum Node {
     Empty,
-    /// A set of these bytes.
-    Bytes(&'a [u8]),
-    /// The set of all bytes but these.
-    AllBut(&'a [u8]),
+    /// A set of the bytes that a field of the row lists.
+    Bytes(usize),
+    /// The set of all bytes but those.
+    AllBut(usize),
     /// A series of so many parts.
     Series(usize),
     /// A choice between so many parts.
@@ -23,12 +23,12 @@ enum Node<'a> {
     Repeat(usize, Option<usize>),
 }
 
-/// The node that a word and what stands behind it say.
-fn node_of<'a>(word: &[u8], rest: &'a [u8]) -> Option<Node<'a>> {
+/// The node that a word and what stands behind it say, in the field of this number.
+fn node_of(word: &[u8], rest: &[u8], at: usize) -> Option<Node> {
     if word == b"bytes".as_slice() {
-        Some(Node::Bytes(rest))
+        Some(Node::Bytes(at))
     } else if word == b"but".as_slice() {
-        Some(Node::AllBut(rest))
+        Some(Node::AllBut(at))
     } else if word == b"series".as_slice() {
         Some(Node::Series(number_of(rest)?))
     } else if word == b"choice".as_slice() {
@@ -46,12 +46,12 @@ fn node_of<'a>(word: &[u8], rest: &'a [u8]) -> Option<Node<'a>> {
 }
 
 /// The nodes of a row, where each is one.
-fn nodes_of<'a>(alloc: Global, row: &'a Row<'_>) -> Result<Option<Vec<Node<'a>>>, AllocError> {
+fn nodes_of(alloc: Global, row: &Row<'_>) -> Result<Option<Vec<Node>>, AllocError> {
     let mut nodes = Vec::new(alloc);
-    for field in &row.fields {
+    for (at, field) in row.fields.iter().enumerate() {
         if field.name == b"node".as_slice() {
             let (word, rest) = split_word(field.value.as_slice());
-            match node_of(word, rest) {
+            match node_of(word, rest, at) {
                 Some(node) => nodes.push(node)?,
                 None => return Ok(None),
             }
@@ -71,6 +71,14 @@ fn is_set_of(set: ByteSet, members: &[u8], inside: bool) -> bool {
     true
 }
 
+/// Whether a set has the bytes that this field of the row lists, or all but these.
+fn is_listed(set: ByteSet, row: &Row<'_>, at: usize, inside: bool) -> bool {
+    match row.fields.get(at) {
+        Some(field) => is_set_of(set, split_word(field.value.as_slice()).1, inside),
+        None => false,
+    }
+}
+
 /// Whether a pattern is repeated so.
 fn is_repeated(least: u8, most: Option<u8>, wanted: (usize, Option<usize>)) -> bool {
     (usize::from(least), most.map(usize::from)) == wanted
@@ -78,30 +86,30 @@ fn is_repeated(least: u8, most: Option<u8>, wanted: (usize, Option<usize>)) -> b
 
 /// The nodes that follow those of the tree, where these begin with its own.
 #[cycle(nodes)]
-fn after_tree<'b, 'a>(pattern: &Pattern, nodes: &'b [Node<'a>]) -> Option<&'b [Node<'a>]> {
+fn after_tree<'a>(row: &Row<'_>, pattern: &Pattern, nodes: &'a [Node]) -> Option<&'a [Node]> {
     let (first, rest) = nodes.split_first()?;
     match (pattern, *first) {
         (Pattern::Empty, Node::Empty) => Some(rest),
-        (Pattern::Set(set), Node::Bytes(members)) if is_set_of(*set, members, true) => Some(rest),
-        (Pattern::Set(set), Node::AllBut(others)) if is_set_of(*set, others, false) => Some(rest),
+        (Pattern::Set(set), Node::Bytes(at)) if is_listed(*set, row, at, true) => Some(rest),
+        (Pattern::Set(set), Node::AllBut(at)) if is_listed(*set, row, at, false) => Some(rest),
         (Pattern::Cat(parts), Node::Series(count)) if parts.items().len() == count => {
-            after_trees(parts.items(), rest)
+            after_trees(row, parts.items(), rest)
         }
         (Pattern::Alt(parts), Node::Choice(count)) if parts.items().len() == count => {
-            after_trees(parts.items(), rest)
+            after_trees(row, parts.items(), rest)
         }
-        (Pattern::Star(inner), Node::Star) => after_tree(inner, rest),
+        (Pattern::Star(inner), Node::Star) => after_tree(row, inner, rest),
         (Pattern::Repeat(inner, m, n), Node::Repeat(least, most))
-            if is_repeated(*m, *n, (least, most)) => { after_tree(inner, rest) }
+            if is_repeated(*m, *n, (least, most)) => { after_tree(row, inner, rest) }
         _ => None,
     }
 }
 
 #[cycle(nodes)]
-fn after_trees<'b, 'a>(patterns: &[Pattern], nodes: &'b [Node<'a>]) -> Option<&'b [Node<'a>]> {
+fn after_trees<'a>(row: &Row<'_>, patterns: &[Pattern], nodes: &'a [Node]) -> Option<&'a [Node]> {
     let mut rest = nodes;
     for pattern in patterns {
-        rest = after_tree(pattern, rest)?;
+        rest = after_tree(row, pattern, rest)?;
     }
     Some(rest)
 }
@@ -113,7 +121,7 @@ pub(crate) fn tree(alloc: Global, row: &Row<'_>) -> Result<Answer, AllocError> {
     };
     match pattern_of(alloc, row)? {
         Ok(pattern) => {
-            let is_same = after_tree(&pattern, nodes.as_slice()).is_some_and(
+            let is_same = after_tree(row, &pattern, nodes.as_slice()).is_some_and(
                 |rest| rest.is_empty(),
             );
             Answer::telling(alloc, if is_same { "" } else { "another tree\n" })

@@ -1,4 +1,8 @@
 //! Patterns.
+ghost use Rattle.std.specs.Prelude.{IfOk};
+ghost use Rattle.lex_semantics.specs.Shapes.{IsSoundTree};
+ghost use Rattle.lexre.specs.Views.{tree_of};
+
 use crate::answer::Answer;
 use crate::reading::split_word;
 use crate::row::Row;
@@ -25,7 +29,9 @@ fn definitions_of(alloc: Global, row: &Row<'_>) -> Result<Defs, DefsError> {
 pub(crate) fn pattern_of(
     alloc: Global,
     row: &Row<'_>,
-) -> Result<Result<Pattern, String>, AllocError> {
+) -> Result<Result<Pattern, String>, AllocError>
+    ensures sound { IfOk result (λ read. IfOk read (λ p. IsSoundTree (tree_of p))) }
+{
     let Ok(definitions) = definitions_of(alloc, row) else {
         return Ok(Err(String::from_str(alloc, "definitions that are none\n")?));
     };

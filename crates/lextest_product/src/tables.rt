@@ -1,14 +1,20 @@
 //! Table files.
+ghost use Rattle.std.specs.Prelude.{◌≤◌};
+
 use crate::answer::{Answer, lines_of};
 use crate::row::{Row, number_of};
 use crate::scans::{by_file, options_of};
 use lexkit::{
-    Fault, MemorySink, Options, ScanError, TableError, generate, read_tables, write_tables,
+    Fault, MAX_POSITIONS, MAX_STATES, MemorySink, Options, ScanError, TableError, generate,
+    read_tables, write_tables,
 };
 use std::alloc::{AllocError, Global};
 
 /// The table file of a specification, where it has one.
-fn file_of(alloc: Global, text: &[u8], options: Options) -> Option<Vec<u8>> {
+fn file_of(alloc: Global, text: &[u8], options: Options) -> Option<Vec<u8>>
+    requires few_positions { options.limits.positions ≤ MAX_POSITIONS }
+    requires few_states { options.limits.states ≤ MAX_STATES }
+{
     let made = generate(alloc, text, options).ok()?;
     let mut file = MemorySink::new(alloc);
     write_tables(&made.tables, &mut file).ok()?;
@@ -27,14 +33,11 @@ pub(crate) fn file(alloc: Global, row: &Row<'_>) -> Result<Answer, AllocError> {
 pub(crate) fn equal(alloc: Global, row: &Row<'_>) -> Result<Answer, AllocError> {
     let first = file_of(alloc, row.value("spec"), Options::new());
     let second = file_of(alloc, row.value("again"), options_of(row));
-    Answer::telling(
-        alloc,
-        match (first, second) {
-            (Some(first), Some(second)) if first.as_slice() == second.as_slice() => "equal\n",
-            (Some(_), Some(_)) => "others\n",
-            _ => "no file\n",
-        },
-    )
+    let (Some(first), Some(second)) = (first, second) else {
+        return Answer::telling(alloc, "no file\n");
+    };
+    let is_same = first.as_slice() == second.as_slice();
+    Answer::telling(alloc, if is_same { "equal\n" } else { "others\n" })
 }
 
 /// What is written of the table that is read from the bytes.
