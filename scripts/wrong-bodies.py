@@ -286,7 +286,8 @@ def told_of(checked, edit):
 
 def clause(checked, edit):
     """The first clause that the prover refuses of the edit's functions; or else the first goal, or what it says first."""
-    told = list(told_of(checked, edit))
+    # (first what is not proved, then what a proof file cites in vain)
+    told = sorted(told_of(checked, edit), key=lambda it: bool(GONE.search(it)))
     goals = [(goal[1], text) for text in told for goal in [GOAL.search(text)] if goal]
     if edit.folder == "misreadings" and goals:
         return f"example {goals[0][0]}"
