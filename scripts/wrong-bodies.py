@@ -58,7 +58,8 @@ GOAL = re.compile(r"`([\w+-]+)`")
 # Where the kit's inside is used: how it calls the prover for a crate.
 
 def kit():
-    """The kit's own module on crates. Kits 13b and 13f have what is used of it: crates_below, words, below, is_built, RATTLE."""
+    """The kit's own module on crates. Kits 13b and 13f have what is used of it: crates_below, guarded, words, below,
+    is_built, RATTLE."""
     program = shutil.which("rt")
     try:
         path = Path(program or "rt").resolve().parent / "rtlib.py"
@@ -66,7 +67,7 @@ def kit():
         made = importlib.util.module_from_spec(spec)
         sys.modules["rtlib"] = made
         spec.loader.exec_module(made)
-        assert all(hasattr(made, name) for name in ("crates_below", "RATTLE"))
+        assert all(hasattr(made, name) for name in ("crates_below", "guarded", "RATTLE"))
         assert all(hasattr(made.Crate, name) for name in ("words", "below", "is_built"))
         return made
     except (OSError, AssertionError, AttributeError, SyntaxError) as error:
@@ -142,6 +143,9 @@ def home(folder, kind):
 
 def function_at(folder, file, lines, at):
     """The name that the prover has for the function whose text holds line AT, and its folder in proofs/."""
+    # (a place may be that of the comment or attribute above a function)
+    while at + 1 < len(lines) and lines[at].lstrip().startswith(("///", "#[")):
+        at += 1
     held = holder(lines, at)
     if not held:
         return None
@@ -225,9 +229,10 @@ class Crate:
     def build_below(self):
         """Builds the libraries below, where one is missing or older than its text."""
         def is_fresh(it):
-            format = Path(it.rlib) / "format"
+            made = Path(it.rlib) / "format"
             newest = max((path.stat().st_mtime for part in PARTS[:2] for path in (Path(it.folder) / part).rglob("*.*")), default=0)
-            return it.is_built() or format.is_file() and newest < format.stat().st_mtime
+            # (what rt says itself takes long in the upper crates)
+            return made.is_file() and newest < made.stat().st_mtime or it.is_built()
 
         if not all(is_fresh(it) for it in self.made.below()):
             subprocess.run(["rt", "check", "--only", ""], cwd=self.folder, stdout=subprocess.DEVNULL, check=False)
@@ -251,7 +256,7 @@ class Crate:
 
     def check_in(self, room, only):
         """Checks what stands in a folder, over a copy of the crate's kept work where there is some."""
-        words = [self.rtlib.RATTLE, "check", *self.made.words(["--jobs", "1", *only], keeps=False)]
+        words = [*self.rtlib.guarded(), self.rtlib.RATTLE, "check", *self.made.words(["--jobs", "1", *only], keeps=False)]
         kept = self.folder / "out/incremental"
         if kept.is_dir():
             linked(kept, f"{room}/kept")
@@ -487,6 +492,8 @@ def main():
     given = words()
     os.chdir(ROOT)
     rtlib = kit()
+    # (its first call sets the handler of a signal, which only this thread may)
+    rtlib.guarded()
     crates = rtlib.crates_below(str(ROOT))
     for it in crates:
         it.out = open(os.devnull, "w")
