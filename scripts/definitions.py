@@ -3,6 +3,7 @@
 
     scripts/definitions.py             how many there are, by crate, and what is missing on the page
     scripts/definitions.py --status    the same, and a status of 1 where something is missing
+    scripts/definitions.py --write     the same, and the table at the end of the page is written
     scripts/definitions.py NAME ..     the definitions that the contracts of these calls lead to, with their lines, and
                                        the names that stand for two of them
 
@@ -15,7 +16,7 @@ import sys
 
 ROOT = os.path.dirname(os.path.dirname(os.path.realpath(__file__)))
 CRATES = os.path.join(ROOT, "crates")
-SURFACE = ["lexre", "lexspec", "lexauto", "lextab", "lexscan", "lexkit", "lexlook_pictures", "lexlook_calls", "lexlook_same", "lexlook_lines", "lexlook_trace", "lexlook_words", "liblex_calls"]
+SURFACE = ["lexre", "lexspec", "lexauto", "lextab", "lexscan", "lexkit", "lex_command", "lexlook_calls", "lexlook_specs", "lexlook_tables", "liblex_calls"]
 NAME = r"[A-Za-z_][\w'-]*"
 # A word and its path. A field of something in parentheses is none, nor is the name of a field of a record that is written.
 WORD = re.compile(rf"(?<![\w.'])({NAME}(?:\.{NAME})*|>>=)(?! = )")
@@ -203,6 +204,17 @@ def table(specs, direct):
     return "\n".join(rows)
 
 
+def write(specs, direct):
+    """Puts the table into the page, in place of the one that is there."""
+    path = os.path.join(ROOT, "docs", "DEFINITIONS.md")
+    page = read(path)
+    head = table(specs, direct).split("\n")[0]
+    before, _, rest = page.partition(head)
+    after = re.sub(r"\A(?:\n\|.*)*", "", rest)
+    with open(path, "w", encoding="utf-8") as file:
+        file.write(before + table(specs, direct) + after)
+
+
 def faults(specs, direct):
     """What the page lacks, and what it has that is not so."""
     on_page, there = set(named()), {".".join(target[1:]) for target in [*specs.lines, *specs.makers]}
@@ -223,6 +235,8 @@ def main():
         listed(specs, specs.closure(set().union(*(cited[word] for word in asked))))
         return 0
     direct = set().union(*cited.values())
+    if "--write" in sys.argv:
+        write(specs, direct)
     print(table(specs, direct))
     print(f"\n{len(cited)} calls and types have contracts, of which {sum(map(bool, cited.values()))} name definitions.")
     found = list(faults(specs, direct))

@@ -1,44 +1,47 @@
 #!/usr/bin/env python3
-"""Tells whether docs/EDITS.md names each wrong body of the crates, and no other, with a status of 1 where it does not. Those that the
-gate tries, in must-fail/, stand there in bold.
+"""Tells whether docs/EDITS.md is the page of the wrong bodies that stand in the crates, with a status of 1 where it is not. The first
+line of each wrong body says what it guards: `# TEXT`.
 
-    scripts/edits.py
-
-The gate (.ci/run) begins with it. Whether the prover refuses each is told by scripts/wrong-bodies.py, and of those in must-fail/ by
-`rt ci` too."""
+usage: edits.py [--write]
+  --write   writes the page
+"""
+import pathlib
 import re
 import sys
-from pathlib import Path
 
-ROOT = Path(__file__).resolve().parent.parent
+ROOT = pathlib.Path(__file__).resolve().parent.parent
+PAGE = ROOT / "docs/EDITS.md"
 FOLDERS = ("must-fail", "wrong-bodies", "misreadings")
 
 
-def named(text):
-    """The wrong bodies that the page names, with the crate in whose chapter they stand, and whether in bold."""
-    found = set()
-    for chapter in re.split(r"(?m)^## ", text)[1:]:
-        crate = chapter.split("\n", 1)[0].strip()
-        found |= {(f"{crate}/{edit}", bool(bold)) for bold, edit in re.findall(r"(?m)^\| (\*\*)?`([^`]+)`(?:\*\*)? \|", chapter) if "." in edit}
-    return found
+def guards(path):
+    """What a wrong body guards, by its first line."""
+    first = path.read_text().split("\n", 1)[0]
+    if not first.startswith("# ") or "|" in first:
+        sys.exit(f"{path.relative_to(ROOT)}: its first line does not say what it guards, as `# TEXT`")
+    return first.removeprefix("# ")
 
 
-def there():
-    """The wrong bodies that stand in the folders, and whether the gate tries them."""
-    return {
-        (f"{path.parent.parent.name}/{path.stem}", folder == "must-fail")
-        for folder in FOLDERS
-        for path in ROOT.glob(f"crates/*/{folder}/*.edit")
-    }
+def rows(crate):
+    """The rows of a crate, by their names; those that the gate tries are bold."""
+    found = [(path.stem, folder, path) for folder in FOLDERS for path in (crate / folder).glob("*.edit")]
+    for name, folder, path in sorted(found):
+        bold = "**" if folder == "must-fail" else ""
+        yield f"| {bold}`{name}`{bold} | {guards(path)} |"
 
 
-def told(edit):
-    return f"{edit[0]}{', which the gate tries' if edit[1] else ', which the gate does not try'}"
+def page():
+    """The head of the page as it is, and a chapter for each crate in the order of crates.txt."""
+    head = re.split(r"(?m)^## ", PAGE.read_text())[0]
+    crates = [re.split(r"[ :]", line)[0] for line in (ROOT / "crates.txt").read_text().splitlines()]
+    chapters = [(crate, list(rows(ROOT / "crates" / crate))) for crate in crates]
+    texts = (f"## {crate}\n\n| Edit | What it guards |\n|---|---|\n" + "\n".join(lines) + "\n" for crate, lines in chapters if lines)
+    return head + "\n".join(texts)
 
 
-page, tried = named((ROOT / "docs/EDITS.md").read_text()), there()
-for edit in sorted(tried - page):
-    print(f"docs/EDITS.md does not name {told(edit)}")
-for edit in sorted(page - tried):
-    print(f"docs/EDITS.md names what is not there: {told(edit)}")
-sys.exit(1 if page != tried else 0)
+if sys.argv[1:] == ["--write"]:
+    PAGE.write_text(page())
+elif sys.argv[1:]:
+    sys.exit(__doc__)
+elif PAGE.read_text() != page():
+    sys.exit("docs/EDITS.md is not the page of the wrong bodies: `scripts/edits.py --write` writes it")

@@ -13,7 +13,7 @@ pub use Rattle.lexauto_dfa.specs.Machines
 pub use Rattle.lexauto_dfa.specs.Automata
 pub mod Facts
 pub mod Errors
-pub use Rattle.lexauto_minimise.specs.Least
+pub use Rattle.lexauto_dfa.specs.Least
 pub use Rattle.lexauto_reports.specs.BackWords
 pub use Rattle.lex_semantics.specs.MachineLaws
 pub use Rattle.lex_semantics.specs.TableFor

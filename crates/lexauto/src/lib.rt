@@ -14,8 +14,7 @@ mod subsets;
 
 pub use error::BuildError;
 pub use laws::{keys_of_words, one_count, rules_that_fit, tables_of_keys};
-pub use lexauto_dfa::{Dfa, OutOfMemory};
-pub use lexauto_minimise::{minimise, one_automaton};
+pub use lexauto_dfa::{Dfa, OutOfMemory, minimise, one_automaton};
 pub use lexauto_positions::{
     count_positions, first_positions, live_positions, next_positions, one_step, one_step_of_rules,
     position_automaton, words_that_fit,

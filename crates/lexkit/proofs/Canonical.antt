@@ -9,15 +9,15 @@ use Rattle.lexauto_dfa.specs.Numbering.{InOrder}
 use Rattle.lexauto_dfa.specs.Parts.{conditions, states, start, next}
 use Rattle.lexauto_dfa.specs.declared.dfa.Dfa.{Dfa}
 use Rattle.lexauto_dfa.specs.declared.dfa.Parts.{Parts}
-use Rattle.lexauto_minimise.specs.Least.{IsLeast, IsNumbered}
-use Rattle.lexauto_minimise.specs.LeastMachines as Machines
+use Rattle.lexauto_dfa.specs.Least.{IsLeast, IsNumbered}
+use Rattle.lexauto_dfa.specs.LeastMachines as Machines
 use Rattle.lexauto_reports.specs.BackWords.{Leads, IsFirstWord, IsAfterBackWord}
 use Rattle.lexauto_reports.specs.declared.backup.BackUp.{BackUp}
 use Rattle.lextab_packed.specs.Machines.{table_machine}
 use Rattle.lextab_packed.specs.Steps.{step_of}
 use Rattle.lextab_packed.specs.Views.{table_of}
 use Rattle.lextab_packed.specs.declared.tables.Tables.{Tables}
-use Rattle.lextab_packing.specs.Packing.{IsPacked}
+use Rattle.lextab.specs.Packing.{IsPacked}
 use Rattle.lextab_file.specs.File.{file_of}
 use Rattle.lexkit.specs.Canonical.{IsCanonicalFor}
 use Rattle.lexkit.specs.Generated.{AreBackUps}

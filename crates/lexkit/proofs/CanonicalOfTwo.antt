@@ -14,14 +14,14 @@ use Rattle.lex_semantics.specs.Examples.{rule, string}
 use Rattle.lex_semantics.proofs.ExampleWords.{is_a, string_is, string_in, word_fits, fits_word}
 use Rattle.lexauto_dfa.proofs.Below.{holds}
 use Rattle.lexauto_dfa.specs.Numbering.{InOrder}
-use Rattle.lexauto_minimise.specs.LeastMachines.{AreToldApart, IsNumbered, IsReached}
+use Rattle.lexauto_dfa.specs.LeastMachines.{AreToldApart, IsNumbered, IsReached}
 use Rattle.lextab_packed.specs.Table.{Table}
 use Rattle.lextab_packed.specs.Checks.{IsTable, IsRow}
 use Rattle.lextab_packed.specs.Steps.{step_of, machine_of_table}
 use Rattle.lextab_packed.proofs.Places.{each_of}
-use Rattle.lextab_packing.specs.Packing.{IsPacked}
-use Rattle.lextab_packing.specs.PackingExamples.{by_a, twice_a, TwiceA}
-use Rattle.lextab_packing.proofs.Tabled.{packing_of, packed_of}
+use Rattle.lextab.specs.Packing.{IsPacked}
+use Rattle.lextab.specs.PackingExamples.{by_a, twice_a, TwiceA}
+use Rattle.lextab.proofs.Tabled.{packing_of, packed_of}
 use Rattle.lexkit.specs.CanonicalExamples.{two_as, table_of_two_as, CanonicalOfTwo}
 
 abbrev goes_on : ℕ → Bool

@@ -10,15 +10,15 @@ use Rattle.lex_semantics.specs.Spec.{Spec}
 use Rattle.lex_semantics.specs.SameRules.{SameRules}
 use Rattle.lex_semantics.specs.TableLaws.{SameAnswers}
 use Rattle.lex_semantics.specs.Machine.{Machine, state_after}
-use Rattle.lexauto_minimise.proofs.OneMachine.{IsMachine, AreSameMachines, one_machine}
+use Rattle.lexauto_dfa.proofs.OneMachine.{IsMachine, AreSameMachines, one_machine}
 use Rattle.lextab_packed.specs.Checks.{IsTable}
 use Rattle.lextab_packed.specs.Steps.{step_of, machine_of_table}
 use Rattle.lextab_packed.proofs.Places.{step_dead, dead_accepts}
 use Rattle.lextab_packed.proofs.Machinery.{below_of_table}
 use Rattle.lextab_packed.specs.Table.{Table, ConditionOfTable, RuleOfTable, Row}
 use Rattle.lextab_packed.proofs.Finding.{no_row, start_at, ending_at, cut_at, statements_at}
-use Rattle.lextab_packing.specs.Packing.{IsPacked}
-use Rattle.lextab_packing.specs.Columns.{Packing, packing_in}
+use Rattle.lextab.specs.Packing.{IsPacked}
+use Rattle.lextab.specs.Columns.{Packing, packing_in}
 use Rattle.lextab_file.specs.File.{file_of}
 use Rattle.lexkit.specs.Canonical.{IsCanonicalFor}
 use Rattle.lexkit.proofs.Ordered.{one_order, one_slots}

@@ -3,10 +3,10 @@
 use Rattle.std.specs.Prelude.{ℕ, Bool, List, length}
 use Rattle.lex_semantics.specs.Spec.{Spec}
 use Rattle.lex_semantics.specs.TableFor.{TableFor}
-use Rattle.lexauto_minimise.specs.LeastMachines.{IsLeast, IsNumbered}
+use Rattle.lexauto_dfa.specs.LeastMachines.{IsLeast, IsNumbered}
 use Rattle.lextab_packed.specs.Table.{Table}
 use Rattle.lextab_packed.specs.Steps.{step_of, machine_of_table}
-use Rattle.lextab_packing.specs.Packing.{IsPacked}
+use Rattle.lextab.specs.Packing.{IsPacked}
 use Rattle.lextab_file.specs.File.{IsFileOf}
 
 -- The bytes are the file of a table for the specification. But for the dead state its machine has one state for each future

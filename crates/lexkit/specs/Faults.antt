@@ -2,8 +2,8 @@
 -- (Own: POSIX leaves both to the implementation. The statuses are those of BSD's sysexits.)
 use Rattle.std.specs.Prelude.{ℕ, Bool, true, false, if◌then◌else◌, List, [], ◌∷◌, ◌++◌, codes, decimal}
 use Rattle.std.specs.List.{concat}
-use Rattle.lexkit_command.specs.declared.args.ArgsError.{ArgsError}
-use Rattle.lexkit_command.specs.declared.args.ArgsError.TheVariants as args
+use Rattle.lex_command.specs.declared.job.args.ArgsError.{ArgsError}
+use Rattle.lex_command.specs.declared.job.args.ArgsError.TheVariants as args
 use Rattle.lexspec.specs.Refusals.PatternErrorKind.{PatternErrorKind}
 use Rattle.lexspec.specs.Refusals.PatternErrorKind.TheVariants as patterns
 use Rattle.lexspec.specs.Refusals.SpecErrorKind.{SpecErrorKind}

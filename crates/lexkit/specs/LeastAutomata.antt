@@ -7,7 +7,7 @@ use Rattle.lex_semantics.specs.Subsets.{Subsets, all_positions}
 use Rattle.lexauto_dfa.specs.Automata.{lists_of, machine_in}
 use Rattle.lexauto_dfa.specs.Parts as P
 use Rattle.lexauto_dfa.specs.declared.dfa.Dfa.{Dfa}
-use Rattle.lexauto_minimise.specs.Least.{IsLeast, IsNumbered}
+use Rattle.lexauto_dfa.specs.Least.{IsLeast, IsNumbered}
 use Rattle.lexauto.specs.declared.subsets.Limits.{Limits}
 
 -- the least automaton of a specification, whose automaton had so many states before and is within the limits

@@ -5,7 +5,7 @@ use Rattle.lex_semantics.specs.Spec.{Spec}
 use Rattle.lex_semantics.specs.Rules.{rules_of}
 use Rattle.lex_semantics.specs.Machine.{rules_of_machine}
 use Rattle.lexspec.specs.Files.{SpellsSpec}
-use Rattle.lexscan_tokens.specs.Tokens.{SameTokens}
+use Rattle.lexscan.specs.Tokens.{SameTokens}
 use Rattle.lextab_packed.specs.Machines.{table_machine}
 use Rattle.lexkit.specs.Headline.{reading}
 use Rattle.lexkit.specs.Generated.{Makes, lines_of}

@@ -4,7 +4,7 @@ ghost use Rattle.lexkit.specs.Failures.{Tells, out_of_memory};
 
 use crate::errors::{GenError, ScanError};
 use crate::faults::Fault;
-use lexkit_command::ArgsError;
+use lex_command::ArgsError;
 use lextab::WriteFault;
 use std::alloc::AllocError;
 use std::io::ErrorKind;

@@ -10,7 +10,7 @@ use crate::errors::{GenError, ScanError};
 use itoa::Buffer;
 use lexauto::BuildError;
 use lexauto_reports::put_all;
-use lexkit_command::ArgsError;
+use lex_command::ArgsError;
 use lexscan::RunError;
 use lexspec::{PatternError, PatternErrorKind, SpecError, SpecErrorKind};
 use lextab::{Sink, TableError, WriteFault};

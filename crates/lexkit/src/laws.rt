@@ -8,9 +8,8 @@ ghost use Rattle.lexkit.specs.FileScans.{FileScans};
 ghost use Rattle.lexkit.specs.TextTokens.{TextTokens};
 
 use lex_semantics::same_rules_answers;
-use lexscan_tokens::table_tokens;
-use lextab::one_table;
-use lextab_packing::{examples_of_packings, one_packing, packing_of_same_moves};
+use lexscan::table_tokens;
+use lextab::{examples_of_packings, one_packing, one_table, packing_of_same_moves};
 
 /// Specifications with the same rules, however their patterns are written, have the same canonical file, and each has
 /// at most one.

@@ -19,12 +19,12 @@ pub use laws::{example_of_canonical_files, file_scans, one_file, text_tokens};
 pub use lex_semantics::{MAX_FILE_BYTES, MAX_POSITIONS, MAX_STATES};
 pub use lexauto::{BackUp, BuildError, Limits};
 pub use lexauto_reports::{Warning, write_backup, write_warnings};
-pub use lexkit_command::{ArgsError, Job, command_lines, read_args};
+pub use lex_command::{ArgsError, Job, command_lines, read_args};
 pub use lexscan::{
     ByteReader, Candidate, FromBytes, FromRead, Match, MatchedRule, MemorySource, ReadFault,
-    RunError, Scanner, Source, Turn, Window, accepted, longest, run,
+    RunError, Scanner, Source, Token, Turn, Window, accepted, longest, run, table_tokens, texts_of,
+    tokens,
 };
-pub use lexscan_tokens::{Token, table_tokens, texts_of, tokens};
 pub use lexspec::{
     PatternError, PatternErrorKind, ReadOptions, Rule, Spec, SpecError, SpecErrorKind, read_spec,
 };

@@ -9,7 +9,7 @@ use Rattle.lex_semantics.specs.Reports.{HasFit}
 use Rattle.lex_semantics.specs.TableFor.{Accepted}
 use Rattle.lex_semantics.specs.Positions.{Cell, Readings, Matches}
 use Rattle.lex_semantics.specs.Subsets.{all_positions, positions_of_rule, AreLasts, AreStarts, IsActive, IsLast, ListsSet, ReadsActive, ReadsRule, Subsets}
-use Rattle.lexlook_words.specs.Rejecting.{rejecting, rejecting_rule}
+use Rattle.lexlook_specs.specs.Rejecting.{rejecting, rejecting_rule}
 
 pub got_map : (rs : List Rule) (i : ℕ) (r : Rule) → slice_get rs i ≡ Some r → slice_get (map rejecting_rule rs) i ≡ Some (rejecting_rule r)
 got_map [] i r e = absurd cc

@@ -4,9 +4,9 @@ use Rattle.std.specs.Prelude.{IfSome}
 use Rattle.lex_semantics.specs.Spec.{Spec}
 use Rattle.lex_semantics.specs.Machine.{Machine}
 use Rattle.lex_semantics.specs.MachineLaws.{MachineLaws}
-use Rattle.lexlook_lines.specs.Obstacles.{Hinders}
-use Rattle.lexlook_lines.specs.declared.cutting.Obstacle.{Obstacle}
-use Rattle.lexlook_lines.specs.declared.cutting.Obstacle.TheVariants.{Unsteady, Crosses, Strays, Copies, Writes}
+use Rattle.lexlook_tables.specs.Obstacles.{Hinders}
+use Rattle.lexlook_tables.specs.declared.lines.cutting.Obstacle.{Obstacle}
+use Rattle.lexlook_tables.specs.declared.lines.cutting.Obstacle.TheVariants.{Unsteady, Crosses, Strays, Copies, Writes}
 use Rattle.lexlook_calls.specs.Lines.{Side, IsLabelled}
 use Rattle.lexlook_calls.specs.Cuts.{HasCondition, HasRule, CanTell, CutsOf, TellsCuts}
 use Rattle.lexlook_calls.specs.Sides.{StandsFor}

@@ -7,8 +7,8 @@ use Rattle.lexauto_dfa.specs.declared.dfa.Dfa.{Dfa}
 use Rattle.lexkit.specs.LeastAutomata.{IsLeastOf}
 use Rattle.lexkit.specs.Headline.{reading}
 use Rattle.lexkit.specs.declared.options.Options.{Options}
-use Rattle.lexlook_pictures.specs.declared.error.PictureError.{PictureError}
-use Rattle.lexlook_pictures.specs.declared.error.PictureError.TheVariants.{OutOfMemory, Write}
+use Rattle.lexlook_specs.specs.declared.picture.error.PictureError.{PictureError}
+use Rattle.lexlook_specs.specs.declared.picture.error.PictureError.TheVariants.{OutOfMemory, Write}
 use Rattle.lexlook_calls.specs.Errors.{told_of}
 use Rattle.lexlook_calls.specs.Looks.{IsPictureOf, Draws, picture_of}
 

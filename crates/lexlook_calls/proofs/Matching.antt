@@ -2,12 +2,12 @@
 use Rattle.std.proofs.Common.{◌≡◌, ◌↔◌, ◌≤◌, ℕ, Bool, List, length, take, Option, Some, None, sym, ◌∙◌, arith}
 use Rattle.std.proofs.lemmas.List.{length-take-le}
 use Rattle.lex_semantics.proofs.Texts.{is_text_take}
-use Rattle.lexlook_words.specs.Matches.{Matches, IsInput, IsCopied, Takes}
-use Rattle.lexlook_words.specs.Words.{AreTakers, AreWords, IsFirst, Tells, TellsDefault}
-use Rattle.lexlook_words.specs.declared.finding.Place.{Place}
-use Rattle.lexlook_words.specs.declared.finding.Word.{Word}
-use Rattle.lexlook_words.specs.declared.finding.Word.TheVariants.{Taken, Never}
-use Rattle.lexlook_words.specs.declared.finding.Words.{Words}
+use Rattle.lexlook_specs.specs.Matches.{Matches, IsInput, IsCopied, Takes}
+use Rattle.lexlook_specs.specs.Words.{AreTakers, AreWords, IsFirst, Tells, TellsDefault}
+use Rattle.lexlook_specs.specs.declared.words.finding.Place.{Place}
+use Rattle.lexlook_specs.specs.declared.words.finding.Word.{Word}
+use Rattle.lexlook_specs.specs.declared.words.finding.Word.TheVariants.{Taken, Never}
+use Rattle.lexlook_specs.specs.declared.words.finding.Words.{Words}
 
 -- the same texts fit the same rules, and the same rules give them up
 pub record AreAlike (m n : Matches) : Type 0 where

@@ -20,11 +20,11 @@ use Rattle.lextab_file.specs.File.{file_of}
 use Rattle.lexkit.specs.Headline.{reading}
 use Rattle.lexkit.specs.declared.options.Options.{Options}
 use Rattle.lexkit.proofs.FileScanned.{one_list_of_flags, same_machine}
-use Rattle.lexlook_same.specs.Same.{number_in, renumbered, deed_of, deed_in, rules_at}
-use Rattle.lexlook_same.specs.Comparing.{Compares}
-use Rattle.lexlook_same.specs.Scans.{BeginTogether}
-use Rattle.lexlook_same.specs.declared.tables.Comparison.{Comparison}
-use Rattle.lexlook_same.specs.declared.tables.Comparison.TheVariants.{Same, Conditions, Ends, Texts}
+use Rattle.lexlook_tables.specs.Same.{number_in, renumbered, deed_of, deed_in, rules_at}
+use Rattle.lexlook_tables.specs.Comparing.{Compares}
+use Rattle.lexlook_tables.specs.Scans.{BeginTogether}
+use Rattle.lexlook_tables.specs.declared.same.tables.Comparison.{Comparison}
+use Rattle.lexlook_tables.specs.declared.same.tables.Comparison.TheVariants.{Same, Conditions, Ends, Texts}
 use Rattle.lexlook_calls.specs.Compared.{Holds}
 use Rattle.lexlook_calls.specs.Looks.{names_of}
 use Rattle.lexlook_calls.specs.Naming.{AreNamed, ArePaired}

@@ -10,11 +10,11 @@ use Rattle.lexauto_dfa.specs.Machines.{moving}
 use Rattle.lexauto_dfa.specs.Parts.{conditions, start, accepts, after, lists_in}
 use Rattle.lexauto_dfa.specs.declared.dfa.Dfa.{Dfa}
 use Rattle.lexauto_dfa.specs.declared.dfa.Parts.{Parts}
-use Rattle.lexauto_minimise.specs.Least.{AcceptsAs, AreSame, OneAutomaton}
+use Rattle.lexauto_dfa.specs.Least.{AcceptsAs, AreSame, OneAutomaton}
 use Rattle.lexauto.specs.declared.subsets.Limits.{Limits}
 use Rattle.lexkit.specs.LeastAutomata.{IsLeastOf}
 use Rattle.lexkit.proofs.Ordered.{one_order}
-use Rattle.lexlook_pictures.specs.Pictures.{edges, head, node_line, picture, starts}
+use Rattle.lexlook_specs.specs.Pictures.{edges, head, node_line, picture, starts}
 use Rattle.lexlook_calls.specs.Looks.{OnePicture}
 
 past : (xs : List ℕ) (i : ℕ) → length xs ≤ i → slice_index xs i ≡ 0

@@ -17,13 +17,13 @@ use Rattle.lexkit.specs.Headline.{BuildRefusal}
 use Rattle.lexauto_dfa.specs.Parts.{conditions, start, accepts}
 use Rattle.lexauto_dfa.specs.declared.dfa.Parts.{Parts}
 use Rattle.lexauto_dfa.proofs.Machinery.{walk_after}
-use Rattle.lexlook_words.specs.Matches.{matches_in, matches_of}
-use Rattle.lexlook_words.specs.Rejecting.{rejecting, rejecting_rule}
-use Rattle.lexlook_words.specs.Words.{AreWords, Tells, TellsDefault}
-use Rattle.lexlook_words.specs.declared.finding.Place.{Place}
-use Rattle.lexlook_words.specs.declared.finding.Word.{Word}
-use Rattle.lexlook_words.specs.declared.finding.Word.TheVariants.{Taken, Never}
-use Rattle.lexlook_words.specs.declared.finding.Words.{Words}
+use Rattle.lexlook_specs.specs.Matches.{matches_in, matches_of}
+use Rattle.lexlook_specs.specs.Rejecting.{rejecting, rejecting_rule}
+use Rattle.lexlook_specs.specs.Words.{AreWords, Tells, TellsDefault}
+use Rattle.lexlook_specs.specs.declared.words.finding.Place.{Place}
+use Rattle.lexlook_specs.specs.declared.words.finding.Word.{Word}
+use Rattle.lexlook_specs.specs.declared.words.finding.Word.TheVariants.{Taken, Never}
+use Rattle.lexlook_specs.specs.declared.words.finding.Words.{Words}
 use Rattle.lex_semantics.specs.Spec.{has_reject, statements_at}
 use Rattle.lexlook_calls.specs.Looks.{names_of}
 use Rattle.lexlook_calls.specs.Words.{AreLabelled, AreWordsOf, HasLabels, word_lines}

@@ -8,11 +8,11 @@ use Rattle.lex_semantics.specs.Machine.{Machine}
 use Rattle.lex_semantics.specs.MachineLaws.{MachineLaws}
 use Rattle.lex_semantics.specs.Text.{Among}
 use Rattle.lexkit.specs.declared.options.Options.{Options}
-use Rattle.lexlook_same.specs.Same.{number_in, rules_at}
-use Rattle.lexlook_same.specs.Comparing.{Compares}
-use Rattle.lexlook_same.specs.declared.tables.Comparison.{Comparison}
-use Rattle.lexlook_same.specs.declared.tables.Comparison.TheVariants.{Same, Conditions, Ends, Texts}
-use Rattle.lexlook_same.proofs.Lists.{some_at}
+use Rattle.lexlook_tables.specs.Same.{number_in, rules_at}
+use Rattle.lexlook_tables.specs.Comparing.{Compares}
+use Rattle.lexlook_tables.specs.declared.same.tables.Comparison.{Comparison}
+use Rattle.lexlook_tables.specs.declared.same.tables.Comparison.TheVariants.{Same, Conditions, Ends, Texts}
+use Rattle.lexlook_tables.proofs.Lists.{some_at}
 use Rattle.lexlook_calls.specs.Compared.{Holds}
 use Rattle.lexlook_calls.specs.Looks.{names_of}
 use Rattle.lexlook_calls.specs.Lines.{Side, IsLabelled}

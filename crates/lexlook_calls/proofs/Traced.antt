@@ -17,8 +17,8 @@ use Rattle.lexkit.specs.declared.errors.ScanError.{ScanError}
 use Rattle.lexkit.specs.declared.errors.ScanError.TheVariants as scans
 use Rattle.lexkit.specs.declared.options.Options.{Options}
 use Rattle.lexlook_calls.specs.Tracing.{SpellsWithRoom, TraceRefusal, Traces}
-use Rattle.lexlook_trace.specs.Traced.{has_room, traced}
-use Rattle.lexlook_trace.specs.TraceLaw.{TellsRuns, TellsTurns}
+use Rattle.lexlook_specs.specs.Traced.{has_room, traced}
+use Rattle.lexlook_specs.specs.TraceLaw.{TellsRuns, TellsTurns}
 
 -- a scan by it is a trace
 told : {A B : Type 0} (gave : A → List ℕ → A → Type 0) (wrote : B → List ℕ → B → Type 0) (s s' : A) (t t' : B) (at_end : Bool) (faults : ℕ) (options : Options) (text : List ℕ) (S : Spec) (answer : Result ℕ ScanError) →

@@ -1,9 +1,9 @@
 -- What is told of two files. (This project's.)
 use Rattle.std.specs.Prelude.{◌≡◌, ◌⊎◌, ℕ, Bool, true, false, List, Result, Ok, Err}
 use Rattle.lex_io.specs.Sink.{Appended}
-use Rattle.lexlook_same.specs.Comparing.{Compares, Counts}
-use Rattle.lexlook_same.specs.declared.tables.Comparison.{Comparison}
-use Rattle.lexlook_same.specs.declared.tables.Comparison.TheVariants.{Same, Conditions, Ends, Texts}
+use Rattle.lexlook_tables.specs.Comparing.{Compares, Counts}
+use Rattle.lexlook_tables.specs.declared.same.tables.Comparison.{Comparison}
+use Rattle.lexlook_tables.specs.declared.same.tables.Comparison.TheVariants.{Same, Conditions, Ends, Texts}
 use Rattle.lexkit.specs.declared.options.Options.{Options}
 use Rattle.lexlook_calls.specs.Lines.{Side, told_line}
 use Rattle.lexlook_calls.specs.Naming.{ArePaired}

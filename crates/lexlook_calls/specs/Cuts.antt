@@ -5,10 +5,10 @@ use Rattle.lex_io.specs.Sink.{Appended}
 use Rattle.lex_semantics.specs.Spec.{Spec}
 use Rattle.lex_semantics.specs.Machine.{Machine, rules_of_machine}
 use Rattle.lexkit.specs.declared.options.Options.{Options}
-use Rattle.lexlook_lines.specs.Lines.{ScansApart}
-use Rattle.lexlook_lines.specs.Obstacles.{Hinders}
-use Rattle.lexlook_lines.specs.declared.cutting.Obstacle.{Obstacle}
-use Rattle.lexlook_lines.specs.declared.cutting.Obstacle.TheVariants.{Unsteady, Crosses, Strays, Copies, Writes}
+use Rattle.lexlook_tables.specs.Lines.{ScansApart}
+use Rattle.lexlook_tables.specs.Obstacles.{Hinders}
+use Rattle.lexlook_tables.specs.declared.lines.cutting.Obstacle.{Obstacle}
+use Rattle.lexlook_tables.specs.declared.lines.cutting.Obstacle.TheVariants.{Unsteady, Crosses, Strays, Copies, Writes}
 use Rattle.lexlook_calls.specs.Lines.{condition_words, rule_words}
 use Rattle.lexlook_calls.specs.Sides.{StandsFor, IsRefused}
 use Rattle.lexlook_calls.specs.declared.error.LookError.{LookError}

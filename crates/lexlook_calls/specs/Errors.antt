@@ -4,8 +4,8 @@ use Rattle.lexkit.specs.declared.errors.ScanError.TheVariants as scans
 use Rattle.lexkit.specs.declared.failure.Failure.{Failure}
 use Rattle.lexkit.specs.declared.failure.Failure.TheVariants.{Scan, Output}
 use Rattle.lexkit.specs.Failures.{out_of_memory}
-use Rattle.lexlook_pictures.specs.declared.error.PictureError.{PictureError}
-use Rattle.lexlook_pictures.specs.declared.error.PictureError.TheVariants as pictures
+use Rattle.lexlook_specs.specs.declared.picture.error.PictureError.{PictureError}
+use Rattle.lexlook_specs.specs.declared.picture.error.PictureError.TheVariants as pictures
 use Rattle.lexlook_calls.specs.declared.error.LookError.{LookError}
 use Rattle.lexlook_calls.specs.declared.error.LookError.TheVariants.{Refused, Table, OutOfMemory, Write}
 

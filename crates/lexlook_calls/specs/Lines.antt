@@ -4,11 +4,11 @@ use Rattle.std.specs.List.{concat, flat_map}
 use Rattle.lex_semantics.specs.Spec.{Spec}
 use Rattle.lex_semantics.specs.Machine.{Machine, state_after}
 use Rattle.lex_io.specs.Octal.{octal}
-use Rattle.lexlook_pictures.specs.Pictures.{quoted_byte}
-use Rattle.lexlook_same.specs.Same.{number_in, rules_at}
-use Rattle.lexlook_same.specs.declared.differing.Difference.{Difference}
-use Rattle.lexlook_same.specs.declared.tables.Comparison.{Comparison}
-use Rattle.lexlook_same.specs.declared.tables.Comparison.TheVariants.{Same, Conditions, Ends, Texts}
+use Rattle.lexlook_specs.specs.Pictures.{quoted_byte}
+use Rattle.lexlook_tables.specs.Same.{number_in, rules_at}
+use Rattle.lexlook_tables.specs.declared.same.differing.Difference.{Difference}
+use Rattle.lexlook_tables.specs.declared.same.tables.Comparison.{Comparison}
+use Rattle.lexlook_tables.specs.declared.same.tables.Comparison.TheVariants.{Same, Conditions, Ends, Texts}
 use Rattle.lextab_packed.specs.Machines.{table_machine}
 use Rattle.lexkit.specs.Generated.{lines_of}
 use Rattle.lexlook_calls.specs.Looks.{names_of}

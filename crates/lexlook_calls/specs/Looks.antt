@@ -9,7 +9,7 @@ use Rattle.lexkit.specs.Generated.{lines_of}
 use Rattle.lexkit.specs.LeastAutomata.{IsLeastOf}
 use Rattle.lexkit.specs.Headline.{Refusal, reading}
 use Rattle.lexkit.specs.declared.options.Options.{Options}
-use Rattle.lexlook_pictures.specs.Pictures.{picture}
+use Rattle.lexlook_specs.specs.Pictures.{picture}
 use Rattle.lexlook_calls.specs.declared.error.LookError.{LookError}
 use Rattle.lexlook_calls.specs.declared.error.LookError.TheVariants.{Refused, Table, OutOfMemory, Write}
 

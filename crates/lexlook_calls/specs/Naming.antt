@@ -1,7 +1,7 @@
 -- Which condition of one scanner is which of another. (This project's.)
 use Rattle.std.specs.Prelude.{◌≡◌, ℕ, ◌<◌, List, [], length, slice_get, Option, Some, None}
 use Rattle.lex_semantics.specs.Spec.{Spec}
-use Rattle.lexlook_same.specs.Same.{number_in}
+use Rattle.lexlook_tables.specs.Same.{number_in}
 use Rattle.lexlook_calls.specs.Looks.{names_of}
 
 -- each name has in the other list the number that stands at its place in the order, and there are as many names

@@ -1,9 +1,9 @@
 -- What it says of two files that nothing is told of them, and of which files nothing is told. (This project's.)
 use Rattle.std.specs.Prelude.{◌≡◌, ℕ, List, true}
 use Rattle.lexkit.specs.declared.options.Options.{Options}
-use Rattle.lexlook_same.specs.Scans.{ScanAlike}
-use Rattle.lexlook_same.specs.declared.tables.Comparison.{Comparison}
-use Rattle.lexlook_same.specs.declared.tables.Comparison.TheVariants.{Same}
+use Rattle.lexlook_tables.specs.Scans.{ScanAlike}
+use Rattle.lexlook_tables.specs.declared.same.tables.Comparison.{Comparison}
+use Rattle.lexlook_tables.specs.declared.same.tables.Comparison.TheVariants.{Same}
 use Rattle.lexlook_calls.specs.Compared.{IsSideOf, Holds}
 use Rattle.lexlook_calls.specs.Lines.{Side}
 use Rattle.lexlook_calls.specs.Sides.{is_table_file}

@@ -9,8 +9,8 @@ use Rattle.lexkit.specs.declared.errors.GenError.TheVariants as gens
 use Rattle.lexkit.specs.declared.errors.ScanError.{ScanError}
 use Rattle.lexkit.specs.declared.errors.ScanError.TheVariants as scans
 use Rattle.lexkit.specs.declared.options.Options.{Options}
-use Rattle.lexlook_trace.specs.Traced.{has_room, traced}
-use Rattle.lexlook_trace.specs.TraceLaw.{TellsRuns, TellsTurns}
+use Rattle.lexlook_specs.specs.Traced.{has_room, traced}
+use Rattle.lexlook_specs.specs.TraceLaw.{TellsRuns, TellsTurns}
 use Rattle.lexscan_window.specs.declared.error.RunError.{RunError}
 use Rattle.lexspec.specs.Files.{SpellsSpec}
 use Rattle.lexspec.specs.Outcome.{UnlessMemory}

@@ -9,12 +9,12 @@ use Rattle.lexauto.specs.declared.subsets.Limits.{Limits}
 use Rattle.lexkit.specs.Generated.{lines_of}
 use Rattle.lexkit.specs.Headline.{IsWithin, Refusal, reading}
 use Rattle.lexkit.specs.declared.options.Options.{Options}
-use Rattle.lexlook_words.specs.Matches.{matches_of}
-use Rattle.lexlook_words.specs.Words.{AreWords}
-use Rattle.lexlook_words.specs.declared.finding.Place.{Place}
-use Rattle.lexlook_words.specs.declared.finding.Word.{Word}
-use Rattle.lexlook_words.specs.declared.finding.Word.TheVariants.{Taken, Never}
-use Rattle.lexlook_words.specs.declared.finding.Words.{Words}
+use Rattle.lexlook_specs.specs.Matches.{matches_of}
+use Rattle.lexlook_specs.specs.Words.{AreWords}
+use Rattle.lexlook_specs.specs.declared.words.finding.Place.{Place}
+use Rattle.lexlook_specs.specs.declared.words.finding.Word.{Word}
+use Rattle.lexlook_specs.specs.declared.words.finding.Word.TheVariants.{Taken, Never}
+use Rattle.lexlook_specs.specs.declared.words.finding.Words.{Words}
 use Rattle.lexlook_calls.specs.Looks.{names_of}
 use Rattle.lexlook_calls.specs.Lines.{in_quotes, start_words}
 use Rattle.lexlook_calls.specs.declared.error.LookError.{LookError}

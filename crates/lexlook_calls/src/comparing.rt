@@ -1,7 +1,7 @@
 //! Whether two files do the same on every input.
 ghost use Rattle.std.specs.Prelude.{◌≡◌, ◌≤◌, ◌<◌, ◌+◌, ◌-◌, ◌^◌, List, ℕ, None, IfOk, IfSome};
 ghost use Rattle.lex_semantics.specs.Limits.{max_positions, max_states};
-ghost use Rattle.lexlook_same.specs.declared.tables.Comparison.TheVariants.{Same, Conditions, Ends, Texts};
+ghost use Rattle.lexlook_tables.specs.declared.same.tables.Comparison.TheVariants.{Same, Conditions, Ends, Texts};
 ghost use Rattle.lexlook_calls.specs.Compared.{Holds, SaysOf, Tells, is_same};
 ghost use Rattle.lexlook_calls.specs.Errors.{write_fault_count};
 ghost use Rattle.lexlook_calls.specs.Lines.{IsLabelled, side_as};
@@ -14,7 +14,7 @@ use crate::naming::order_of;
 use crate::sides::{Side, side_of};
 use crate::telling::{Named, told_line};
 use lexkit::{Options, Sink};
-use lexlook_same::{Comparison, compare};
+use lexlook_tables::{Comparison, compare};
 use lexspec::Spec;
 use std::alloc::{AllocError, Global};
 

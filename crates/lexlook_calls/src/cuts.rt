@@ -12,8 +12,8 @@ use crate::error::LookError;
 use crate::sides::{Side, side_of};
 use crate::telling::{add_condition, add_rule};
 use lexkit::{Options, Sink};
-use lexlook_lines::{Obstacle, find_obstacle_in};
-use lexlook_pictures::add;
+use lexlook_tables::{Obstacle, find_obstacle_in};
+use lexlook_specs::add;
 use lexspec::Spec;
 use std::alloc::{AllocError, Global};
 

@@ -5,7 +5,7 @@ ghost use Rattle.lex_semantics.specs.Limits.{max_positions, max_states};
 ghost use Rattle.lex_semantics.specs.Text.{Among};
 ghost use Rattle.lexauto_dfa.specs.Automata.{accepts_of, conditions_of, states_of};
 ghost use Rattle.lexspec.specs.Views.{conditions_in, rules_in, spec_of};
-ghost use Rattle.lexlook_pictures.specs.Faults.{write_fault_count as picture_fault_count};
+ghost use Rattle.lexlook_specs.specs.Faults.{write_fault_count as picture_fault_count};
 ghost use Rattle.lexlook_calls.specs.Errors.{write_fault_count};
 ghost use Rattle.lexlook_calls.specs.Looks.{Draws, picture_of};
 
@@ -14,7 +14,7 @@ use crate::labels::names_of;
 use crate::least::least_automaton;
 use lexauto::Dfa;
 use lexkit::{Options, Sink, lines_of, read_text};
-use lexlook_pictures::{PictureError, write_picture};
+use lexlook_specs::{PictureError, write_picture};
 use lexspec::Spec;
 use std::alloc::Global;
 

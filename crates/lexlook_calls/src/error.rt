@@ -3,7 +3,7 @@
 ghost use Rattle.std.specs.Prelude.{◌≡◌};
 
 use lexkit::{Failure, GenError, ScanError, TableError};
-use lexlook_pictures::PictureError;
+use lexlook_specs::PictureError;
 use thiserror::Error;
 
 /// Why nothing is shown, or not all.

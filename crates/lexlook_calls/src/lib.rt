@@ -19,6 +19,6 @@ pub use cuts::tell_lines;
 pub use drawing::draw;
 pub use error::LookError;
 pub use laws::{equal_are_same, one_picture, same_scan_alike};
-pub use lexlook_command::{Look, read_args, write_help};
+pub use lex_command::{Look, read_look_args as read_args, write_help};
 pub use tracing::trace;
 pub use words::tell_words;

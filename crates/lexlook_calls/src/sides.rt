@@ -8,7 +8,7 @@ use crate::error::LookError;
 use crate::least::least_automaton;
 use lexkit::{Options, Tables, read_tables, read_text};
 use lexspec::Spec;
-use lextab_packing::pack;
+use lextab::pack;
 use std::alloc::Global;
 
 /// The tables of a file, and the specification if it is one.

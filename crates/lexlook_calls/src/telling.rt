@@ -10,15 +10,15 @@ ghost use Rattle.lexlook_calls.specs.Looks.{names_of};
 ghost use Rattle.lexlook_calls.specs.Lines.{in_quotes, condition_words, rule_words, taken, taken_by, start_words};
 ghost use Rattle.lexlook_calls.specs.Lines.{naming, text_place, both, side_words, told_line, side_as, IsLabelled};
 ghost use Rattle.lexlook_calls.specs.Compared.{Holds};
-ghost use Rattle.lexlook_same.specs.Comparing.{Counts};
-ghost use Rattle.lexlook_same.specs.Same.{number_in};
-ghost use Rattle.lexlook_same.specs.declared.tables.Comparison.{Comparison};
+ghost use Rattle.lexlook_tables.specs.Comparing.{Counts};
+ghost use Rattle.lexlook_tables.specs.Same.{number_in};
+ghost use Rattle.lexlook_tables.specs.declared.same.tables.Comparison.{Comparison};
 ghost use Rattle.lexlook_calls.specs.Sides.{read_as};
 
 use crate::sides::Side;
 use lex_io::octal;
-use lexlook_pictures::{add, add_number};
-use lexlook_same::{Comparison, Difference, counts_all, number_in, rules_after};
+use lexlook_specs::{add, add_number};
+use lexlook_tables::{Comparison, Difference, counts_all, number_in, rules_after};
 use lexspec::Spec;
 use std::alloc::{AllocError, Global};
 

@@ -6,7 +6,7 @@ ghost use Rattle.lexlook_calls.specs.Tracing.{Traces};
 ghost use Rattle.lexscan_window.specs.declared.error.RunError.TheVariants.{Failed};
 
 use lexkit::{GenError, Options, ScanError, Sink, Source, read_text, scan_by};
-use lexlook_trace::traced;
+use lexlook_specs::traced;
 use std::alloc::Global;
 
 /// Scans the source by the specification that a text spells, and writes to the sink, in place of what its actions

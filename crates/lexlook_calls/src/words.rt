@@ -8,7 +8,7 @@ ghost use Rattle.lex_semantics.specs.Limits.{max_positions, max_states};
 ghost use Rattle.lex_semantics.specs.Text.{Among};
 ghost use Rattle.lexspec.specs.Views.{conditions_in, rules_in, spec_of};
 ghost use Rattle.lexkit.specs.Generated.{SpecRefusal, lines_of};
-ghost use Rattle.lexlook_words.specs.Rejecting.{rejecting};
+ghost use Rattle.lexlook_specs.specs.Rejecting.{rejecting};
 ghost use Rattle.lexlook_calls.specs.Errors.{write_fault_count};
 ghost use Rattle.lexlook_calls.specs.Looks.{names_of};
 ghost use Rattle.lexlook_calls.specs.Words.{AreLabelled, AreWordsOf, HasLabels, TellsWords};
@@ -19,8 +19,7 @@ use crate::labels::names_of;
 use crate::telling::{add_start, add_string};
 use lexauto::build;
 use lexkit::{GenError, Limits, Options, Sink, lines_of, read_text};
-use lexlook_pictures::{add, add_number};
-use lexlook_words::{Place, Word, Words, find_words, rejecting, rejects_of};
+use lexlook_specs::{Place, Word, Words, add, add_number, find_words, rejecting, rejects_of};
 use lexspec::Spec;
 use std::alloc::{AllocError, Global};
 

@@ -13,3 +13,6 @@ pub mod Turning
 pub mod Tying
 pub mod Taking
 pub mod Pushing
+pub mod Lying
+pub mod SoFar
+pub mod Tables

@@ -20,3 +20,6 @@ pub mod Pushes
 pub mod Attempts
 pub mod Steps
 pub mod Scans
+pub mod Tokens
+pub mod Discards
+pub mod Inputs

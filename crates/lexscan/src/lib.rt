@@ -11,6 +11,7 @@ mod leave;
 mod push;
 mod scan;
 mod scanner;
+mod tokens;
 mod turn;
 mod whole;
 
@@ -19,5 +20,6 @@ pub use lexscan_matching::{accepted, longest};
 pub use lexscan_window::{Candidate, Match, MatchedRule, RunError, Window};
 pub use push::PushScanner;
 pub use scanner::Scanner;
+pub use tokens::{Token, table_tokens, texts_of, tokens};
 pub use turn::Turn;
 pub use whole::run;

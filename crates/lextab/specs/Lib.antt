@@ -6,7 +6,14 @@ pub use Rattle.lextab_packed.specs.Steps
 pub use Rattle.lextab_packed.specs.Invariant
 pub use Rattle.lextab_packed.specs.Views
 pub use Rattle.lextab_packed.specs.Machines
-pub use Rattle.lextab_packing.specs.Packing
-pub use Rattle.lextab_packing.specs.Columns
 pub use Rattle.lextab_file.specs.File
 pub use Rattle.lextab_file.specs.Refusals
+pub mod Plain
+pub mod Below
+pub mod Classes
+pub mod Packing
+pub mod Columns
+pub mod PackingExamples
+pub mod Searching
+pub mod Views
+pub mod Assembled

@@ -1,8 +1,7 @@
 //! Least automata, whose states are counted and numbered by hand.
 
 use crate::automata::whole;
-use lexauto_dfa::Dfa;
-use lexauto_minimise::{minimise, one_automaton};
+use lexauto_dfa::{Dfa, minimise, one_automaton};
 use std::alloc::Global;
 use std::test::Fail;
 

@@ -3,7 +3,7 @@ ghost use Rattle.std.specs.Prelude.{IfOk, length};
 ghost use Rattle.lex_semantics.specs.Acting.{Status};
 ghost use Rattle.lex_semantics.specs.Machine.{rules_of_machine};
 ghost use Rattle.lextab_packed.specs.Machines.{table_machine};
-ghost use Rattle.lexscan_tokens.specs.Tokens.{LieIn, Tokenised};
+ghost use Rattle.lexscan.specs.Tokens.{LieIn, Tokenised};
 
 use lexkit::{RunError, Tables, Token, tokens};
 use std::alloc::Global;

@@ -5,8 +5,7 @@ use crate::row::Row;
 use crate::scans::{answer_of, options_of, refused};
 use lexkit::{MemorySink, MemorySource, Tables, generate};
 use lexlook_calls::{Given, LookError, draw, tell_lines, tell_same, tell_words, trace as trace_of};
-use lexlook_lines::find_obstacle_in;
-use lexlook_same::{Comparison, Difference, compare as compared};
+use lexlook_tables::{Comparison, Difference, compare as compared, find_obstacle_in};
 use std::alloc::{AllocError, Global};
 
 /// What is answered of a look that writes this.

@@ -1,6 +1,6 @@
 //! Tokens.
 ghost use Rattle.std.specs.Prelude.{length};
-ghost use Rattle.lexscan_tokens.specs.Tokens.{LieIn};
+ghost use Rattle.lexscan.specs.Tokens.{LieIn};
 
 use crate::answer::{Answer, lines_of};
 use crate::caller::tokens_by;

@@ -3,7 +3,7 @@ use Rattle.lexlook_calls.specs.Lines.{side_as}
 use Rattle.lexlook_calls.specs.Naming.{ArePaired}
 use Rattle.lexlook_calls.specs.Sides.{read_as}
 use Rattle.lextab_packed.specs.Machines.{table_machine}
-use Rattle.lexlook_same.specs.Comparing.{Compares}
+use Rattle.lexlook_tables.specs.Comparing.{Compares}
 use Rattle.lexlook_calls.proofs.Sided.{paired_within, holds_of}
 use Rattle.lexlook_calls.proofs.comparing.compare_sides.Goals as goal
 

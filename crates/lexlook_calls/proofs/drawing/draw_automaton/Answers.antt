@@ -2,7 +2,7 @@ use Rattle.std.proofs.Common.{◌≡◌, ◌∙◌, ℕ, List, map, ap, subst}
 use Rattle.std.specs.Borrow.{Bor}
 use Rattle.lex_io.specs.Sink.{Appended}
 use Rattle.lexspec.specs.Views.{conditions_in, rules_in, spec_of}
-use Rattle.lexlook_pictures.specs.Pictures.{picture}
+use Rattle.lexlook_specs.specs.Pictures.{picture}
 use Rattle.lexkit.specs.Generated.{lines_of}
 use Rattle.lexlook_calls.specs.Looks.{names_of}
 use Rattle.lexlook_calls.proofs.drawing.draw_automaton.Goals as goal

@@ -4,7 +4,7 @@ use Rattle.std.specs.Borrow.{Bor}
 use Rattle.std.proofs.lemmas.Bool.{cases_lt}
 use Rattle.std.proofs.lemmas.List.{length-map}
 use Rattle.std.proofs.lemmas.Option.{slice_get_within}
-use Rattle.lexlook_same.proofs.Lists.{in_map, from_map, at_place, one_at}
+use Rattle.lexlook_tables.proofs.Lists.{in_map, from_map, at_place, one_at}
 use Rattle.lexlook_calls.proofs.naming.number_of.Goals as goal
 
 abbrev text : Bor (List ℕ) → List ℕ

@@ -3,8 +3,8 @@ use Rattle.std.specs.Prelude.{slice_get}
 use Rattle.std.specs.Borrow.{Bor}
 use Rattle.std.proofs.lemmas.Bool.{cases_lt}
 use Rattle.std.proofs.lemmas.List.{length-append, length-map}
-use Rattle.lexlook_same.specs.Same.{number_in}
-use Rattle.lexlook_same.proofs.Lists.{in_map, at_place}
+use Rattle.lexlook_tables.specs.Same.{number_in}
+use Rattle.lexlook_tables.proofs.Lists.{in_map, at_place}
 use Rattle.lexlook_calls.proofs.Sided.{left_of, last_of}
 use Rattle.lexlook_calls.proofs.naming.order_of.Goals as goal
 

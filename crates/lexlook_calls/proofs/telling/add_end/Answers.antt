@@ -1,6 +1,6 @@
 use Rattle.std.proofs.Common.{◌≡◌, ◌++◌, subst}
 use Rattle.std.proofs.lemmas.Result.{on_ok_weaker}
-use Rattle.lexlook_pictures.proofs.Joining.{in_six}
+use Rattle.lexlook_specs.proofs.Joining.{in_six}
 use Rattle.lexlook_calls.specs.Lines.{condition_words}
 use Rattle.lexlook_calls.proofs.telling.add_end.Goals as goal
 

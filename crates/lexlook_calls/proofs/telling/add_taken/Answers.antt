@@ -1,4 +1,4 @@
-use Rattle.lexlook_pictures.proofs.Joining.{among_read}
+use Rattle.lexlook_specs.proofs.Joining.{among_read}
 use Rattle.lexlook_calls.proofs.telling.add_taken.Goals as goal
 
 pub add_rule-requires : goal.add_rule-requires

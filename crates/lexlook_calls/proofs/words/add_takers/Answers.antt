@@ -1,6 +1,6 @@
 use Rattle.std.proofs.Common.{rules, ◌≡◌, ◌<◌, ◌∙◌, ℕ, List, [], ◌∷◌, ◌++◌, length, codes, flat_map, refl, ap, arith}
 use Rattle.std.proofs.lemmas.List.{take_all}
-use Rattle.lexlook_pictures.proofs.Joining.{among_read, in_three}
+use Rattle.lexlook_specs.proofs.Joining.{among_read, in_three}
 use Rattle.lexlook_calls.specs.Words.{line_words, never_words}
 use Rattle.lexlook_calls.proofs.words.add_takers.Goals as goal
 

@@ -1,7 +1,7 @@
 use Rattle.std.proofs.Common.{rules, arith, ◌≡◌, ◌∙◌, ◌<◌, ◌++◌, [], Some, ap, length, map, refl, sym}
 use Rattle.std.specs.Prelude.{slice_get}
 use Rattle.std.proofs.lemmas.Option.{slice_get_read}
-use Rattle.lexlook_pictures.proofs.Joining.{more_in_range}
+use Rattle.lexlook_specs.proofs.Joining.{more_in_range}
 use Rattle.lexlook_calls.specs.Words.{word_line}
 use Rattle.lexlook_calls.proofs.words.word_lines.Goals as goal
 

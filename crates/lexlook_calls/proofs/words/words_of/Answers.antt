@@ -1,7 +1,7 @@
 use Rattle.std.proofs.Common.{Err, ap, subst}
 use Rattle.lexspec.specs.Views.{spec_of}
-use Rattle.lexlook_words.specs.Matches.{matches_in}
-use Rattle.lexlook_words.specs.Words.{AreWords}
+use Rattle.lexlook_specs.specs.Matches.{matches_in}
+use Rattle.lexlook_specs.specs.Words.{AreWords}
 use Rattle.lexlook_calls.proofs.Shown.{refused_alike, words_shown}
 use Rattle.lexlook_calls.proofs.words.words_of.Goals as goal
 

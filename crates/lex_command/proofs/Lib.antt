@@ -1,0 +1,4 @@
+pub mod CommandLine
+pub mod CommandExamples
+pub mod Asked
+pub mod Subcommands

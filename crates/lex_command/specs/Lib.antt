@@ -1,0 +1,5 @@
+pub mod Args
+pub mod CommandLine
+pub mod CommandExamples
+pub mod Refusal
+pub mod LookLine

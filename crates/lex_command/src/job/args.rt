@@ -1,0 +1,364 @@
+//! What a command line asks for.
+ghost use Rattle.std.specs.Prelude.{◌≡◌, ◌≢◌, ◌⊎◌, IfErr, IfOk, codes, false, fold, map, option_map, string_bytes};
+ghost use Rattle.std.specs.Prelude.{true};
+ghost use Rattle.clap.specs.Words.{all_of, app_of, first_of, found_of, rows_of, rule_of, with_rule};
+ghost use Rattle.lex_command.specs.Args.{IsNamed};
+ghost use Rattle.lex_command.specs.CommandLine.{AsksFor, IsJobOf, Makes, ScansBySpec, ScansByTable, files_of};
+ghost use Rattle.lex_command.specs.CommandLine.{flag_rule, flag_rules, has, has_byte_at, has_separator};
+ghost use Rattle.lex_command.specs.CommandLine.{has_value_behind_equals, is_long_with_equals, is_out_with_equals};
+ghost use Rattle.lex_command.specs.CommandLine.{lex_app, value_rule};
+ghost use Rattle.lex_command.specs.CommandLine.{makes_tables, name_rules, reads_patterns, words_rule};
+
+use clap::error::ErrorKind;
+use clap::{Arg, ArgAction, ArgMatches, Command};
+use std::alloc::{AllocError, Global};
+use thiserror::Error;
+
+/// What the program is to do.
+#[derive(Debug, Drop)]
+pub enum Job {
+    /// Make tables of the specification that these files are together. No file, and `-`, is standard input.
+    Generate {
+        files: Vec<String>,
+        /// The table file's name, where one is given.
+        out: Option<String>,
+        /// The table file goes to standard output, whatever `out` says.
+        stdout: bool,
+        /// Statistics are written.
+        stats: bool,
+        /// The report of states that back up is written.
+        backup: bool,
+        /// Letters of patterns stand for both cases.
+        fold: bool,
+        /// Intervals apply to series.
+        posix: bool,
+        /// Warnings are not written.
+        quiet: bool,
+    },
+    /// Scan standard input by the specification in this file.
+    ScanSpec {
+        file: String,
+        /// Letters of patterns stand for both cases.
+        fold: bool,
+        /// Intervals apply to series.
+        posix: bool,
+        /// Warnings are not written.
+        quiet: bool,
+    },
+    /// Scan standard input by the table in this file.
+    ScanTable {
+        file: String,
+    },
+}
+
+/// Why a command line is refused.
+#[derive(Clone, Copy, Debug, PartialEq, Eq, Error)]
+pub enum ArgsError {
+    #[error("usage")]
+    Usage,
+    #[error("out of memory")]
+    OutOfMemory,
+}
+
+impl From<AllocError> for ArgsError {
+    ghost use Rattle.lex_command.specs.declared.job.args.ArgsError.TheVariants.{OutOfMemory};
+
+    ghost from_gives = { λ _ e. e ≡ OutOfMemory };
+
+    fn from(_e: AllocError) -> ArgsError {
+        ArgsError::OutOfMemory
+    }
+}
+
+impl From<clap::Error> for ArgsError {
+    ghost use Rattle.lex_command.specs.Refusal.{refusal_of};
+    ghost use Rattle.clap.specs.Values.{kind_of};
+
+    ghost from_gives = { λ e r. r ≡ refusal_of (kind_of e) };
+
+    fn from(e: clap::Error) -> ArgsError {
+        match e.kind() {
+            ErrorKind::OutOfMemory => ArgsError::OutOfMemory,
+            _ => ArgsError::Usage,
+        }
+    }
+}
+
+/// Reads the words after the program's name: `[-t] [-n] [-v] [-b] [-i] [-X] [-w] [-o FILE] [FILE..]`, or
+/// `--scan-spec FILE` with `-i`, `-X` or `-w`, or `--scan-table FILE` alone. Flags may be repeated. `-` is no FILE of a
+/// scan. Words that it refuses by `Usage` ask for no job.
+pub fn read_args(alloc: Global, words: &[String]) -> Result<Job, ArgsError>
+    ensures named { IfOk result IsNamed }
+    ensures asked { IfOk result (AsksFor (map string_bytes words.now)) }
+    ensures refused { IfErr result (λ e. e ≡ ArgsError.Usage
+        → (job : Job) → AsksFor (map string_bytes words.now) job → ⊥) }
+{
+    if has_value_behind_equals(words) {
+        return Err(ArgsError::Usage);
+    }
+    let command = command(alloc)?;
+    let matches = command.try_get_matches_from(words)?;
+    job_of(alloc, &matches, has_separator(words))
+}
+
+/// The job of what was met, where `separated` says that some word is `--`: a scan has none.
+fn job_of(alloc: Global, matches: &ArgMatches<'_>, separated: bool) -> Result<Job, ArgsError>
+    ensures named { IfOk result IsNamed }
+    ensures asked { IfOk result (IsJobOf (rows_of (found_of matches.now)) separated) }
+    ensures refused { IfErr result (λ e. e ≡ ArgsError.Usage
+        → (job : Job) → IsJobOf (rows_of (found_of matches.now)) separated job → ⊥) }
+{
+    let spec = value_of(matches, "scan-spec");
+    let table = value_of(matches, "scan-table");
+    match (spec, table, separated) {
+        (None, None, _) => generating(alloc, matches),
+        (Some(file), None, false) => scanning_by_spec(alloc, matches, file),
+        (None, Some(file), false) => scanning_by_table(alloc, matches, file),
+        (Some(_), None, true) | (None, Some(_), true) | (Some(_), Some(_), _) => {
+            Err(ArgsError::Usage)
+        }
+    }
+}
+
+/// Whether some word is `--`, behind which each word is a file.
+fn has_separator(words: &[String]) -> bool
+    ensures { result ≡ has_separator (map string_bytes words.now) }
+{
+    words.iter().any(|word| word.as_str() == "--")
+}
+
+/// Whether some word before any `--` has its value behind a sign of equality, as `--scan-spec=FILE` or `-o=FILE`: that
+/// is none of the forms.
+fn has_value_behind_equals(words: &[String]) -> bool
+    ensures { result ≡ has_value_behind_equals (map string_bytes words.now) }
+{
+    for word in words {
+        let text = word.as_str();
+        if text == "--" {
+            return false;
+        }
+        if is_long_with_equals(text.as_bytes()) || is_out_with_equals(text.as_bytes()) {
+            return true;
+        }
+    }
+    false
+}
+
+/// Whether the word begins with `--`, and has `=`.
+fn is_long_with_equals(word: &[u8]) -> bool
+    ensures { result ≡ is_long_with_equals word.now }
+{
+    word.starts_with(b"--") && word.contains(&b'=')
+}
+
+/// Whether the word has flags up to an `o`, and `=` directly behind that.
+fn is_out_with_equals(word: &[u8]) -> bool
+    ensures { result ≡ is_out_with_equals word.now }
+{
+    if !has_byte_at(word, 0, b'-') {
+        return false;
+    }
+    match word.iter().position(|byte| *byte == b'o') {
+        Some(at) => has_byte_at(word, at + 1, b'='),
+        None => false,
+    }
+}
+
+/// Whether the byte stands at the place.
+fn has_byte_at(word: &[u8], at: usize, byte: u8) -> bool
+    ensures { result ≡ has_byte_at word.now at byte }
+{
+    word.get(at) == Some(&byte)
+}
+
+/// A flag, which may be repeated.
+fn flag<'a>(alloc: Global, id: &'a str, letter: char) -> Arg<'a>
+    ensures rule { rule_of result ≡ flag_rule id.entry.now letter }
+    ensures global { result.global ≡ false }
+{
+    Arg::new(alloc, id).short(letter).action(ArgAction::Count)
+}
+
+/// The words that the program knows.
+fn command<'a>(alloc: Global) -> Result<Command<'a>, AllocError>
+    ensures { IfOk result (λ c. app_of c ≡ lex_app) }
+{
+    let command = Command::new(alloc, "lex").no_binary_name(true);
+    let command = with_flags(alloc, command)?;
+    with_names(alloc, command)
+}
+
+/// The command with the flags.
+fn with_flags<'a>(alloc: Global, command: Command<'a>) -> Result<Command<'a>, AllocError>
+    ensures { IfOk result (λ c. app_of c ≡ fold with_rule (app_of command.entry) flag_rules) }
+{
+    let flags = &[
+        ("stdout", 't'),
+        ("no-stats", 'n'),
+        ("stats", 'v'),
+        ("backup", 'b'),
+        ("fold", 'i'),
+        ("posix", 'X'),
+        ("quiet", 'w'),
+    ];
+    let mut with = command;
+    for &(name, letter) in flags {
+        with = with.arg(flag(alloc, name, letter))?;
+    }
+    Ok(with)
+}
+
+/// A word that has a value: by its letter, or else by its long name.
+fn value_word<'a>(alloc: Global, name: &'a str, letter: Option<char>) -> Arg<'a>
+    ensures rule { rule_of result ≡ value_rule name.entry.now letter }
+    ensures global { result.global ≡ false }
+{
+    let word = Arg::new(alloc, name).action(ArgAction::Set);
+    match letter {
+        Some(letter) => word.short(letter),
+        None => word.long(name),
+    }
+}
+
+/// The words that name specifications.
+fn file_words<'a>(alloc: Global) -> Arg<'a>
+    ensures rule { rule_of result ≡ words_rule (codes "file") }
+    ensures global { result.global ≡ false }
+{
+    Arg::new(alloc, "file")
+        .num_args(1..)
+        .action(ArgAction::Append)
+}
+
+/// The command with the words that name files.
+fn with_names<'a>(alloc: Global, command: Command<'a>) -> Result<Command<'a>, AllocError>
+    ensures { IfOk result (λ c. app_of c ≡ fold with_rule (app_of command.entry) name_rules) }
+{
+    let words = &[
+        ("out", Some('o')),
+        ("scan-spec", None),
+        ("scan-table", None),
+    ];
+    let mut with = command;
+    for &(name, letter) in words {
+        with = with.arg(value_word(alloc, name, letter))?;
+    }
+    with.arg(file_words(alloc))
+}
+
+/// Whether the flag stands there.
+fn has(matches: &ArgMatches<'_>, flag: &str) -> bool
+    ensures { result ≡ has flag.now (rows_of (found_of matches.now)) }
+{
+    matches.get_count(flag) > 0
+}
+
+/// The value of the name, where one stands there.
+fn value_of<'a>(matches: &ArgMatches<'a>, name: &str) -> Option<&'a str>
+    ensures { option_map (λ s. s.now) result ≡ first_of name.now (rows_of (found_of matches.now)) }
+{
+    matches.get_str(name)
+}
+
+/// The values of the name, where some stand there.
+fn values_of<'m, 'a>(matches: &'m ArgMatches<'a>, name: &str) -> Option<&'m [&'a str]>
+    ensures { option_map (λ s. map (λ v. v.now) s.now) result ≡ all_of name.now (rows_of (found_of matches.now)) }
+{
+    matches.get_strs(name)
+}
+
+/// Whether something stands there that only making tables takes: `-t`, `-n`, `-v`, `-b`, `-o` or a file.
+fn makes_tables(matches: &ArgMatches<'_>) -> bool
+    ensures { result ≡ makes_tables (rows_of (found_of matches.now)) }
+{
+    has(matches, "stdout")
+        || has(matches, "no-stats")
+        || has(matches, "stats")
+        || has(matches, "backup")
+        || value_of(matches, "out").is_some()
+        || value_of(matches, "file").is_some()
+}
+
+/// Whether something stands there that only reading patterns takes: `-i`, `-X` or `-w`.
+fn reads_patterns(matches: &ArgMatches<'_>) -> bool
+    ensures { result ≡ reads_patterns (rows_of (found_of matches.now)) }
+{
+    has(matches, "fold") || has(matches, "posix") || has(matches, "quiet")
+}
+
+/// The making of tables, with what was met.
+fn generating(alloc: Global, matches: &ArgMatches<'_>) -> Result<Job, ArgsError>
+    ensures named { IfOk result IsNamed }
+    ensures made { IfOk result (Makes (rows_of (found_of matches.now))) }
+    ensures memory { IfErr result (λ e. e ≡ ArgsError.OutOfMemory) }
+{
+    let out = match value_of(matches, "out") {
+        None => None,
+        Some(name) => Some(String::from_str(alloc, name)?),
+    };
+    Ok(Job::Generate {
+        files: files_of(alloc, matches)?,
+        out,
+        stdout: has(matches, "stdout"),
+        stats: has(matches, "stats") && !has(matches, "no-stats"),
+        backup: has(matches, "backup"),
+        fold: has(matches, "fold"),
+        posix: has(matches, "posix"),
+        quiet: has(matches, "quiet"),
+    })
+}
+
+/// The files that were met.
+fn files_of(alloc: Global, matches: &ArgMatches<'_>) -> Result<Vec<String>, AllocError>
+    ensures { IfOk result (λ v. map string_bytes v.items ≡ files_of (rows_of (found_of matches.now))) }
+{
+    match values_of(matches, "file") {
+        None => Ok(Vec::new(alloc)),
+        Some(names) => copied(alloc, names),
+    }
+}
+
+/// The names, as texts of their own.
+fn copied(alloc: Global, names: &[&str]) -> Result<Vec<String>, AllocError>
+    ensures { IfOk result (λ v. map string_bytes v.items ≡ map (λ n. n.now) names.now) }
+{
+    let mut copies = Vec::new(alloc);
+    for name in names {
+        copies.push(String::from_str(alloc, *name)?)?;
+    }
+    Ok(copies)
+}
+
+/// The scan by the specification in the file.
+fn scanning_by_spec(alloc: Global, matches: &ArgMatches<'_>, file: &str) -> Result<Job, ArgsError>
+    ensures named { IfOk result IsNamed }
+    ensures scans { IfOk result (ScansBySpec (rows_of (found_of matches.now)) file.now) }
+    ensures refused { IfErr result (λ e. e ≡ ArgsError.Usage
+        → (makes_tables (rows_of (found_of matches.now)) ≡ true) ⊎ (file.now ≡ codes "-")) }
+{
+    if makes_tables(matches) || file == "-" {
+        return Err(ArgsError::Usage);
+    }
+    Ok(Job::ScanSpec {
+        file: String::from_str(alloc, file)?,
+        fold: has(matches, "fold"),
+        posix: has(matches, "posix"),
+        quiet: has(matches, "quiet"),
+    })
+}
+
+/// The scan by the table in the file.
+fn scanning_by_table(alloc: Global, matches: &ArgMatches<'_>, file: &str) -> Result<Job, ArgsError>
+    ensures named { IfOk result IsNamed }
+    ensures scans { IfOk result (ScansByTable (rows_of (found_of matches.now)) file.now) }
+    ensures refused { IfErr result (λ e. e ≡ ArgsError.Usage
+        → (makes_tables (rows_of (found_of matches.now)) ≡ true)
+        ⊎ ((reads_patterns (rows_of (found_of matches.now)) ≡ true) ⊎ (file.now ≡ codes "-"))) }
+{
+    if makes_tables(matches) || reads_patterns(matches) || file == "-" {
+        return Err(ArgsError::Usage);
+    }
+    Ok(Job::ScanTable {
+        file: String::from_str(alloc, file)?,
+    })
+}

@@ -1,4 +1,0 @@
-pub mod Args
-pub mod CommandLine
-pub mod CommandExamples
-pub mod Refusal

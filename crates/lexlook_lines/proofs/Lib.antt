@@ -1,9 +1,0 @@
-pub mod Deeds
-pub mod Does
-pub mod Settles
-pub mod Bytes
-pub mod Homes
-pub mod Shifts
-pub mod Apart
-pub mod Searches
-pub mod Fronts

@@ -1,8 +1,0 @@
-use Rattle.std.proofs.Common.{◌≡◌, drop, map}
-use Rattle.std.specs.List.{list_any}
-use Rattle.lex_machine.specs.Views.{statement_of}
-use Rattle.lexlook_lines.specs.Lines.{is_unsteady}
-use Rattle.lexlook_lines.proofs.actions.any_unsteady.Given as goal
-
-abbrev pub invariant-loop-statement : goal.invariant-loop-statement
-invariant-loop-statement l = list_any is_unsteady (map statement_of (drop l.statement-index l.statements)) ≡ list_any is_unsteady (map statement_of l.statements)

@@ -1,6 +1,0 @@
-use Rattle.std.proofs.Common.{ℕ, ◌<◌}
-use Rattle.lexlook_lines.specs.Lines.{LinesEnd}
-use Rattle.lexlook_lines.proofs.cutting.find_obstacle.Given as goal
-
-abbrev pub invariant-loop-condition : goal.invariant-loop-condition
-invariant-loop-condition g l = (c : ℕ) → c < l.condition → LinesEnd (g.M.Machine.machine l.machine) c

@@ -1,6 +1,0 @@
-use Rattle.std.proofs.Common.{◌≡◌, ℕ, ◌<◌, true}
-use Rattle.lexlook_lines.specs.Lines.{is_steady}
-use Rattle.lexlook_lines.proofs.cutting.unsteady_rule.Given as goal
-
-abbrev pub invariant-loop-rule : goal.invariant-loop-rule
-invariant-loop-rule g l = (i : ℕ) → i < l.rule → is_steady ((g.M.Machine.machine l.machine).statements i) ≡ true

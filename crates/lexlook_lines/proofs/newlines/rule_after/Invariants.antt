@@ -1,5 +1,0 @@
-use Rattle.std.proofs.Common.{◌≡◌, ℕ, ◌<◌, []}
-use Rattle.lexlook_lines.proofs.newlines.rule_after.Given as goal
-
-abbrev pub invariant-bytes : goal.invariant-bytes
-invariant-bytes g l = (b : ℕ) → b < l.byte → (g.M.Machine.machine l.machine).accepts ((g.M.Machine.machine l.machine).next l.state b) ≡ []

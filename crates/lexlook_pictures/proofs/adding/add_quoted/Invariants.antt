@@ -1,6 +1,0 @@
-use Rattle.std.proofs.Common.{◌≡◌, ◌++◌, take}
-use Rattle.lexlook_pictures.specs.Pictures.{quoted}
-use Rattle.lexlook_pictures.proofs.adding.add_quoted.Given as goal
-
-abbrev pub invariant-loop-byte : goal.invariant-loop-byte
-invariant-loop-byte l = l.text.items ≡ l.fn.text.items ++ quoted (take l.byte-index l.bytes)

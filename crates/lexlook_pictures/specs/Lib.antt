@@ -1,4 +1,0 @@
-pub mod Classes
-pub mod Sets
-pub mod Pictures
-pub mod Faults

@@ -1,4 +1,0 @@
-pub mod Same
-pub mod Searching
-pub mod Scans
-pub mod Comparing

@@ -1,0 +1,11 @@
+pub mod Joining
+pub mod Writing
+pub mod Sounding
+pub mod Acts
+pub mod Matching
+pub mod Turning
+pub mod Takers
+pub mod Led
+pub mod Places
+pub mod Told
+pub mod Rejected

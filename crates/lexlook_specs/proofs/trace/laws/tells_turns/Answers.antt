@@ -1,0 +1,5 @@
+use Rattle.lexlook_specs.proofs.Turning as Turning
+use Rattle.lexlook_specs.proofs.trace.laws.tells_turns.Goals as goal
+
+pub returns : goal.returns
+returns c = λ S sound. Turning.tells_turns S sound

@@ -1,0 +1,11 @@
+pub mod Classes
+pub mod Sets
+pub mod Pictures
+pub mod Faults
+pub mod Traced
+pub mod Lines
+pub mod TraceLaw
+pub mod Matches
+pub mod Words
+pub mod Placing
+pub mod Rejecting

@@ -1,0 +1,12 @@
+//! Shows for each rule of a specification the first of the shortest texts that it takes, or which rules take its texts;
+//! and the first byte that the default rule copies.
+
+mod actions;
+mod copying;
+mod finding;
+mod placing;
+mod starting;
+mod taking;
+
+pub use actions::{rejecting, rejects_of};
+pub use finding::{Place, Word, Words, find_words};

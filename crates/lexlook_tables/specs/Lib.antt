@@ -1,0 +1,7 @@
+pub mod Same
+pub mod Searching
+pub mod Scans
+pub mod Comparing
+pub mod Lines
+pub mod Reaching
+pub mod Obstacles

@@ -1,0 +1,25 @@
+//! Whether pieces of an input may be scanned apart by a table.
+ghost use Rattle.std.specs.Prelude.{◌≡◌, None, IfOk, IfSome};
+ghost use Rattle.lex_semantics.specs.Machine.{rules_of_machine};
+ghost use Rattle.lextab_packed.specs.Machines.{table_machine};
+ghost use Rattle.lexlook_tables.specs.Lines.{ScansApart};
+ghost use Rattle.lexlook_tables.specs.Obstacles.{Hinders};
+
+use crate::lines::cutting::{Obstacle, Sizes, find_obstacle};
+use lextab_packed::Tables;
+use std::alloc::{AllocError, Global};
+
+/// What stands against a cut of an input after any of its newlines, where it is scanned by these tables; nothing where
+/// the pieces may be scanned apart, and what is written put together.
+pub fn find_obstacle_in(alloc: Global, tables: &Tables) -> Result<Option<Obstacle>, AllocError>
+    ensures none { IfOk result (λ found. found ≡ None → ScansApart (rules_of_machine (table_machine tables.now))) }
+    ensures some { IfOk result (λ found. IfSome found (Hinders (table_machine tables.now))) }
+{
+    let parts = tables.parts();
+    let sizes = Sizes {
+        states: parts.rows.len() as u32,
+        conditions: parts.conditions.len() as u8,
+        rules: parts.rules.len() as u32,
+    };
+    find_obstacle(alloc, tables, sizes)
+}

@@ -1,0 +1,11 @@
+//! Says whether two machines do the same of each match, and else shows the first of the shortest texts of which they
+//! do not.
+
+mod deeds;
+mod differing;
+mod pairs;
+mod tables;
+
+pub use deeds::{number_in, rules_after};
+pub use differing::Difference;
+pub use tables::{Comparison, compare, counts_all};

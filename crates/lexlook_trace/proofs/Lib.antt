@@ -1,4 +1,0 @@
-pub mod Sounding
-pub mod Acts
-pub mod Matching
-pub mod Turning

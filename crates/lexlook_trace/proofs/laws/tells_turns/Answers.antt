@@ -1,5 +1,0 @@
-use Rattle.lexlook_trace.proofs.Turning as Turning
-use Rattle.lexlook_trace.proofs.laws.tells_turns.Goals as goal
-
-pub returns : goal.returns
-returns c = λ S sound. Turning.tells_turns S sound

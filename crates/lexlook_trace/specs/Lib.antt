@@ -1,3 +1,0 @@
-pub mod Traced
-pub mod Lines
-pub mod TraceLaw

@@ -1,5 +1,0 @@
-use Rattle.lexauto_reports.proofs.Accepting.{among_get}
-use Rattle.lexlook_words.proofs.taking.taken.Goals as goal
-
-pub bounds-rejects-rules : goal.bounds-rejects-rules
-bounds-rejects-rules c = c.requires _ (among_get c.args.rules.now c.loop-place.place c.loop-place-test.true)

@@ -1,6 +1,0 @@
-use Rattle.std.proofs.Common.{◌≡◌, drop}
-use Rattle.lexlook_words.proofs.Takers.{first_kept}
-use Rattle.lexlook_words.proofs.taking.taker.Given as goal
-
-abbrev pub invariant-loop-rule : goal.invariant-loop-rule
-invariant-loop-rule l = first_kept l.rejects l.rules ≡ first_kept l.rejects (drop l.rule-index l.rules)

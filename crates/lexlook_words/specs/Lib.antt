@@ -1,4 +1,0 @@
-pub mod Matches
-pub mod Words
-pub mod Placing
-pub mod Rejecting

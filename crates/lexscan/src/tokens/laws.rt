@@ -1,0 +1,14 @@
+//! The laws of tokens.
+ghost use Rattle.lex_semantics.specs.Machine.{Machine, rules_of_machine};
+ghost use Rattle.lex_semantics.specs.MachineLaws.{MachineLaws};
+ghost use Rattle.lex_semantics.specs.Rules.{rules_of};
+ghost use Rattle.lex_semantics.specs.Sound.{IsSound};
+ghost use Rattle.lex_semantics.specs.Spec.{Spec};
+ghost use Rattle.lex_semantics.specs.TableFor.{TableFor};
+ghost use Rattle.lexscan.specs.Tokens.{SameTokens};
+
+/// The tokens by a machine that is a table for a specification are those of the specification.
+pub fn table_tokens()
+    ensures { (M : Machine) (S : Spec) → MachineLaws M → IsSound S → TableFor M S
+        → SameTokens (rules_of_machine M) (rules_of S) }
+{}

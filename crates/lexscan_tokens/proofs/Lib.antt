@@ -1,3 +1,0 @@
-pub mod Lying
-pub mod SoFar
-pub mod Tables

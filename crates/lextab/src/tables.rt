@@ -1,0 +1,63 @@
+//! The packed tables of an automaton, with the actions of its specification.
+ghost use Rattle.std.specs.Prelude.{◌≡◌, ℕ, ◌≤◌, length, IfOk};
+ghost use Rattle.lex_semantics.specs.TableFor.{TableFor};
+ghost use Rattle.lexauto_dfa.specs.Parts.{conditions, states, lists_in};
+ghost use Rattle.lexauto_dfa.specs.Invariant.{IsAutomaton};
+ghost use Rattle.lexauto_dfa.specs.Automata.{machine_of, conditions_of, states_of, next_of};
+ghost use Rattle.lexspec.specs.Views.{spec_of, conditions_in};
+ghost use Rattle.lextab_packed.specs.Views.{table_of};
+ghost use Rattle.lextab_packed.specs.Machines.{table_machine, table_parts};
+ghost use Rattle.lextab.specs.Assembled.{assembled, HasTexts};
+ghost use Rattle.lextab.specs.Packing.{IsPacked};
+ghost use Rattle.lextab.specs.Views.{packing_of};
+
+use crate::assembling::{table_conditions, table_rows, table_rules};
+use crate::packing::{Packed, pack_rows};
+use lexauto_dfa::{Dfa, OutOfMemory, Parts};
+use lexspec::Spec;
+use lextab_packed::{TableParts, Tables};
+use std::alloc::{AllocError, Global};
+
+/// The parts of the table of an automaton that is packed so.
+fn table_parts(
+    alloc: Global,
+    parts: &Parts,
+    spec: &Spec,
+    packed: Packed,
+) -> Result<TableParts, AllocError>
+    requires automaton { IsAutomaton parts.now }
+    requires conditions { conditions parts.now ≡ length (conditions_in (spec_of spec.now)) }
+    requires defaults { length packed.defaults.items ≡ states parts.now }
+    requires bases { length packed.bases.items ≡ states parts.now }
+    requires classes { packed.class_count ≤ 256 }
+    ensures table { IfOk result (λ t. table_of t ≡ assembled parts.now (spec_of spec.now) (packing_of packed)) }
+    ensures texts { IfOk result (λ t. HasTexts (table_of t)) }
+{
+    let conditions = table_conditions(alloc, &parts.starts, &parts.line_starts, spec.conditions())?;
+    let rules = table_rules(alloc, spec.rules())?;
+    let rows = table_rows(alloc, &packed.defaults, &packed.bases, &parts.accepts)?;
+    Ok(TableParts {
+        conditions,
+        rules,
+        classes: packed.class_count as u32,
+        class_of: packed.class_of,
+        rows,
+        checks: packed.check,
+        nexts: packed.next,
+    })
+}
+
+/// The packed tables of an automaton that is one for the specification: its byte classes, defaults, bases and slots are
+/// those of first fit in order of state number, and the machine is the automaton's with the specification's actions.
+pub fn pack(alloc: Global, dfa: &Dfa, spec: &Spec) -> Result<Tables, OutOfMemory>
+    requires conditions { conditions_of dfa.now ≡ length (conditions_in (spec_of spec.now)) }
+    requires table { TableFor (machine_of dfa.now (spec_of spec.now)) (spec_of spec.now) }
+    ensures packed { IfOk result (λ t. IsPacked (states_of dfa.now) (next_of dfa.now) (table_of (table_parts t))) }
+    ensures machine { IfOk result (λ t. table_machine t ≡ machine_of dfa.now (spec_of spec.now)) }
+{
+    let parts = dfa.parts();
+    let packed = pack_rows(alloc, &parts.next, parts.goes_on.len())?;
+    let table = table_parts(alloc, parts, spec, packed)?;
+    let goes_on = Vec::from_slice(alloc, &parts.goes_on)?;
+    Ok(Tables::new(table, goes_on))
+}

@@ -1,5 +1,0 @@
-use Rattle.lextab_packing.specs.Searching.{AreFilled}
-use Rattle.lextab_packing.proofs.filling.fill.Given as goal
-
-abbrev pub invariant-loop-k : goal.invariant-loop-k
-invariant-loop-k l = AreFilled l.entries l.row l.base l.state l.k-index l.fn.check l.fn.next l.check l.next

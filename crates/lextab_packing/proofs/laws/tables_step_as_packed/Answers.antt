@@ -1,5 +1,0 @@
-use Rattle.lextab_packing.proofs.Columns.{steps_as_packed}
-use Rattle.lextab_packing.proofs.laws.tables_step_as_packed.Goals as goal
-
-pub returns : goal.returns
-returns c = steps_as_packed

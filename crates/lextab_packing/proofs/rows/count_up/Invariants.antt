@@ -1,6 +1,0 @@
-use Rattle.std.proofs.Common.{◌≡◌, ℕ, slice_index}
-use Rattle.lextab_packing.specs.Columns.{often}
-use Rattle.lextab_packing.proofs.rows.count_up.Given as goal
-
-abbrev pub invariant-loop-target : goal.invariant-loop-target
-invariant-loop-target l = (t : ℕ) → slice_index l.counts t ≡ often (slice_index l.row) l.target-index t

@@ -1,5 +1,0 @@
-use Rattle.lextab_packing.specs.Searching.{AreEntries}
-use Rattle.lextab_packing.proofs.rows.read_entries.Given as goal
-
-abbrev pub invariant-loop-k : goal.invariant-loop-k
-invariant-loop-k l = AreEntries l.row l.default l.k l.entries.items

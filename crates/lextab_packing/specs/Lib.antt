@@ -1,9 +1,0 @@
-pub mod Plain
-pub mod Below
-pub mod Classes
-pub mod Packing
-pub mod Columns
-pub mod PackingExamples
-pub mod Searching
-pub mod Views
-pub mod Assembled
