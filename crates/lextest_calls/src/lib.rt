@@ -6,6 +6,8 @@
 mod automata;
 #[cfg(test)]
 mod building;
+#[cfg(test)]
+mod c_pieces;
 pub mod caller;
 #[cfg(test)]
 mod error_words;
