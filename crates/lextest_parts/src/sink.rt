@@ -62,6 +62,47 @@ fn writes_all_or_tells_a_fault(rt: HostRuntime) {
     }
 }
 
+/// Takes two bytes in a write. One of its writes fails, after so many that do not; those behind it work again.
+#[derive(Drop)]
+struct FailsOnce {
+    taken: Vec<u8>,
+    before: usize,
+    failed: bool,
+}
+
+impl Write for FailsOnce {
+    fn write(&mut self, buf: &[u8]) -> io::Result<usize> {
+        if self.before == 0 && !self.failed {
+            self.failed = true;
+            return Err(io::Error::from(io::ErrorKind::Interrupted));
+        }
+        self.before = self.before.saturating_sub(1);
+        let count = buf.len().min(2);
+        self.taken.extend_from_slice(&buf[..count])?;
+        Ok(count)
+    }
+
+    fn flush(&mut self) -> io::Result<()> {
+        Ok(())
+    }
+}
+
+/// A write that failed is not tried again, though it would work: nothing comes behind what was written before it.
+#[test]
+fn tries_no_failed_write_again(rt: HostRuntime) {
+    const ROWS: &[(usize, &[u8])] = &[(0, b""), (1, b"ab"), (2, b"abcd")];
+    for &(before, written) in ROWS {
+        let taken = Vec::new(rt.alloc());
+        let mut sink = ToWrite::new(FailsOnce {
+            taken,
+            before,
+            failed: false,
+        });
+        assert!(rt; sink.put(b"abcde").is_err(), "after {before}");
+        assert!(rt; sink.into_inner().taken.as_slice() == written);
+    }
+}
+
 #[test]
 fn tells_a_failed_flush(rt: HostRuntime) {
     let mut sink = ToWrite::new(dripping(rt.alloc(), 0, Full::Nothing));
