@@ -69,7 +69,7 @@ fn goes(alloc: Global, scan: &mut Scan, pieces: &[Fed]) -> bool {
 fn scans(alloc: Global, pieces: &[Fed], answer: Answer, status: u8) -> bool {
     let mut scan = Scan::closed();
     let so = goes(alloc, &mut scan, pieces) && finishes(alloc, &mut scan, answer, b"", status);
-    close_scan(alloc, &mut scan);
+    scan.close(alloc);
     so
 }
 
@@ -118,7 +118,7 @@ fn forgets(alloc: Global) -> bool {
     let so = goes(alloc, &mut scan, &[(b"1", 16, Answer::Done, b"")])
         && goes(alloc, &mut scan, &[(b"2 ", 16, Answer::Done, b"N ")])
         && finishes(alloc, &mut scan, Answer::Done, b"", 0);
-    close_scan(alloc, &mut scan);
+    scan.close(alloc);
     so
 }
 
@@ -135,7 +135,9 @@ fn stays_closed(alloc: Global) -> bool {
         && feeds(alloc, &mut scan, b"a", 16, Answer::Closed, b"")
         && finishes(alloc, &mut scan, Answer::Closed, b"", 0);
     close_scan(alloc, &mut scan);
-    so && feeds(alloc, &mut scan, b"a", 16, Answer::Closed, b"")
+    let so = so && feeds(alloc, &mut scan, b"a", 16, Answer::Closed, b"");
+    scan.close(alloc);
+    so
 }
 
 #[test]

@@ -29,6 +29,14 @@ impl Scan {
         }
     }
 
+    /// Closes it, and gives its memory back: for callers in Rattle, who have to end what they own.
+    pub fn close(self, alloc: Global) {
+        match self.into_box(alloc) {
+            None => {}
+            Some(_) => {}
+        }
+    }
+
     fn holding(scan: Box<PieceScan>) -> Scan
         ensures { result.place.value ≡ Some scan.value }
     {
