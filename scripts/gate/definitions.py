@@ -20,6 +20,8 @@ SURFACE = ["lexre", "lexspec", "lexauto", "lextab", "lexscan", "lexkit", "lex_co
 NAME = r"[A-Za-z_][\w'-]*"
 # A word and its path. A field of something in parentheses is none, nor is the name of a field of a record that is written.
 WORD = re.compile(rf"(?<![\w.'])({NAME}(?:\.{NAME})*|>>=)(?! = )")
+# A text in quotes, which may have what a comment begins with, or a comment.
+TEXT_OR_COMMENT = re.compile(r'("(?:[^"\\\n]|\\.)*")|(?:--|//).*')
 USE = re.compile(r"^\s*(?:ghost |pub )?use Rattle\.(\w+)\.specs\.([\w.]+?)(?:\.\{([^}]*)\})?(?: as (\w+))?;?$")
 DEFINITION = re.compile(r"(?:(?:abbrev|unfoldable|instance|pub|record|data) )+([^\s:]+)|(\S+) :")
 BLOCK = re.compile(r"(abbrev |unfoldable )*mutual$|module .* where$")
@@ -99,7 +101,7 @@ class Specs:
 
     def cited(self, text, known, here=None):
         """The definitions that a text names, where `known` are its imports and `here` is its module."""
-        for word in WORD.findall(re.sub(r"(--|//).*", "", text)):
+        for word in WORD.findall(TEXT_OR_COMMENT.sub(lambda found: '""' if found[1] else "", text)):
             first, *rest = ("◌>>=◌" if word == ">>=" else word).split(".")
             if first == "Rattle" and len(rest) > 3:
                 crate, _, module, name, *_ = rest
