@@ -9,7 +9,9 @@ mod escapes;
 mod from_bytes;
 mod memory_sink;
 mod memory_source;
+mod null_sink;
 mod sink;
+mod slice_source;
 mod source;
 mod to_bytes;
 
@@ -20,6 +22,8 @@ pub use escapes::octal;
 pub use from_bytes::FromBytes;
 pub use memory_sink::MemorySink;
 pub use memory_source::MemorySource;
+pub use null_sink::NullSink;
 pub use sink::{Sink, ToWrite, WriteFault};
+pub use slice_source::SliceSource;
 pub use source::{FromRead, ReadFault, Source};
 pub use to_bytes::ToBytes;

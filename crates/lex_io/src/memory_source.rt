@@ -1,4 +1,5 @@
-//! A source over memory that pauses once, at a stated place, for tests.
+//! A source over a slice for tests: it may fail or end once, at a stated place, and counts the calls. `slice_source` has the
+//! one that does neither.
 ghost use Rattle.std.specs.Prelude.{◌≡◌, refl, ℕ, ◌+◌, ◌-◌, ◌^◌, ◌<◌, ◌≤◌, min, Bool, true, false};
 ghost use Rattle.std.specs.Prelude.{List, [], ◌++◌, length, take, None, Some, ◌⊎◌, ◌↔◌};
 ghost use Rattle.lex_io.specs.Sink.{fault_count};

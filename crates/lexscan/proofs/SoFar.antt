@@ -20,11 +20,11 @@ use Rattle.lexscan_window.specs.declared.state.State.{State}
 use Rattle.lexscan.specs.declared.turn.Turn.{Turn}
 use Rattle.lexscan_window.specs.declared.error.RunError.{RunError}
 use Rattle.lexscan_window.specs.declared.error.RunError.TheVariants.{Read, TooManyReads, Write, OutOfMemory, Stack, Failed}
-use Rattle.lexscan.specs.Descends.{ending_of}
+use Rattle.lexscan_matching.specs.Descends.{ending_of}
 use Rattle.lexscan.specs.Matches.{match_in, text_of, TellsMatch}
-use Rattle.lexscan.specs.Reads.{end_step, read_fault_count, write_fault_count}
+use Rattle.lexscan_window.specs.Reads.{end_step, read_fault_count, write_fault_count}
 use Rattle.lexscan.specs.Stands.{Stands, Fell, RanTo, state_of, GoesOn}
-use Rattle.lexscan.specs.declared.tokens.listing.Token.{Token}
+use Rattle.lexscan.specs.declared.token.Token.{Token}
 use Rattle.lexscan.specs.Tokens.{token_by, tokens_by, Appends, TokensOf, Tokenised, Stopped, LieIn}
 
 front : (x given : List ℕ) (known : Option (List ℕ)) → Consumes (Some x) known given → GoesOnFrom given false x

@@ -21,5 +21,3 @@ pub mod Attempts
 pub mod Steps
 pub mod Scans
 pub mod Tokens
-pub mod Discards
-pub mod Inputs

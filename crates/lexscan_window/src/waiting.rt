@@ -1,6 +1,6 @@
 //! A source over bytes that wait in memory.
 ghost use Rattle.std.specs.Prelude.{◌≡◌, refl, ℕ, ◌+◌, ◌-◌, ◌^◌, ◌<◌, ◌≤◌, false, List, [], ◌++◌, length, take};
-ghost use Rattle.lex_io.specs.Taking.{never-waits};
+ghost use Rattle.lex_io.specs.Taking.{never-fails, never-waits};
 
 use lex_io::{ReadFault, Source};
 
@@ -47,7 +47,7 @@ impl<'a> Waiting<'a> {
 
 impl Source for Waiting<'_> {
     ghost use Rattle.lexscan_window.specs.Waits.{bytes_left, bytes_ready, ends_told, GivesWaiting};
-    ghost use Rattle.lexscan_window.specs.Waits.{gives-none, gives-more, no-failures};
+    ghost use Rattle.lexscan_window.specs.Waits.{gives-none, gives-more};
 
     ghost gave = { λ s xs t. GivesWaiting (bytes_left s) (ends_told s) (bytes_left t) (ends_told t) xs };
 
@@ -99,5 +99,5 @@ impl Source for Waiting<'_> {
 
     ghost ends_bound = { λ s. s.ends_bound };
 
-    ghost failures_bound = { λ s. no-failures };
+    ghost failures_bound = { λ s. never-fails };
 }

@@ -4,18 +4,18 @@ use Rattle.lex_machine.proofs.Growing.{is_text_from}
 use Rattle.lex_semantics.specs.Text.{IsText}
 use Rattle.lexscan.specs.Matches.{match_in}
 use Rattle.lexscan.specs.Moves.{Says}
-use Rattle.lexscan.specs.Reads.{end_step}
+use Rattle.lexscan_window.specs.Reads.{end_step}
 use Rattle.lexscan.specs.Stands.{GoesOn}
 use Rattle.lexscan.proofs.Lasting as Last
 use Rattle.lex_semantics.specs.Machine.{rules_of_machine}
 use Rattle.lexscan_window.specs.declared.error.RunError.TheVariants.{OutOfMemory}
-use Rattle.lexscan.specs.declared.tokens.listing.Token.{Token}
+use Rattle.lexscan.specs.declared.token.Token.{Token}
 use Rattle.lex_semantics.specs.Acting.{Status}
 use Rattle.lexscan.specs.Tokens.{tokens_by, Stopped, Tokenised}
 use Rattle.std.proofs.lemmas.Result.{err_from_is_err_and}
 use Rattle.lexscan.proofs.Lying.{lie_after}
 use Rattle.lexscan.proofs.SoFar.{Listed, listed_more, listed_all, stopped_at, stopped_by_memory}
-use Rattle.lexscan.proofs.tokens.listing.tokens.Goals as goal
+use Rattle.lexscan.proofs.token.tokens.Goals as goal
 
 pub turns-smaller : goal.turns-smaller
 turns-smaller g c =
