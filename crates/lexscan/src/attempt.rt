@@ -3,7 +3,7 @@ ghost use Rattle.std.specs.Prelude.{◌≡◌, ◌≤◌, false};
 ghost use Rattle.lexscan_window.specs.Intakes.{source_of, sink_of};
 ghost use Rattle.lexscan.specs.Ties.{HandedOn};
 ghost use Rattle.lexscan.specs.Scans.{IsGoing, MayTurn, SameEnds};
-ghost use Rattle.lexscan.specs.Pushes.{Standing, WentBack, TurnsOver};
+ghost use Rattle.lexscan.specs.Pushes.{IsReachable, WentBack, TurnsOver};
 ghost use Rattle.lexscan.specs.Attempts.{Attempted, IsPaused, FewCounts, TurnsCount, TurnsLeft};
 
 use crate::further::MOST_SHOWN;
@@ -38,7 +38,7 @@ impl Scan {
     ) -> Result<Option<Turn>, RunError>
         requires going { IsGoing self.old }
         requires ready { MayTurn (M.machine machine.now) ends.old self.old }
-        requires stood { Standing (M.machine machine.now) self.old.state }
+        requires reachable { IsReachable (M.machine machine.now) self.old.state }
         ensures { Attempted (M.machine machine.now) ends.old ends.new self.old self.new result }
     {
         let place = self.state.place;

@@ -9,7 +9,7 @@ ghost use Rattle.lexscan_window.specs.Reads.{write_fault_count};
 ghost use Rattle.lexscan.specs.Attempts.{IsPaused, SinkCounts, MayBeFed, PieceLeft};
 ghost use Rattle.lexscan.specs.Stacks.{AllBelow-prop};
 ghost use Rattle.lexscan.specs.Ties.{HandedOn, RunHandedOn};
-ghost use Rattle.lexscan.specs.Pushes.{Standing, Standing-prop, IsAsking, IsAsking-prop, Fed, AfterFeed, AfterFinish};
+ghost use Rattle.lexscan.specs.Pushes.{IsReachable, IsReachable-prop, IsAsking, IsAsking-prop, Fed, AfterFeed, AfterFinish};
 
 use crate::asking::{walk_all, walk_on};
 use crate::scan::Scan;
@@ -144,8 +144,8 @@ pub struct PushScanner<M: Machine> {
             (AllBelow-prop (M.machine machine).conditions scan.state.acting.stack) },
     ghost marks: { scan.state.failed ≡ false → AreTrue (M.machine machine) scan.state.reading scan.memo } by { →_prop
         (AreTrue-prop (M.machine machine) scan.state.reading scan.memo) },
-    ghost stood: { scan.state.failed ≡ false → Standing (M.machine machine) scan.state } by { →_prop
-        (Standing-prop (M.machine machine) scan.state) },
+    ghost reachable: { scan.state.failed ≡ false → IsReachable (M.machine machine) scan.state } by { →_prop
+        (IsReachable-prop (M.machine machine) scan.state) },
     ghost asking_more: { IsAsking (M.machine machine) (M.states machine) scan.state waiting.items
         asking } by { IsAsking-prop
             (M.machine machine) (M.states machine) scan.state waiting.items asking },

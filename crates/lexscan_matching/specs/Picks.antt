@@ -25,7 +25,7 @@ abbrev pub HasStatements : Machine → Pick → Type 0
 HasStatements M p = map statement_of p.statements.now ≡ M.statements p.rule
 
 -- The longest match of the first bytes from a place on, or none.
-pub record IsLongest (M : Machine) (p : TextPlace) (w : List ℕ) (reach : ℕ) (pick : Option Pick) : Type 0 where
+pub record IsLongestPick (M : Machine) (p : TextPlace) (w : List ℕ) (reach : ℕ) (pick : Option Pick) : Type 0 where
   pub first : IsFirst (falling M 0 (path_of M p w reach)) pick
   pub known : IfSome pick (λ k. k.rule < M.count)
   pub statements : IfSome pick (HasStatements M)
@@ -35,8 +35,8 @@ pub record IsLongest (M : Machine) (p : TextPlace) (w : List ℕ) (reach : ℕ) 
 abbrev pub state_at : Machine → TextPlace → List ℕ → ℕ → ℕ
 state_at M p w n = state_after M p.condition p.line_start (take n (drop p.at w))
 
--- The last two states of those after the bytes that were asked for.
-pub record Tells (M : Machine) (states : ℕ) (p : TextPlace) (w : List ℕ) (ahead : LookAhead) : Type 0 where
+-- These are the last two states of those after the bytes that were asked for.
+pub record HasLastStates (M : Machine) (states : ℕ) (p : TextPlace) (w : List ℕ) (ahead : LookAhead) : Type 0 where
   pub some : 1 ≤ ahead.reach
   pub inside : p.at + ahead.reach ≤ length w
   pub state_is : ahead.state ≡ state_at M p w ahead.reach

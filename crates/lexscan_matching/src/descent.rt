@@ -10,7 +10,7 @@ ghost use Rattle.lexscan_matching.specs.Calls.{RulesTried, MatchesTried};
 use lex_io::Sink;
 use lex_machine::{Cut, Machine};
 use lexscan_window::{
-    ActionState, Finish, MatchedRule, Outlet, RunError, StatePath, Step, Window, carry_out, put,
+    ActionState, Finish, MatchedRule, Outlet, RunError, StatePath, ActionFlow, Window, carry_out, put,
 };
 
 /// What a cut keeps of a match of this many bytes, if it fits.
@@ -45,7 +45,7 @@ fn try_rules<M: Machine, K: Sink>(
     len: usize,
     acting: &mut ActionState,
     matched: &mut Option<MatchedRule>,
-) -> Result<Step, RunError>
+) -> Result<ActionFlow, RunError>
     requires live { can_write outlet.old ≡ true }
     requires place { at + len ≤ length window.now.bytes }
     requires known { (i : ℕ) → Among rules.now i → i < (M.machine machine.now).count }
@@ -63,12 +63,12 @@ fn try_rules<M: Machine, K: Sink>(
             acting.more = false;
             *matched = Some(MatchedRule::Numbered(*rule));
             match carry_out(outlet, window, statements, acting)? {
-                Step::Again => {}
+                ActionFlow::Again => {}
                 stop => return Ok(stop),
             }
         }
     }
-    Ok(Step::Again)
+    Ok(ActionFlow::Again)
 }
 
 /// Tries the matches at a place, the longest first, and carries out the first that is not rejected. Answers how the
@@ -96,9 +96,9 @@ pub fn descend<M: Machine, K: Sink>(
     'lengths: while 0 < len {
         let rules = machine.accepts(path.state(len - 1));
         match try_rules(machine, outlet, window, rules, at, len, acting, matched)? {
-            Step::Next => return Ok(None),
-            Step::Again => {}
-            Step::Over(finish) => return Ok(Some(finish)),
+            ActionFlow::Next => return Ok(None),
+            ActionFlow::Again => {}
+            ActionFlow::Over(finish) => return Ok(Some(finish)),
         }
         len -= 1;
     }

@@ -5,14 +5,14 @@ ghost use Rattle.lex_semantics.specs.PlainMachine.{match_of};
 ghost use Rattle.lex_semantics.specs.MachineLaws.{NoReject};
 ghost use Rattle.lexscan_window.specs.Intakes.{can_write};
 ghost use Rattle.lexscan_matching.specs.Descends.{matches_of};
-ghost use Rattle.lexscan_matching.specs.Picks.{IsFirst, IsLongest, HasStatements, Tells, path_of};
+ghost use Rattle.lexscan_matching.specs.Picks.{IsFirst, IsLongestPick, HasStatements, HasLastStates, path_of};
 ghost use Rattle.lexscan_matching.specs.Calls.{PickedNear, PickCarried};
 
 use crate::descent::kept_length;
 use lex_io::Sink;
 use lex_machine::{Machine, Statement};
 use lexscan_window::{
-    ActionState, Finish, Outlet, RunError, Step, TextPlace, Window, carry_out, put,
+    ActionState, Finish, Outlet, RunError, ActionFlow, TextPlace, Window, carry_out, put,
 };
 
 /// How many bytes a match asked for, the state after them, and the one before the last of them.
@@ -68,7 +68,7 @@ pub fn walk_again<'m, M: Machine>(
     requires condition { place.condition < (M.machine machine.now).conditions }
     requires inside { place.at + reach ≤ length window.now.bytes }
 
-    ensures { IsLongest (M.machine machine.now) place window.now.bytes reach result }
+    ensures { IsLongestPick (M.machine machine.now) place window.now.bytes reach result }
 {
     let held = window.len();
     let mut state = machine.start(place.condition, place.line_start);
@@ -95,7 +95,7 @@ pub fn near_end<'m, M: Machine>(
     ahead: LookAhead,
 ) -> Option<Pick<'m>>
     requires condition { place.condition < (M.machine machine.now).conditions }
-    requires tells { Tells (M.machine machine.now) (M.states machine.now) place window.now.bytes ahead }
+    requires tells { HasLastStates (M.machine machine.now) (M.states machine.now) place window.now.bytes ahead }
 
     ensures { PickedNear (M.machine machine.now) place window.now.bytes ahead.reach result }
 {
@@ -127,7 +127,7 @@ pub fn carry_pick<M: Machine, K: Sink>(
     requires no_reject { NoReject (M.machine machine.now) }
     requires inside { place.at + reach ≤ length window.now.bytes }
     requires some { 1 ≤ reach }
-    requires longest { IsLongest (M.machine machine.now) place window.now.bytes reach pick }
+    requires longest { IsLongestPick (M.machine machine.now) place window.now.bytes reach pick }
 
     ensures { PickCarried (M.machine machine.now) outlet.old outlet.new window.now.bytes place.at
         (matches_of (M.machine machine.now) window.now.bytes place.at
@@ -141,9 +141,9 @@ pub fn carry_pick<M: Machine, K: Sink>(
             acting.end = place.at + pick.keep;
             match carry_out(outlet, window, pick.statements, acting) {
                 Err(e) => Err(e),
-                Ok(Step::Next) => Ok(None),
-                Ok(Step::Again) => Ok(None),
-                Ok(Step::Over(finish)) => Ok(Some(finish)),
+                Ok(ActionFlow::Next) => Ok(None),
+                Ok(ActionFlow::Again) => Ok(None),
+                Ok(ActionFlow::Over(finish)) => Ok(Some(finish)),
             }
         }
         None => {
