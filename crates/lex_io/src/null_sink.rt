@@ -15,12 +15,14 @@ impl Sink for NullSink {
 
     ghost flushed = { λ s. true };
 
+    /// Forgets the bytes.
     #[inline]
     fn put(&mut self, bytes: &[u8]) -> Result<(), WriteFault> {
         let _bytes = bytes;
         Ok(())
     }
 
+    /// There is nothing to hand on.
     #[inline]
     fn flush(&mut self) -> Result<(), WriteFault> {
         Ok(())

@@ -44,6 +44,7 @@ impl Source for SliceSource<'_> {
 
     ghost waits = { λ s. false };
 
+    /// The next byte; after the last of them the end, in each call.
     #[inline]
     fn next(&mut self) -> Result<Option<u8>, ReadFault> {
         match self.rest.split_first() {
@@ -64,6 +65,7 @@ impl Source for SliceSource<'_> {
         self.rest
     }
 
+    /// Gives as many of these bytes.
     #[inline]
     fn give(&mut self, count: usize) {
         self.rest = &self.rest[count..];

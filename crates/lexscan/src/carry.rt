@@ -80,6 +80,7 @@ fn carry_match<M: Machine, K: Sink>(
     ensures { MatchCarried (M.machine machine.now) outlet.old outlet.new state.old state.new
         (path_of (M.machine machine.now) state.old.place state.old.reading.window.bytes reach) result }
 {
+    // The end of the text and yymore are set where the match is carried out; of what the last one left the stack stays.
     state.acting.condition = state.place.condition;
     state.matched = Some(rule_of(pick));
     let place = state.place;

@@ -41,6 +41,7 @@ fn finish_turn<K: Sink>(
 
     ensures { TurnFinished outlet.old outlet.new state.old state.new (Some finish) result }
 {
+    // The end is told only after all that was written has been handed on.
     match flush(outlet) {
         Err(e) => Err(e),
         Ok(()) => match finish {

@@ -83,6 +83,7 @@ fn scan_waiting<M: Machine, K: Sink>(
     ensures left { PieceLeft (M.machine machine.now) (M.states machine.now) scan.new waiting.new.items asking.new
         result }
 {
+    // It was told for the place before these turns.
     *asking = None;
     let before = scan.state.reading.taken;
     let mut source = Waiting::new(waiting.as_slice(), piece);
@@ -270,6 +271,7 @@ impl<M: Machine> PushScanner<M> {
         let Some(count) = count_with(self.scan.state.reading.taken, self.waiting.len(), 0) else {
             return Err(RunError::TooManyReads);
         };
+        // The answer of the end takes a read too.
         self.scan.state.reading.max_reads = count + 1;
         self.asking = None;
         scan_to_end(&self.machine, &mut self.scan, &self.waiting, sink)

@@ -147,6 +147,7 @@ impl<'a, M: Machine, S: Source, K: Sink> Scanner<'a, M, S, K> {
         let rule = self.scan.state.matched?;
         let window = &self.scan.state.reading.window;
         let end = self.scan.state.acting.end;
+        // What is held was taken, and the text lies before the next match: turns keep to both, but no field says so.
         let before = self
             .scan
             .state

@@ -85,6 +85,7 @@ pub fn tokens<M: Machine>(
     let mut sink = NullSink {};
     let mut scanner = Scanner::new(alloc, machine, &mut source, &mut sink, u64::MAX);
     'turns: loop {
+        // The match is made in the condition before its turn, which may set another.
         let condition = scanner.condition();
         let turn = match scanner.turn() {
             Ok(turn) => turn,

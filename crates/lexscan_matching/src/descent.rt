@@ -30,6 +30,7 @@ pub fn kept_length(cut: Cut, len: usize) -> Option<usize>
         }
         Cut::Trail(count) => {
             let count = usize::from(count);
+            // A text is never empty, so the trailing context may not take all of the match.
             if count < len { Some(len - count) } else { None }
         }
     }
@@ -59,6 +60,7 @@ fn try_rules<M: Machine, K: Sink>(
         let (cut, statements) = machine.rule(*rule);
         if let Some(keep) = kept_length(cut, len) {
             prove!(keep <= held - at);
+            // What a rejected rule has written, and the conditions that it set, stay; its text and yymore do not.
             acting.end = at + keep;
             acting.more = false;
             *matched = Some(MatchedRule::Numbered(*rule));
@@ -102,6 +104,7 @@ pub fn descend<M: Machine, K: Sink>(
         }
         len -= 1;
     }
+    // Each rule was rejected, or none matched: the default rule copies one byte, after what yymore kept.
     let held = window.len();
     prove!(at < held);
     acting.end = at + 1;

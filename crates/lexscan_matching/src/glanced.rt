@@ -40,6 +40,7 @@ fn longest_match_again<'m, M: Machine>(machine: &'m M, first: u32, bytes: &[u8])
         state = machine.step(state, bytes[count]);
         count += 1;
         let gist = machine.gist(state);
+        // Where no rule is accepted a shorter match stays the longest.
         if !matches!(gist, Gist::NoRule) {
             longest = GlancedMatch { gist, keep: count };
         }
@@ -75,6 +76,7 @@ pub fn longest_match<'m, M: Machine>(
                 keep: way.count - 1,
             };
         }
+        // A long walk is left to a turn, which marks what it has gone over.
         if FEW < way.count {
             return GlancedMatch {
                 gist: Gist::Any,
@@ -166,6 +168,7 @@ fn do_one<K: Sink>(
             Ok(()) => Ok(condition),
         },
         Statement::Begin(after) => Ok(*after),
+        // No gist has these (`are_simple` of lex_machine).
         Statement::More
         | Statement::Less(_)
         | Statement::Reject
@@ -204,6 +207,7 @@ pub fn do_gist<K: Sink>(
             Err(e) => Err(e),
             Ok(after) => Ok(after),
         },
+        // Of the last two no rule is known: a burst ends before one of these.
         Gist::Silent | Gist::Any | Gist::NoRule => Ok(condition),
     }
 }

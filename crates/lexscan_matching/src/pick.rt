@@ -47,6 +47,7 @@ pub fn first_candidate<'m, M: Machine>(
 {
     for rule in rules {
         let (cut, statements) = machine.rule(*rule);
+        // The rules ascend, so the first that fits is the earliest.
         if let Some(keep) = kept_length(cut, len) {
             return Some(Pick {
                 rule: *rule,
@@ -78,6 +79,7 @@ pub fn walk_again<'m, M: Machine>(
         prove!(place.at <= held && len < held - place.at);
         state = machine.step(state, window.byte(place.at + len));
         len += 1;
+        // A longer match takes the place of a shorter one.
         match first_candidate(machine, machine.accepts(state), len) {
             Some(pick) => best = Some(pick),
             None => {}
@@ -103,6 +105,7 @@ pub fn near_end<'m, M: Machine>(
     if let Some(pick) = first_candidate(machine, machine.accepts(ahead.state), len) {
         return Some(pick);
     }
+    // The state before the first byte is a start: no match ends there.
     if len == 1 {
         return None;
     }
@@ -133,6 +136,7 @@ pub fn carry_pick<M: Machine, K: Sink>(
         (matches_of (M.machine machine.now) window.now.bytes place.at
         (path_of (M.machine machine.now) place window.now.bytes reach)) acting.old acting.new result }
 {
+    // The text begins at the front of the window, with what yymore kept, and the match at its place.
     let held = window.len();
     acting.more = false;
     match pick {
@@ -142,6 +146,7 @@ pub fn carry_pick<M: Machine, K: Sink>(
             match carry_out(outlet, window, pick.statements, acting) {
                 Err(e) => Err(e),
                 Ok(ActionFlow::Next) => Ok(None),
+                // A machine without REJECT never answers this.
                 Ok(ActionFlow::Again) => Ok(None),
                 Ok(ActionFlow::Over(finish)) => Ok(Some(finish)),
             }

@@ -84,10 +84,12 @@ pub fn carry_one<K: Sink>(
         Statement::Print(bytes) => put(outlet, bytes.as_slice())?,
         Statement::Begin(condition) => acting.condition = *condition,
         Statement::More => acting.more = true,
+        // The text is never made longer.
         Statement::Less(count) => acting.end = acting.end.min(usize::from(*count)),
         Statement::Reject => return Ok(ActionFlow::Again),
         Statement::End(status) => return Ok(ActionFlow::Over(Finish::Status(*status))),
         Statement::Push(condition) => {
+            // The condition goes there as this action has set it so far.
             if !acting.stack.push(acting.condition) {
                 return Ok(ActionFlow::Over(Finish::StackFault));
             }

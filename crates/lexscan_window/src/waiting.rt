@@ -59,6 +59,7 @@ impl Source for Waiting<'_> {
 
     ghost waits = { λ s. false };
 
+    /// The next byte, of the second slice where the first is used up; after both their end, in each call.
     fn next(&mut self) -> Result<Option<u8>, ReadFault> {
         match self.rest.split_first() {
             None => {
@@ -66,6 +67,7 @@ impl Source for Waiting<'_> {
                 Ok(None)
             }
             Some((byte, rest)) => {
+                // The second slice moves up, so that bytes are ready wherever any are left.
                 let (rest, later) = in_order(rest, self.later);
                 self.rest = rest;
                 self.later = later;
@@ -74,11 +76,13 @@ impl Source for Waiting<'_> {
         }
     }
 
+    /// What is left of the first slice, or then of the second.
     #[inline(always)]
     fn ahead(&self) -> &[u8] {
         self.rest
     }
 
+    /// Gives as many of these bytes.
     #[inline(always)]
     fn give(&mut self, count: usize) {
         let (rest, later) = in_order(&self.rest[count..], self.later);
@@ -86,6 +90,7 @@ impl Source for Waiting<'_> {
         self.later = later;
     }
 
+    /// Memory is there at once.
     fn may_wait(&self) -> bool {
         false
     }
