@@ -49,7 +49,8 @@ impl Scan {
             Ok(turn) => Ok(Some(turn)),
             Err(e) => match e {
                 RunError::TooManyReads => {
-                    // The turn has noted marks over bytes that are given back.
+                    // The turn has noted marks over bytes that are given back. Each such match is in another state at a
+                    // place, so they are lost no more often than there are states.
                     self.memo.clear();
                     go_back_to(&mut self.state, place, stack, held, taken);
                     Ok(None)
