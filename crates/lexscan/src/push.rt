@@ -83,7 +83,7 @@ fn scan_waiting<M: Machine, K: Sink>(
     ensures left { PieceLeft (M.machine machine.now) (M.states machine.now) scan.new waiting.new.items asking.new
         result }
 {
-    // It was told for the place before these turns.
+    // The state that was kept belongs to the place before these turns.
     *asking = None;
     let before = scan.state.reading.taken;
     let mut source = Waiting::new(waiting.as_slice(), piece);

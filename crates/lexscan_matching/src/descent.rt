@@ -10,7 +10,8 @@ ghost use Rattle.lexscan_matching.specs.Calls.{RulesTried, MatchesTried};
 use lex_io::Sink;
 use lex_machine::{Cut, Machine};
 use lexscan_window::{
-    ActionState, Finish, MatchedRule, Outlet, RunError, StatePath, ActionFlow, Window, carry_out, put,
+    ActionFlow, ActionState, Finish, MatchedRule, Outlet, RunError, StatePath, Window, carry_out,
+    put,
 };
 
 /// What a cut keeps of a match of this many bytes, if it fits.

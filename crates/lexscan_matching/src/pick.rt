@@ -12,7 +12,7 @@ use crate::descent::kept_length;
 use lex_io::Sink;
 use lex_machine::{Machine, Statement};
 use lexscan_window::{
-    ActionState, Finish, Outlet, RunError, ActionFlow, TextPlace, Window, carry_out, put,
+    ActionFlow, ActionState, Finish, Outlet, RunError, TextPlace, Window, carry_out, put,
 };
 
 /// How many bytes a match asked for, the state after them, and the one before the last of them.

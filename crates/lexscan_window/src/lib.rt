@@ -43,7 +43,7 @@ mod waiting;
 mod walk;
 mod window;
 
-pub use act::{ActionState, Finish, ActionFlow, carry_out, put};
+pub use act::{ActionFlow, ActionState, Finish, carry_out, put};
 pub use error::RunError;
 pub use intake::{Intake, Outlet};
 pub use matched::{Candidate, Match, MatchedRule};
