@@ -1,7 +1,6 @@
 //! What a scanner keeps beside its two ends.
 ghost use Rattle.std.specs.Prelude.{◌≡◌, ◌+◌, ◌≤◌, false, None, []};
 ghost use Rattle.lex_semantics.specs.ByteSets.{bit_of};
-ghost use Rattle.lexscan_window.specs.States.{IsFirstReading, IsFirstPlace};
 
 use crate::act::ActionState;
 use crate::matched::MatchedRule;
@@ -41,6 +40,8 @@ pub struct State {
 }
 
 impl State {
+    ghost use Rattle.lexscan_window.specs.States.{IsFirstReading, IsFirstPlace};
+
     /// What a scanner keeps before its first turn.
     pub fn new(alloc: Global, max_reads: u64) -> State
         ensures reading { IsFirstReading max_reads result.reading }
