@@ -1,4 +1,4 @@
--- What is known of a scanner after some turns.
+-- What holds of a scanner between turns, and of a run that was completed or stopped.
 use Rattle.std.specs.Prelude.{◌≡◌, ◌≢◌, ℕ, suc, ◌+◌, ◌≤◌, ◌⊎◌, Bool, true, false, List, [], ◌++◌, length, drop, Some, None, Result, Ok, Err}
 use Rattle.lex_semantics.specs.Text.{IsText, BeginsWith, at_line_start}
 use Rattle.lex_semantics.specs.Rules.{Rules}
@@ -14,10 +14,10 @@ use Rattle.lexscan_window.specs.declared.error.RunError.{RunError}
 use Rattle.lexscan_window.specs.declared.error.RunError.TheVariants.{TooManyReads, Stack, Write}
 use Rattle.lexscan_matching.specs.Descends.{ending_of}
 use Rattle.lexscan_window.specs.Ends.{IsEarly}
-use Rattle.lexscan.specs.Moves.{Says}
+use Rattle.lexscan.specs.TurnSteps.{TellsEnd}
 use Rattle.lexscan.specs.Matches.{match_in, text_of, TellsMatch}
 
--- how the scan stands, where the text starts there
+-- the state of the scan, where the text starts there
 abbrev pub state_of : List ℕ → ℕ → State → Scan.State
 state_of out start s = record {
   written = out;
@@ -25,10 +25,10 @@ state_of out start s = record {
   ended = ending_of s.ended;
 }
 
--- After n turns, none refused: over every input that is consistent with the bytes given they have written these
+-- The invariant between turns, after n of them, none refused: over every input that is consistent with the bytes given they have written these
 -- bytes and led to this place, and they ask for just what the source has told. The bytes held are those from the
 -- text's start on.
-pub record Stands (M : Machine) (n : ℕ) (given out : List ℕ) (s : State) : Type 0 where
+pub record TurnInvariant (M : Machine) (n : ℕ) (given out : List ℕ) (s : State) : Type 0 where
   pub works : s.failed ≡ false
   pub start : ℕ
   pub scanned : Scanned (rules_of_machine M) given s.reading.at_end n (state_of out start s)
@@ -43,7 +43,7 @@ pub record Stands (M : Machine) (n : ℕ) (given out : List ℕ) (s : State) : T
 -- turns ask for with this one. They ask for the end, if the bytes given are all, where the source has answered it, and where
 -- no more reads were allowed; then the turns before do not. Where the turn was refused before its action, what was written is
 -- what the turns before wrote.
-pub record GaveUp (R : Rules) (n : ℕ) (given got out : List ℕ) (at_end : Bool) (e : RunError) : Type 0 where
+pub record RefusedTurn (R : Rules) (n : ℕ) (given got out : List ℕ) (at_end : Bool) (e : RunError) : Type 0 where
   pub text : IsText (given ++ got)
   pub before : Scan.State
   pub end_before : Bool
@@ -56,40 +56,40 @@ pub record GaveUp (R : Rules) (n : ℕ) (given got out : List ℕ) (at_end : Boo
   pub kept : BeginsWith out before.written
   pub whole : e ≢ Write → e ≢ Stack → before.written ≡ out
 
--- The scan has ended: the bytes given are a text, and the turns over every consistent input write this and end so. They
+-- The run was completed: the bytes given are a text, and the turns over every consistent input write this and end so. They
 -- ask for just what the source has told.
-pub record RanTo (R : Rules) (given out : List ℕ) (at_end : Bool) (ending : Ending) : Type 0 where
+pub record RunCompleted (R : Rules) (given out : List ℕ) (at_end : Bool) (ending : Ending) : Type 0 where
   pub text : IsText given
   pub turns : ℕ
   pub place : Scan.Place
   pub scanned : Scanned R given at_end turns (record { written = out; place = place; ended = Some ending })
 
--- The bytes held are those from the text's start on, as the refused turn found it. The stack was at fault where the run
+-- A scanner after a refused turn. The bytes held are those from the text's start on, as that turn found it. The stack was at fault where the run
 -- ends so in this turn, with what was written.
-pub record Fell (M : Machine) (n : ℕ) (given got out : List ℕ) (s : State) (e : RunError) : Type 0 where
+pub record AfterRefusal (M : Machine) (n : ℕ) (given got out : List ℕ) (s : State) (e : RunError) : Type 0 where
   pub failed : s.failed ≡ true
-  pub gave_up : GaveUp (rules_of_machine M) n given got out s.reading.at_end e
-  pub held : s.reading.window.bytes ≡ drop gave_up.before.place.start (given ++ got)
+  pub refused_turn : RefusedTurn (rules_of_machine M) n given got out s.reading.at_end e
+  pub held : s.reading.window.bytes ≡ drop refused_turn.before.place.start (given ++ got)
   pub taken : s.reading.taken ≡ length (given ++ got)
-  pub fault : e ≡ Stack → RanTo (rules_of_machine M) (given ++ got) out s.reading.at_end StackFault
+  pub fault : e ≡ Stack → RunCompleted (rules_of_machine M) (given ++ got) out s.reading.at_end StackFault
   pub at_once : (is : e ≡ Stack) → (fault is).turns ≡ suc n
 
 -- Once the source has answered its end, it gives nothing more.
 abbrev pub NoneAfterEnd : State → State → List ℕ → Type 0
 NoneAfterEnd old new got = old.reading.at_end ≡ true → (got ≡ []) × (new.reading.at_end ≡ true)
 
--- What a turn before the end tells of its match, where the facts hold for some turns before it.
+-- What a turn before the end tells of its match, where the invariant holds before it.
 abbrev pub TurnTells : Machine → State → State → List ℕ → Type 0
-TurnTells M old new got = old.ended ≡ None → (n : ℕ) (given out : List ℕ) → (h : Stands M n given out old) →
+TurnTells M old new got = old.ended ≡ None → (n : ℕ) (given out : List ℕ) → (h : TurnInvariant M n given out old) →
     TellsMatch (rules_of_machine M) (given ++ got) new.reading.at_end (state_of out h.start old).place (match_in new) (text_of (match_in new) new)
 
--- What a turn does: where the facts hold for n turns and two lists, they hold for n + 1 and the lists with its bytes appended; and it tells its match.
+-- A turn preserves the invariant: where it holds after n turns, it holds after n + 1, with the bytes of the turn appended; and the turn tells its match.
 -- A turn that is refused before its action has written nothing.
-abbrev pub GoesOn : Machine → State → State → List ℕ → List ℕ → Result Turn RunError → Type 0
-GoesOn M old new got wrote (Ok turn) = Says turn new.ended × ((n : ℕ) (given out : List ℕ) → Stands M n given out old → Stands M (suc n) (given ++ got) (out ++ wrote) new) × TurnTells M old new got
-GoesOn M old new got wrote (Err e) = (IsEarly e → wrote ≡ []) × ((n : ℕ) (given out : List ℕ) → Stands M n given out old → Fell M n given got (out ++ wrote) new e)
+abbrev pub TurnPreserves : Machine → State → State → List ℕ → List ℕ → Result Turn RunError → Type 0
+TurnPreserves M old new got wrote (Ok turn) = TellsEnd turn new.ended × ((n : ℕ) (given out : List ℕ) → TurnInvariant M n given out old → TurnInvariant M (suc n) (given ++ got) (out ++ wrote) new) × TurnTells M old new got
+TurnPreserves M old new got wrote (Err e) = (IsEarly e → wrote ≡ []) × ((n : ℕ) (given out : List ℕ) → TurnInvariant M n given out old → AfterRefusal M n given got (out ++ wrote) new e)
 
 -- The source gave some bytes in a turn, and the sink was given some.
 abbrev pub MakesTurn : {S K : Type 0} → Machine → (S → List ℕ → S → Type 0) → (K → List ℕ → K → Type 0) → S → S → K → K → State → State → Result Turn RunError → Type 0
 MakesTurn M gave wrote s s' t t' old new result =
-    (got : List ℕ) × (put : List ℕ) × gave s got s' × wrote t put t' × NoneAfterEnd old new got × GoesOn M old new got put result
+    (got : List ℕ) × (put : List ℕ) × gave s got s' × wrote t put t' × NoneAfterEnd old new got × TurnPreserves M old new got put result

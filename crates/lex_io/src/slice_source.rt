@@ -1,50 +1,51 @@
-//! A source over an input in memory.
-ghost use Rattle.std.specs.Prelude.{◌≡◌, ℕ, ◌+◌, ◌^◌, ◌<◌, ◌≤◌, true, false, List, [], ◌++◌, length, take, Some};
+//! A source over a slice: input that is all in memory.
+ghost use Rattle.std.specs.Prelude.{◌≡◌, ℕ, ◌+◌, ◌-◌, ◌^◌, ◌<◌, ◌≤◌, true, false, List, [], ◌++◌, length, take, Some};
 ghost use Rattle.lex_io.specs.Sink.{fault_count};
 ghost use Rattle.lex_io.specs.Source.{given, end_count, Gives};
 ghost use Rattle.lex_io.specs.SourceLaws.{Gives-nil, Gives-trans};
-ghost use Rattle.lex_io.specs.Taking.{never-waits};
-ghost use Rattle.lexscan.specs.Discards.{never-failed};
+ghost use Rattle.lex_io.specs.Taking.{never-fails, never-waits};
 
-use lex_io::{ReadFault, Source};
+use crate::source::{ReadFault, Source};
 
-/// Gives the bytes of an input, and then its end in each call. It never fails.
+/// Gives the bytes of a slice, and then its end in each call. It never fails and never waits.
 #[derive(Drop)]
-pub struct InputBytes<'a> {
+pub struct SliceSource<'a> {
     rest: &'a [u8],
     ends: u64,
     ghost ends_bound: { ends < 2 ^ 64 },
 }
 
-impl<'a> InputBytes<'a> {
-    ghost use Rattle.lexscan.specs.Inputs.{rest_of, ends_of};
+impl<'a> SliceSource<'a> {
+    ghost use Rattle.lex_io.specs.SliceSources.{slice_rest, slice_ends};
 
-    /// Gives these bytes, and has answered no end yet.
-    pub fn new(bytes: &'a [u8]) -> InputBytes<'a>
-        ensures bytes { rest_of result ≡ bytes.entry.now }
-        ensures ends { ends_of result ≡ 0 }
+    /// A source over these bytes, with no end answered yet.
+    pub fn new(bytes: &'a [u8]) -> SliceSource<'a>
+        ensures bytes { slice_rest result ≡ bytes.entry.now }
+        ensures ends { slice_ends result ≡ 0 }
         ensures small { length bytes.entry.now < 2 ^ 63 }
     {
-        InputBytes {
+        SliceSource {
             rest: bytes,
             ends: 0,
         }
     }
 }
 
-impl Source for InputBytes<'_> {
-    ghost use Rattle.lexscan.specs.Inputs.{rest_of, ends_of};
+impl Source for SliceSource<'_> {
+    ghost use Rattle.lex_io.specs.SliceSources.{slice_rest, slice_ends};
 
-    ghost gave = { λ s xs t. Gives (Some (rest_of s)) (Some (rest_of t)) (ends_of s) (ends_of t) xs };
+    ghost gave = { λ s xs t. Gives (Some (slice_rest s)) (Some (slice_rest t)) (slice_ends s) (slice_ends t) xs };
 
-    ghost ends = { λ s. ends_of s };
+    ghost ends = { λ s. slice_ends s };
 
     ghost failures = { λ s. 0 };
 
-    ghost ready = { λ s. rest_of s };
+    ghost ready = { λ s. slice_rest s };
 
     ghost waits = { λ s. false };
 
+    /// The next byte; after the last of them the end, in each call.
+    #[inline]
     fn next(&mut self) -> Result<Option<u8>, ReadFault> {
         match self.rest.split_first() {
             None => {
@@ -58,15 +59,20 @@ impl Source for InputBytes<'_> {
         }
     }
 
+    /// All the bytes that are left.
+    #[inline]
     fn ahead(&self) -> &[u8] {
         self.rest
     }
 
+    /// Gives as many of these bytes.
+    #[inline]
     fn give(&mut self, count: usize) {
         self.rest = &self.rest[count..];
     }
 
     /// Memory is there at once.
+    #[inline]
     fn may_wait(&self) -> bool {
         false
     }
@@ -80,5 +86,5 @@ impl Source for InputBytes<'_> {
 
     ghost ends_bound = { λ s. s.ends_bound };
 
-    ghost failures_bound = { λ s. never-failed };
+    ghost failures_bound = { λ s. never-fails };
 }

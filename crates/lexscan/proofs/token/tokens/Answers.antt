@@ -3,19 +3,19 @@ use Rattle.std.proofs.Common.{◌≡◌, ℕ, ◌+◌, ◌++◌, ◌<◌, ◌^�
 use Rattle.lex_machine.proofs.Growing.{is_text_from}
 use Rattle.lex_semantics.specs.Text.{IsText}
 use Rattle.lexscan.specs.Matches.{match_in}
-use Rattle.lexscan.specs.Moves.{Says}
-use Rattle.lexscan.specs.Reads.{end_step}
-use Rattle.lexscan.specs.Stands.{GoesOn}
+use Rattle.lexscan.specs.TurnSteps.{TellsEnd}
+use Rattle.lexscan_window.specs.Reads.{end_step}
+use Rattle.lexscan.specs.TurnInvariants.{TurnPreserves}
 use Rattle.lexscan.proofs.Lasting as Last
 use Rattle.lex_semantics.specs.Machine.{rules_of_machine}
 use Rattle.lexscan_window.specs.declared.error.RunError.TheVariants.{OutOfMemory}
-use Rattle.lexscan.specs.declared.tokens.listing.Token.{Token}
+use Rattle.lexscan.specs.declared.token.Token.{Token}
 use Rattle.lex_semantics.specs.Acting.{Status}
 use Rattle.lexscan.specs.Tokens.{tokens_by, Stopped, Tokenised}
 use Rattle.std.proofs.lemmas.Result.{err_from_is_err_and}
 use Rattle.lexscan.proofs.Lying.{lie_after}
 use Rattle.lexscan.proofs.SoFar.{Listed, listed_more, listed_all, stopped_at, stopped_by_memory}
-use Rattle.lexscan.proofs.tokens.listing.tokens.Goals as goal
+use Rattle.lexscan.proofs.token.tokens.Goals as goal
 
 pub turns-smaller : goal.turns-smaller
 turns-smaller g c =
@@ -24,11 +24,11 @@ turns-smaller g c =
     let m = now.goes_on in
     let old = c.turns.scanner.scan.state in
     let new = c.turn.new.self.scan.state in
-    let k : GoesOn (g.M.Machine.machine c.args.machine.now) old new m.0 m.1 (Ok c.in-Ok.turn) = subst (λ z. GoesOn (g.M.Machine.machine z) old new m.0 m.1 (Ok c.in-Ok.turn)) inv.same_machine m.5 in
-    let going : new.ended ≡ None = subst (λ t. Says t new.ended) c.in-Went.is k.0 in
+    let k : TurnPreserves (g.M.Machine.machine c.args.machine.now) old new m.0 m.1 (Ok c.in-Ok.turn) = subst (λ z. TurnPreserves (g.M.Machine.machine z) old new m.0 m.1 (Ok c.in-Ok.turn)) inv.same_machine m.5 in
+    let going : new.ended ≡ None = subst (λ t. TellsEnd t new.ended) c.in-Went.is k.0 in
     let h = inv.listed in
     subst (λ n. Last.left_over n new < Last.left_over old.reading.max_reads old) (sym now.max_reads)
-    (Last.turn_falls (g.M.Machine.machine c.args.machine.now) (g.M.Machine.laws c.args.machine.now) old.reading.max_reads h.turns h.given m.0 h.out m.1 old new h.stands (k.1 h.turns h.given h.out h.stands) m.4 going
+    (Last.turn_falls (g.M.Machine.machine c.args.machine.now) (g.M.Machine.laws c.args.machine.now) old.reading.max_reads h.turns h.given m.0 h.out m.1 old new h.invariant (k.1 h.turns h.given h.out h.invariant) m.4 going
     (omega (arith, old.reading.few_reads)) (omega (arith, new.reading.few_reads, now.max_reads)))
 
 pub turns-preserved : goal.turns-preserved
@@ -40,7 +40,7 @@ turns-preserved g c =
     let new = c.turn.new.self.scan.state in
     let input : List ℕ = c.args.input.now in
     let text : IsText input = is_text_from input (λ i. omega (arith, c.type_inv.input i)) in
-    let k : GoesOn (g.M.Machine.machine c.args.machine.now) old new m.0 m.1 (Ok c.in-Ok.turn) = subst (λ z. GoesOn (g.M.Machine.machine z) old new m.0 m.1 (Ok c.in-Ok.turn)) inv.same_machine m.5 in
+    let k : TurnPreserves (g.M.Machine.machine c.args.machine.now) old new m.0 m.1 (Ok c.in-Ok.turn) = subst (λ z. TurnPreserves (g.M.Machine.machine z) old new m.0 m.1 (Ok c.in-Ok.turn)) inv.same_machine m.5 in
     let ends : c.turn.new.self.ends.intake.source.now.ends ≡ 0 + end_step false new.reading.at_end = omega (arith, now.ends, inv.ends, Last.answered_once old.reading.at_end new.reading.at_end (λ e. (m.4 e).1)) in
     let appended : c.append.new.list.items ≡ c.turns.list.items ++ tokens_by (match_in new) old.place.condition =
     c.in_ok-append.ensures.appended ∙ ap (λ z. c.turns.list.items ++ tokens_by z c.condition-condition.result) c.matched.ensures.told ∙ ap (λ n. c.turns.list.items ++ tokens_by (match_in new) n) c.condition-condition.ensures in
@@ -49,7 +49,7 @@ turns-preserved g c =
     inv.listed inv.going inv.ends ends c.in-Ok.turn m.0 m.1 m.2 k) in
     record {
       same_machine = now.same_machine ∙ inv.same_machine;
-      going = subst (λ t. Says t new.ended) c.in-Went.is k.0;
+      going = subst (λ t. TellsEnd t new.ended) c.in-Went.is k.0;
       most = now.max_reads ∙ inv.most;
       ends = ends;
       listed = listed;
@@ -64,14 +64,14 @@ returns-in-Ended g c =
     let new = c.turn.new.self.scan.state in
     let input : List ℕ = c.args.input.now in
     let text : IsText input = is_text_from input (λ i. omega (arith, c.type_inv.input i)) in
-    let k : GoesOn (g.M.Machine.machine c.args.machine.now) old new m.0 m.1 (Ok c.in-Ok.turn) = subst (λ z. GoesOn (g.M.Machine.machine z) old new m.0 m.1 (Ok c.in-Ok.turn)) inv.same_machine m.5 in
+    let k : TurnPreserves (g.M.Machine.machine c.args.machine.now) old new m.0 m.1 (Ok c.in-Ok.turn) = subst (λ z. TurnPreserves (g.M.Machine.machine z) old new m.0 m.1 (Ok c.in-Ok.turn)) inv.same_machine m.5 in
     let ends : c.turn.new.self.ends.intake.source.now.ends ≡ 0 + end_step false new.reading.at_end = omega (arith, now.ends, inv.ends, Last.answered_once old.reading.at_end new.reading.at_end (λ e. (m.4 e).1)) in
     let appended : c.append.new.list.items ≡ c.turns.list.items ++ tokens_by (match_in new) old.place.condition =
     c.in_ok-append.ensures.appended ∙ ap (λ z. c.turns.list.items ++ tokens_by z c.condition-condition.result) c.matched.ensures.told ∙ ap (λ n. c.turns.list.items ++ tokens_by (match_in new) n) c.condition-condition.ensures in
     let listed = subst (λ l. Listed (g.M.Machine.machine c.args.machine.now) input (Some c.turn.new.self.ends.intake.source.now.rest.now) 0 c.turn.new.self.ends.intake.source.now.ends c.args.list.now.items l new) (sym appended)
     (listed_more (g.M.Machine.machine c.args.machine.now) (g.M.Machine.laws c.args.machine.now) input text (Some c.turns.scanner.ends.intake.source.now.rest.now) (Some c.turn.new.self.ends.intake.source.now.rest.now) 0 c.turns.scanner.ends.intake.source.now.ends c.turn.new.self.ends.intake.source.now.ends c.args.list.now.items c.turns.list.items old new
     inv.listed inv.going inv.ends ends c.in-Ok.turn m.0 m.1 m.2 k) in
-    let over : new.ended ≡ Some c.in-Ended.status = subst (λ t. Says t new.ended) c.in-Ended.is k.0 in
+    let over : new.ended ≡ Some c.in-Ended.status = subst (λ t. TellsEnd t new.ended) c.in-Ended.is k.0 in
     record {
       listed = (listed.tokens, listed.appended, listed_all (g.M.Machine.machine c.args.machine.now) input (Some c.turn.new.self.ends.intake.source.now.rest.now) 0 c.turn.new.self.ends.intake.source.now.ends c.in-Ended.status c.args.list.now.items c.append.new.list.items new text ends over listed);
       refused = tt;
@@ -87,7 +87,7 @@ returns-in-Err g c =
     let new = c.turn.new.self.scan.state in
     let input : List ℕ = c.args.input.now in
     let text : IsText input = is_text_from input (λ i. omega (arith, c.type_inv.input i)) in
-    let k : GoesOn (g.M.Machine.machine c.args.machine.now) old new m.0 m.1 (Err c.in-Err.fault) = subst (λ z. GoesOn (g.M.Machine.machine z) old new m.0 m.1 (Err c.in-Err.fault)) inv.same_machine m.5 in
+    let k : TurnPreserves (g.M.Machine.machine c.args.machine.now) old new m.0 m.1 (Err c.in-Err.fault) = subst (λ z. TurnPreserves (g.M.Machine.machine z) old new m.0 m.1 (Err c.in-Err.fault)) inv.same_machine m.5 in
     let ends : c.turn.new.self.ends.intake.source.now.ends ≡ 0 + end_step false new.reading.at_end = omega (arith, now.ends, inv.ends, Last.answered_once old.reading.at_end new.reading.at_end (λ e. (m.4 e).1)) in
     let few : length input < 2 ^ 63 = c.new-source.ensures.small in
     record {

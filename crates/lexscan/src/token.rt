@@ -4,15 +4,14 @@ ghost use Rattle.std.specs.Prelude.{OnOk, OnErr};
 ghost use Rattle.lex_semantics.specs.Acting.{Status};
 ghost use Rattle.lex_semantics.specs.Machine.{rules_of_machine};
 ghost use Rattle.lex_semantics.specs.Text.{part};
-ghost use Rattle.lexscan.specs.declared.tokens.listing.Token.{Token as TokenModel};
+ghost use Rattle.lexscan.specs.declared.token.Token.{Token as TokenModel};
 ghost use Rattle.lexscan.specs.Tokens.{LieIn, Stopped, Tokenised, token_by, tokens_by};
 
-use crate::tokens::discard::Discard;
-use crate::tokens::input::InputBytes;
-use lex_machine::Machine;
-use lexscan_window::{Match, MatchedRule, RunError};
 use crate::scanner::Scanner;
 use crate::turn::Turn;
+use lex_io::{NullSink, SliceSource};
+use lex_machine::Machine;
+use lexscan_window::{Match, MatchedRule, RunError};
 use std::alloc::{AllocError, Global};
 
 /// A match in a text: its rule, where its text begins and ends, counted in bytes, and the start condition in which it
@@ -82,10 +81,11 @@ pub fn tokens<M: Machine>(
         × Stopped (rules_of_machine (M.machine machine.now)) input.now us e) }
     ensures inside { LieIn (length input.now) 0 (drop (length list.old.items) list.new.items) }
 {
-    let mut source = InputBytes::new(input);
-    let mut sink = Discard {};
+    let mut source = SliceSource::new(input);
+    let mut sink = NullSink {};
     let mut scanner = Scanner::new(alloc, machine, &mut source, &mut sink, u64::MAX);
     'turns: loop {
+        // The match is made in the condition before its turn, which may set another.
         let condition = scanner.condition();
         let turn = match scanner.turn() {
             Ok(turn) => turn,

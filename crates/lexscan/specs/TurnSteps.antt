@@ -1,4 +1,4 @@
--- What a turn does to the plain state.
+-- What a turn does to the plain state: one step by a match or by an end action, or one that is refused.
 use Rattle.std.specs.Prelude.{◌≡◌, ℕ, ◌+◌, ◌-◌, ◌≤◌, ◌<◌, Bool, true, false, List, [], length, take, drop, ◌⊎◌, Option, Some, None, Result, Ok, Err, OnOk, OnErr, IfOk, IfErr, IsErrOf, nat_eq, get_or}
 use Rattle.lex_semantics.specs.Text.{BeginsWith}
 use Rattle.lex_semantics.specs.Machine.{Machine}
@@ -17,24 +17,25 @@ use Rattle.lexscan_matching.specs.Looks.{Looked, LookedAtEnd, Unmet}
 use Rattle.lexscan_window.specs.declared.error.RunError.TheVariants.{Write, Stack}
 use Rattle.lexscan_matching.specs.Descends.{Conditions, conditions_at, matches_of, ending_of, Performed, CutAll, Faulted, Takes}
 
--- the next text starts where this one does
+-- whether the next text starts where this one does
 abbrev pub stays : Bool → Bool → Bool
 stays true false = true
 stays true true = false
 stays false over = false
 
-abbrev pub left_bytes : Bool → ℕ → List ℕ → List ℕ
-left_bytes true end w = w
-left_bytes false end w = drop end w
+-- the bytes that are held at the next place, and how far into them it is
+abbrev pub next_bytes : Bool → ℕ → List ℕ → List ℕ
+next_bytes true end w = w
+next_bytes false end w = drop end w
 
-abbrev pub left_at : Bool → ℕ → ℕ
-left_at true end = end
-left_at false end = 0
+abbrev pub next_at : Bool → ℕ → ℕ
+next_at true end = end
+next_at false end = 0
 
--- The place of the next match. The text of this one is kept before it.
-pub record Left (w : List ℕ) (a : ActionState) (over : Bool) (new : State) : Type 0 where
-  pub held : new.reading.window.bytes ≡ left_bytes (stays a.more over) a.end w
-  pub at : new.place.at ≡ left_at (stays a.more over) a.end
+-- The scan is at the place of the next match. The text of this one is kept before it.
+pub record AtNextPlace (w : List ℕ) (a : ActionState) (over : Bool) (new : State) : Type 0 where
+  pub held : new.reading.window.bytes ≡ next_bytes (stays a.more over) a.end w
+  pub at : new.place.at ≡ next_at (stays a.more over) a.end
   pub line : 0 < a.end → new.place.line_start ≡ nat_eq (get_or w (a.end - 1) 0) 10
   pub condition : new.place.condition ≡ a.condition
   pub stack : new.acting.stack ≡ a.stack
@@ -46,9 +47,9 @@ is_over None = false
 is_over (Some s) = true
 
 -- the turn says whether the scan has ended
-abbrev pub Says : Turn → Option ℕ → Type 0
-Says Turn.Went ended = ended ≡ None
-Says (Turn.Ended status) ended = ended ≡ Some status
+abbrev pub TellsEnd : Turn → Option ℕ → Type 0
+TellsEnd Turn.Went ended = ended ≡ None
+TellsEnd (Turn.Ended status) ended = ended ≡ Some status
 
 -- what stays where a turn is refused
 pub record Untouched (old new : State) : Type 0 where
@@ -66,8 +67,8 @@ pub record Acted {K : Type 0} (M : Machine) (wrote : K → List ℕ → K → Ty
   pub ended : Option ℕ
   pub performed : Performed M wrote s t old.window.bytes p.at (matches_of M old.window.bytes p.at path) c acting (ending_of ended)
   pub inside : acting.end ≤ length old.window.bytes
-  pub left : Left old.window.bytes acting (is_over ended) new
-  pub says : Says turn ended
+  pub left : AtNextPlace old.window.bytes acting (is_over ended) new
+  pub says : TellsEnd turn ended
   pub same : SameReads old new
   pub is_ended : (e : ℕ) → ended ≡ Some e → new.ended ≡ Some e
   pub takes : Takes M old.window.bytes p.at (matches_of M old.window.bytes p.at path) c new.matched
@@ -76,7 +77,7 @@ pub record Acted {K : Type 0} (M : Machine) (wrote : K → List ℕ → K → Ty
 pub record EndedBy (old new : State) (finish : Finish) (turn : Turn) : Type 0 where
   pub status : ℕ
   pub is : finish ≡ Finish.Status status
-  pub left : Left old.reading.window.bytes old.acting true new
+  pub left : AtNextPlace old.reading.window.bytes old.acting true new
   pub same : SameReads old.reading new
   pub says : turn ≡ Turn.Ended status
   pub ended : new.ended ≡ Some status
@@ -99,7 +100,7 @@ pub record WentOn {K : Type 0} (t t' : K) (live : Bool) (old new : State) (resul
   pub sink : t' ≡ t
   pub may_write : live ≡ true
   pub says : result ≡ Ok Turn.Went
-  pub left : Left old.reading.window.bytes old.acting false new
+  pub left : AtNextPlace old.reading.window.bytes old.acting false new
   pub same : SameReads old.reading new
   pub max_reads : new.reading.max_reads ≡ old.reading.max_reads
   pub ended : new.ended ≡ old.ended
@@ -133,19 +134,19 @@ pub record EndLeft (M : Machine) (old : Reading) (p : TextPlace) (c : Conditions
   pub stack : new.acting.stack ≡ c.stack
   pub same : SameReads old new
   pub ended : new.ended ≡ Some (M.ending p.condition).status
-  pub says : Says turn new.ended
+  pub says : TellsEnd turn new.ended
   pub matched : new.matched ≡ None
 
--- A match was seen, and its action carried out.
-pub record Matched {S K : Type 0} (M : Machine) (gave : S → List ℕ → S → Type 0) (wrote : K → List ℕ → K → Type 0) (s s' : S) (t t' : K) (old new : State) (turn : Turn) : Type 0 where
+-- One step by a match: it was seen, and its action carried out.
+pub record MatchStep {S K : Type 0} (M : Machine) (gave : S → List ℕ → S → Type 0) (wrote : K → List ℕ → K → Type 0) (s s' : S) (t t' : K) (old new : State) (turn : Turn) : Type 0 where
   pub mid : Reading
   pub took : Took gave s s' old.reading mid
   pub path : List ℕ
   pub looked : Looked M old.place old.reading mid path
   pub acted : Acted M wrote t t' mid old.place (conditions_at old) path new turn
 
--- The source answered its end at the place of the next match.
-pub record Finished {S K : Type 0} (M : Machine) (gave : S → List ℕ → S → Type 0) (wrote : K → List ℕ → K → Type 0) (s s' : S) (t t' : K) (old new : State) (turn : Turn) : Type 0 where
+-- One step by an end action: the source answered its end at the place of the next match.
+pub record EndStep {S K : Type 0} (M : Machine) (gave : S → List ℕ → S → Type 0) (wrote : K → List ℕ → K → Type 0) (s s' : S) (t t' : K) (old new : State) (turn : Turn) : Type 0 where
   pub mid : Reading
   pub took : Took gave s s' old.reading mid
   pub looked : LookedAtEnd old.place old.reading mid
@@ -153,8 +154,8 @@ pub record Finished {S K : Type 0} (M : Machine) (gave : S → List ℕ → S �
   pub left : EndLeft M mid old.place (conditions_at old) new turn
 
 -- Why a turn was refused: a byte was wanted, or the action was cut short, or the end action was.
-abbrev pub Why : {K : Type 0} → Machine → (K → List ℕ → K → Type 0) → K → K → State → State → Type 0
-Why M wrote t t' old new =
+abbrev pub RefusalCause : {K : Type 0} → Machine → (K → List ℕ → K → Type 0) → K → K → State → State → Type 0
+RefusalCause M wrote t t' old new =
     (Unmet M old.place old.reading new.reading × wrote t [] t')
     ⊎ ((path : List ℕ) × Looked M old.place old.reading new.reading path × CutAll M wrote t t' new.reading.window.bytes old.place.at (matches_of M new.reading.window.bytes old.place.at path) (conditions_at old))
     ⊎ (LookedAtEnd old.place old.reading new.reading × (out : List ℕ) × BeginsWith (M.ending old.place.condition).print out × wrote t out t')
@@ -164,14 +165,14 @@ abbrev pub StackFaulted : {K : Type 0} → Machine → (K → List ℕ → K →
 StackFaulted M wrote t t' old new =
     (path : List ℕ) × Looked M old.place old.reading new.reading path × Faulted M wrote t t' new.reading.window.bytes old.place.at (matches_of M new.reading.window.bytes old.place.at path) (conditions_at old)
 
--- The turn was refused: what was taken is held. Before its action nothing was written.
-pub record Refused {S K : Type 0} (M : Machine) (gave : S → List ℕ → S → Type 0) (wrote : K → List ℕ → K → Type 0) (s s' : S) (t t' : K) (old new : State) (e : RunError) : Type 0 where
+-- One step that was refused: what was taken is held. Before its action nothing was written.
+pub record RefusedStep {S K : Type 0} (M : Machine) (gave : S → List ℕ → S → Type 0) (wrote : K → List ℕ → K → Type 0) (s s' : S) (t t' : K) (old new : State) (e : RunError) : Type 0 where
   pub took : Took gave s s' old.reading new.reading
   pub place : new.place ≡ old.place
-  pub why : Why M wrote t t' old new
+  pub why : RefusalCause M wrote t t' old new
   pub early : IsEarly e → Unmet M old.place old.reading new.reading × wrote t [] t'
   pub fault : e ≡ Stack → StackFaulted M wrote t t' old new
 
-abbrev pub Moved : {S K : Type 0} → Machine → (S → List ℕ → S → Type 0) → (K → List ℕ → K → Type 0) → S → S → K → K → State → State → Result Turn RunError → Type 0
-Moved M gave wrote s s' t t' old new (Ok turn) = Matched M gave wrote s s' t t' old new turn ⊎ Finished M gave wrote s s' t t' old new turn
-Moved M gave wrote s s' t t' old new (Err e) = Refused M gave wrote s s' t t' old new e
+abbrev pub TurnStep : {S K : Type 0} → Machine → (S → List ℕ → S → Type 0) → (K → List ℕ → K → Type 0) → S → S → K → K → State → State → Result Turn RunError → Type 0
+TurnStep M gave wrote s s' t t' old new (Ok turn) = MatchStep M gave wrote s s' t t' old new turn ⊎ EndStep M gave wrote s s' t t' old new turn
+TurnStep M gave wrote s s' t t' old new (Err e) = RefusedStep M gave wrote s s' t t' old new e

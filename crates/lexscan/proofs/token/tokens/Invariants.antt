@@ -1,8 +1,8 @@
 use Rattle.std.proofs.Common.{◌≡◌, ◌+◌, Some, None, false}
-use Rattle.lexscan.specs.Reads.{end_step}
+use Rattle.lexscan_window.specs.Reads.{end_step}
 use Rattle.lexscan.proofs.Lasting.{left_over}
 use Rattle.lexscan.proofs.SoFar.{Listed}
-use Rattle.lexscan.proofs.tokens.listing.tokens.Given as goal
+use Rattle.lexscan.proofs.token.tokens.Given as goal
 
 abbrev pub invariant-turns : goal.invariant-turns
 invariant-turns g l =
