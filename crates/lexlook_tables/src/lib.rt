@@ -4,5 +4,7 @@
 mod lines;
 mod same;
 
-pub use lines::{Obstacle, find_obstacle_in};
-pub use same::{Comparison, Difference, compare, counts_all, number_in, rules_after};
+pub use lines::{MachineSizes, Obstacle, find_obstacle, find_obstacle_in};
+pub use same::{
+    Comparison, Difference, PairSizes, compare, counts_all, number_in, rules_after, tell_apart,
+};
