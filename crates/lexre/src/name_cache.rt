@@ -1,4 +1,8 @@
-//! The names that are met while patterns are read.
+//! The cache of the names of definitions: the trees of those that were read, for one file.
+//!
+//! A tree is kept with its count of nodes, and with how many parentheses and names it needs open. Where fewer may be
+//! opened its name is read again: that fails, and says which limit is passed first. Where it has more nodes than there
+//! is room for it is `TooBig`, as reading it would say.
 ghost use Rattle.std.specs.Prelude.{◌≡◌, ◌-◌, false, OnOk, OnErr, option_map, [], ◌∷◌, ◌++◌, length, take};
 ghost use Rattle.std.specs.FinMap.{empty, get, insert};
 ghost use Rattle.lexre.specs.Names.{open_of, tree_kept, trees_of, usable};
@@ -19,7 +23,7 @@ pub(crate) struct Kept {
 
 /// What is kept of the names that patterns of one file use: each is read once.
 #[derive(Drop)]
-pub struct Names {
+pub struct NameCache {
     alloc: Global,
     /// The names whose texts are being read, the outermost first.
     being_read: Vec<Vec<u8>>,
@@ -38,12 +42,12 @@ fn is_among(name: &[u8], names: &[Vec<u8>]) -> bool
     false
 }
 
-impl Names {
+impl NameCache {
     /// No names.
-    pub fn new(alloc: Global) -> Names
+    pub fn new(alloc: Global) -> NameCache
         ensures { trees_of result ≡ empty }
     {
-        Names {
+        NameCache {
             alloc,
             being_read: Vec::new(alloc),
             kept: BTreeMap::new(alloc),

@@ -2,7 +2,7 @@ use Rattle.std.proofs.Common.{ap}
 use Rattle.lexspec_lines.proofs.OutcomeLaws.{on_ok}
 use Rattle.lexspec_lines.proofs.CodeLaws.{adds_same, adds_line, adds_block}
 use Rattle.lexspec.specs.SkipViews.{item_of}
-use Rattle.lexspec.proofs.rules_section.add_skip.Goals as goal
+use Rattle.lexspec.proofs.rules_so_far.add_skip.Goals as goal
 
 pub returns-in-Blank : goal.returns-in-Blank
 returns-in-Blank c = rw (ap item_of c.in-Blank.is) (adds_same c.args.skipped.now)

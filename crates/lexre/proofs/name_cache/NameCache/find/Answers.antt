@@ -2,7 +2,7 @@ use Rattle.std.proofs.Common.{◌∙◌, sym, ap, option_map}
 use Rattle.lexre.specs.Names.{tree_kept, usable}
 use Rattle.lexre.proofs.EntryLaws.{get_shown}
 use Rattle.lexre.proofs.NameLaws.{usable_where, usable_nowhere}
-use Rattle.lexre.proofs.names.Names.find.Goals as goal
+use Rattle.lexre.proofs.name_cache.NameCache.find.Goals as goal
 
 pub returns-in_err-kept : goal.returns-in_err-kept
 returns-in_err-kept c =

@@ -1,6 +1,6 @@
 use Rattle.lexre.specs.Names.{tree_kept}
 use Rattle.lexre.proofs.EntryLaws.{one_more}
-use Rattle.lexre.proofs.names.Names.keep.Goals as goal
+use Rattle.lexre.proofs.name_cache.NameCache.keep.Goals as goal
 
 pub returns-clause-trees : goal.returns-clause-trees
 returns-clause-trees c =
