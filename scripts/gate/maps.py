@@ -4,7 +4,7 @@ where there is something.
 
     scripts/gate/maps.py            each room stands in the table of rooms; each path, module and name in the tables of the page
                                     exists in the room before it; the graph is that of crates.txt; the head of each src/lib.rt
-                                    names each module of the crate
+                                    names each module of the room, or the head of a module those in its folder
     scripts/gate/maps.py --write    writes the graph
 
 An arrow of the graph leads from a room to one that it stands on. Left out are those to lex_semantics and to the kit's crates, and
@@ -72,6 +72,20 @@ def missing(line, stands_on):
             yield f"{name} of {room}"
 
 
+def head(path):
+    """The lines at the head of a module."""
+    return "\n".join(line for line in path.read_text().splitlines() if line.startswith("//!"))
+
+
+def unnamed(source):
+    """The modules of a room that neither its head names, nor, of those in a folder, that of the module above."""
+    for path in sorted(source.rglob("*.rt")):
+        above = path.parent.with_suffix(".rt")
+        heads = head(source / "lib.rt") + (head(above) if above.exists() else "")
+        if path != source / "lib.rt" and f"`{path.stem}`" not in heads:
+            yield f"{path.relative_to(ROOT)}: the head of its room does not name it"
+
+
 def faults(page, stands_on):
     tables = [line for line in page.splitlines() if line.startswith("| ")]
     named = {word for line in tables for word in re.findall(r"\w+", line)}
@@ -82,12 +96,8 @@ def faults(page, stands_on):
     if GRAPH.search(page)[0] != "\n".join(graph(stands_on)) + "\n":
         yield "docs/ARCHITECTURE.md: the graph is not that of crates.txt: `scripts/gate/maps.py --write` writes it"
     for room in stands_on:
-        path = ROOT / "crates" / room / "src/lib.rt"
-        if path.exists() and not room.startswith("lextest_"):
-            text = path.read_text()
-            head = "\n".join(line for line in text.splitlines() if line.startswith("//!"))
-            modules = re.findall(r"(?m)^(?:pub )?mod (\w+);", text)
-            yield from (f"crates/{room}/src/lib.rt: its head does not name `{it}`" for it in modules if f"`{it}`" not in head)
+        if (ROOT / "crates" / room / "src/lib.rt").exists() and not room.startswith("lextest_"):
+            yield from unnamed(ROOT / "crates" / room / "src")
 
 
 def main():

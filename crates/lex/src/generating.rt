@@ -17,7 +17,9 @@ pub struct Outputs {
     pub table: Option<String>,
     /// The table file goes to standard output, and the statistics to standard error.
     pub to_stdout: bool,
+    /// Statistics are written.
     pub stats: bool,
+    /// The report of states that back up is written, to lex.backup.
     pub backup: bool,
     /// Warnings are not written.
     pub quiet: bool,
@@ -68,19 +70,7 @@ fn made_of(
         let made = generate_tables(rt.alloc(), text, options)?;
         return Ok((made, Vec::new(rt.alloc())));
     }
-    let Generated {
-        tables,
-        rule_lines,
-        warnings,
-        stats,
-        backup,
-    } = generate(rt.alloc(), text, options)?;
-    let made = Made {
-        tables,
-        rule_lines,
-        warnings,
-        stats,
-    };
+    let Generated { made, backup } = generate(rt.alloc(), text, options)?;
     Ok((made, backup))
 }
 
@@ -94,6 +84,7 @@ pub fn make_with_warnings(rt: &HostRuntime, text: &[u8], options: Options) -> Re
     Ok(made)
 }
 
+/// Writes the warnings to standard error.
 fn warn(rt: &HostRuntime, warnings: &[Warning]) -> Result<(), Failure> {
     write_warnings(warnings, &mut ToWrite::new(rt.stderr()))?;
     Ok(())
@@ -111,6 +102,7 @@ fn write_table(rt: &HostRuntime, tables: &Tables, outputs: &Outputs) -> Result<(
     put_table(rt, tables, create(rt, name)?)
 }
 
+/// Writes the table file to a writer, and flushes it.
 fn put_table<W: Write + Drop>(rt: &HostRuntime, tables: &Tables, writer: W) -> Result<(), Failure> {
     let mut sink = ToBytes::new(ByteWriter::new(rt.alloc(), writer)?);
     write_tables(tables, &mut sink)?;
@@ -118,6 +110,7 @@ fn put_table<W: Write + Drop>(rt: &HostRuntime, tables: &Tables, writer: W) -> R
     Ok(())
 }
 
+/// Writes the report of states that back up to its file.
 fn report(rt: &HostRuntime, entries: &[BackUp]) -> Result<(), Failure> {
     let writer = create(rt, BACKUP_FILE)?;
     let mut sink = ToBytes::new(ByteWriter::new(rt.alloc(), writer)?);

@@ -1,4 +1,20 @@
-//! The program: it makes table files of specifications, and scans standard input by a specification or a table file.
+//! The program lex: it makes table files of specifications, and scans standard input by a specification or a table file.
+//!
+//! - `main`: which of the three the command line asks for (`run`), and both scans (`scan`).
+//! - `reading`: the files that a specification is made of, and table files.
+//! - `generating`: where warnings, the table file, the report of states that back up and the statistics go.
+//!
+//! What is asked for is read by lex_command. What is made, scanned and reported is lexkit's, and proved there. So here it is
+//! decided alone which file is read or made, and in which order. `data/` and the rows of scripts/ try that.
+//!
+//! - **All is made before anything is written**, so a refusal leaves the files of an earlier run alone. The table file is
+//!   written under its own name, and not under another one first: a reader refuses one that was cut short.
+//! - **Files are joined as they are**, with nothing between them. Reading ends one byte past the limit: files after that
+//!   are not opened, since what stands in them can change no answer.
+//! - **`--scan-spec` makes the tables once.** Where warnings are written, `generate_tables` makes them, and `scan_made` scans
+//!   by the tables. With `-w` `scan_spec` does both.
+//! - **A file that opens but cannot be read**, as a folder, is 66, as one that does not open. So is a table file of more
+//!   than 268,435,456 bytes, which no table has. An output file that cannot be made is a write fault, 74, with no name.
 #![tactic(auto)]
 
 ghost use Rattle.std.specs.Prelude.{◌≡◌, ◌≤◌};
@@ -7,36 +23,31 @@ mod generating;
 mod reading;
 
 use crate::generating::{Outputs, make, make_with_warnings};
-use crate::reading::{read_spec_file, read_specification, read_table_file};
+use crate::reading::{read_specification, read_table_file};
+use lex_command::{ArgsError, Job, PatternFlags, read_args};
 use lexkit::{
-    ArgsError, ByteReader, ByteWriter, Failure, FromBytes, Job, MAX_POSITIONS, MAX_STATES, Options,
-    ReadOptions, Sink, Tables, ToBytes, ToWrite, read_args, scan_made, scan_spec, scan_table,
-    write_fault,
+    ByteReader, ByteWriter, Failure, FromBytes, MAX_POSITIONS, MAX_STATES, Options, Sink, Tables,
+    ToBytes, command_words, read_spec_file, report_failure, scan_made, scan_spec, scan_table,
 };
-use std::io::ErrorKind;
+use std::alloc::AllocError;
+use std::io;
 use std::process::ExitCode;
-use std::{env, io};
 
-/// What the command line asks for. A word that is no text is refused.
-fn job_of(rt: &HostRuntime) -> Result<Job, ArgsError> {
-    let words = match env::args(rt) {
-        Ok(words) => words,
-        Err(error) => {
-            return Err(match error.kind() {
-                ErrorKind::OutOfMemory => ArgsError::OutOfMemory,
-                _ => ArgsError::Usage,
-            });
-        }
-    };
-    let words: Vec<String> = words.skip(1).collect(rt.alloc())?;
-    read_args(rt.alloc(), words.as_slice())
+/// What the command line asks for.
+fn job_of(rt: &HostRuntime) -> Result<Job, Failure> {
+    let words = command_words(rt)?;
+    match read_args(rt.alloc(), words.as_slice()) {
+        Ok(job) => Ok(job),
+        Err(ArgsError::Usage) => Err(Failure::Usage),
+        Err(ArgsError::OutOfMemory) => Err(Failure::from(AllocError)),
+    }
 }
 
 /// What a scan goes by.
 #[derive(Drop)]
 enum By<'a> {
     /// The text of a specification, and how it is read.
-    Spec(&'a [u8], ReadOptions),
+    Spec(&'a [u8], PatternFlags),
     /// The tables that were made of a specification.
     Made(Tables),
     /// A table file.
@@ -48,11 +59,11 @@ fn scan(rt: &HostRuntime, by: By<'_>) -> Result<u8, Failure> {
     let mut source = FromBytes::new(ByteReader::new(rt.alloc(), rt.reader())?);
     let mut sink = ToBytes::new(ByteWriter::new(rt.alloc(), io::writer(rt))?);
     let result = match by {
-        By::Spec(text, options) => {
+        By::Spec(text, patterns) => {
             scan_spec(
                 rt.alloc(),
                 text,
-                options_of(options),
+                options_of(patterns),
                 &mut source,
                 &mut sink,
             )
@@ -68,30 +79,25 @@ fn scan(rt: &HostRuntime, by: By<'_>) -> Result<u8, Failure> {
 }
 
 /// How a specification is read, with the limits of the program.
-fn options_of(options: ReadOptions) -> Options
+fn options_of(patterns: PatternFlags) -> Options
     ensures few_positions { result.limits.positions ≤ MAX_POSITIONS }
     ensures few_states { result.limits.states ≤ MAX_STATES }
 {
-    let ReadOptions { fold, posix } = options;
-    Options {
-        fold,
-        posix,
-        ..Options::new()
-    }
+    Options::reading(patterns.fold, patterns.posix)
 }
 
 /// Scans standard input by the specification in a file, and first writes its warnings unless it is to be quiet.
 fn scan_by_spec(
     rt: &HostRuntime,
     file: String,
-    options: ReadOptions,
+    patterns: PatternFlags,
     quiet: bool,
 ) -> Result<u8, Failure> {
     let text = read_spec_file(rt, file)?;
     if quiet {
-        return scan(rt, By::Spec(text.as_slice(), options));
+        return scan(rt, By::Spec(text.as_slice(), patterns));
     }
-    let made = make_with_warnings(rt, text.as_slice(), options_of(options))?;
+    let made = make_with_warnings(rt, text.as_slice(), options_of(patterns))?;
     scan(rt, By::Made(made.tables))
 }
 
@@ -104,8 +110,7 @@ fn run(rt: &HostRuntime) -> Result<u8, Failure> {
             stdout,
             stats,
             backup,
-            fold,
-            posix,
+            patterns,
             quiet,
         } => {
             let text = read_specification(rt, files.as_slice())?;
@@ -116,19 +121,14 @@ fn run(rt: &HostRuntime) -> Result<u8, Failure> {
                 backup,
                 quiet,
             };
-            let options = ReadOptions { fold, posix };
-            make(rt, text.as_slice(), options_of(options), &outputs)?;
+            make(rt, text.as_slice(), options_of(patterns), &outputs)?;
             Ok(0)
         }
         Job::ScanSpec {
             file,
-            fold,
-            posix,
+            patterns,
             quiet,
-        } => {
-            let options = ReadOptions { fold, posix };
-            scan_by_spec(rt, file, options, quiet)
-        }
+        } => scan_by_spec(rt, file, patterns, quiet),
         Job::ScanTable { file } => {
             let bytes = read_table_file(rt, file)?;
             scan(rt, By::Table(bytes.as_slice()))
@@ -136,13 +136,10 @@ fn run(rt: &HostRuntime) -> Result<u8, Failure> {
     }
 }
 
+/// Runs, and reports what ended the run before its work was done.
 fn main(rt: HostRuntime) -> ExitCode {
     match run(&rt) {
         Ok(status) => ExitCode::from(status),
-        Err(failure) => {
-            let fault = failure.fault();
-            let _ = write_fault(fault, &mut ToWrite::new(rt.stderr()));
-            ExitCode::from(fault.status())
-        }
+        Err(failure) => report_failure(&rt, &failure),
     }
 }

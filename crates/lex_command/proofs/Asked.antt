@@ -5,10 +5,10 @@ use Rattle.clap.specs.declared.error.Error.{Error}
 use Rattle.clap.specs.declared.error.kind.ErrorKind.TheVariants as kind
 use Rattle.clap.specs.declared.parser.matches.ArgMatches.{ArgMatches}
 use Rattle.lex_command.specs.Refusal.{refusal_of}
-use Rattle.lex_command.specs.declared.job.args.ArgsError.TheVariants.{Usage}
+use Rattle.lex_command.specs.declared.error.ArgsError.TheVariants.{Usage}
 use Rattle.lex_command.specs.LookLine.{AsksFor, IsLookOf, has_help, lexlook_app}
 use Rattle.lex_command.specs.declared.look.args.Look.{Look}
-use Rattle.lex_command.specs.declared.look.args.Look.TheVariants.{Help, Picture, Same, Lines, Words, Trace}
+use Rattle.lex_command.specs.declared.look.args.Look.TheVariants.{Help, One, Same}
 
 lexlook_is_simple : is_simple lexlook_app ≡ true
 lexlook_is_simple = refl
@@ -22,11 +22,7 @@ clash b t f = absurd cc
 -- no subcommand asks for the help
 no_help_look : (r : Option (Text × List Row)) → IsLookOf r Help → ⊥
 no_help_look None h = h
-no_help_look (Some p) (inl h) = h.1
-no_help_look (Some p) (inr (inl h)) = h.1
-no_help_look (Some p) (inr (inr (inl h))) = h.1
-no_help_look (Some p) (inr (inr (inr (inl h)))) = h.1
-no_help_look (Some p) (inr (inr (inr (inr h)))) = h.1
+no_help_look (Some p) h = h
 
 rows_are : (words : List Text) (a : App) (m : ArgMatches) → a ≡ lexlook_app → HasMatchesOf a words m → subcommand_rows_of m ≡ subcommand_of lexlook_app words
 rows_are words a m is matches = (matches (ap is_simple is ∙ lexlook_is_simple)).1 ∙ ap (λ (b : App). subcommand_of b words) is
@@ -35,54 +31,30 @@ rows_are words a m is matches = (matches (ap is_simple is ∙ lexlook_is_simple)
 pub asked_by : (words : List Text) (a : App) (m : ArgMatches) (look : Look) → a ≡ lexlook_app → has_help words ≡ false
     → HasMatchesOf a words m → fault_of a words ≡ [] → IsLookOf (subcommand_rows_of m) look → AsksFor words look
 asked_by words a m Help is plain matches fault h = absurd (no_help_look (subcommand_rows_of m) h)
-asked_by words a m (Picture file folds series) is plain matches fault h = (
+asked_by words a m (One what file patterns) is plain matches fault h = (
   plain,
   ap (λ (b : App). fault_of b words) (sym is) ∙ fault,
-  subst (λ (r : Option (Text × List Row)). IsLookOf r (Picture file folds series)) (rows_are words a m is matches) h,
+  subst (λ (r : Option (Text × List Row)). IsLookOf r (One what file patterns)) (rows_are words a m is matches) h,
 )
-asked_by words a m (Same left right folds series) is plain matches fault h = (
+asked_by words a m (Same left right patterns) is plain matches fault h = (
   plain,
   ap (λ (b : App). fault_of b words) (sym is) ∙ fault,
-  subst (λ (r : Option (Text × List Row)). IsLookOf r (Same left right folds series)) (rows_are words a m is matches) h,
-)
-asked_by words a m (Lines file folds series) is plain matches fault h = (
-  plain,
-  ap (λ (b : App). fault_of b words) (sym is) ∙ fault,
-  subst (λ (r : Option (Text × List Row)). IsLookOf r (Lines file folds series)) (rows_are words a m is matches) h,
-)
-asked_by words a m (Words file folds series) is plain matches fault h = (
-  plain,
-  ap (λ (b : App). fault_of b words) (sym is) ∙ fault,
-  subst (λ (r : Option (Text × List Row)). IsLookOf r (Words file folds series)) (rows_are words a m is matches) h,
-)
-asked_by words a m (Trace file folds series) is plain matches fault h = (
-  plain,
-  ap (λ (b : App). fault_of b words) (sym is) ∙ fault,
-  subst (λ (r : Option (Text × List Row)). IsLookOf r (Trace file folds series)) (rows_are words a m is matches) h,
+  subst (λ (r : Option (Text × List Row)). IsLookOf r (Same left right patterns)) (rows_are words a m is matches) h,
 )
 
 -- and what the words ask for is what the matches ask for
 pub asks_by : (words : List Text) (a : App) (m : ArgMatches) (look : Look) → a ≡ lexlook_app → has_help words ≡ false
     → HasMatchesOf a words m → AsksFor words look → IsLookOf (subcommand_rows_of m) look
 asks_by words a m Help is plain matches h = absurd (clash (has_help words) h plain)
-asks_by words a m (Picture file folds series) is plain matches h =
-    subst (λ (r : Option (Text × List Row)). IsLookOf r (Picture file folds series)) (sym (rows_are words a m is matches)) h.2
-asks_by words a m (Same left right folds series) is plain matches h =
-    subst (λ (r : Option (Text × List Row)). IsLookOf r (Same left right folds series)) (sym (rows_are words a m is matches)) h.2
-asks_by words a m (Lines file folds series) is plain matches h =
-    subst (λ (r : Option (Text × List Row)). IsLookOf r (Lines file folds series)) (sym (rows_are words a m is matches)) h.2
-asks_by words a m (Words file folds series) is plain matches h =
-    subst (λ (r : Option (Text × List Row)). IsLookOf r (Words file folds series)) (sym (rows_are words a m is matches)) h.2
-asks_by words a m (Trace file folds series) is plain matches h =
-    subst (λ (r : Option (Text × List Row)). IsLookOf r (Trace file folds series)) (sym (rows_are words a m is matches)) h.2
+asks_by words a m (One what file patterns) is plain matches h =
+    subst (λ (r : Option (Text × List Row)). IsLookOf r (One what file patterns)) (sym (rows_are words a m is matches)) h.2
+asks_by words a m (Same left right patterns) is plain matches h =
+    subst (λ (r : Option (Text × List Row)). IsLookOf r (Same left right patterns)) (sym (rows_are words a m is matches)) h.2
 
 none_fault : (words : List Text) (a : App) (look : Look) → a ≡ lexlook_app → has_help words ≡ false → AsksFor words look → fault_of a words ≡ []
 none_fault words a Help is plain h = absurd (clash (has_help words) h plain)
-none_fault words a (Picture file folds series) is plain h = ap (λ (b : App). fault_of b words) is ∙ h.1
-none_fault words a (Same left right folds series) is plain h = ap (λ (b : App). fault_of b words) is ∙ h.1
-none_fault words a (Lines file folds series) is plain h = ap (λ (b : App). fault_of b words) is ∙ h.1
-none_fault words a (Words file folds series) is plain h = ap (λ (b : App). fault_of b words) is ∙ h.1
-none_fault words a (Trace file folds series) is plain h = ap (λ (b : App). fault_of b words) is ∙ h.1
+none_fault words a (One what file patterns) is plain h = ap (λ (b : App). fault_of b words) is ∙ h.1
+none_fault words a (Same left right patterns) is plain h = ap (λ (b : App). fault_of b words) is ∙ h.1
 
 -- words that are refused as no line of the program's ask for nothing
 pub asks_for_none : (words : List Text) (a : App) (e : Error) (look : Look) → a ≡ lexlook_app → has_help words ≡ false → HasKind (fault_of a words) e

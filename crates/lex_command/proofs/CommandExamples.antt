@@ -2,7 +2,8 @@
 use Rattle.std.proofs.Common.{◌≡◌, ◌≢◌, ◌↔◌, ◌&&◌, refl, Bool, true, false, not, List, [], ◌∷◌, Option, Some, None, codes}
 use Rattle.clap.specs.Words.{Row, Text, first_of, matches_of}
 use Rattle.clap.proofs.OnLiterals.{clap_on_literals}
-use Rattle.lex_command.specs.CommandLine.{IsJobOf, files_of, has, lex_app, makes_tables, reads_patterns}
+use Rattle.lex_command.specs.CommandLine.{IsJobOf, files_of, lex_app, makes_tables, reads_patterns}
+use Rattle.lex_command.specs.Flags.{has}
 use Rattle.lex_command.specs.CommandExamples.{AsksForA, Making, Nothing, ScanningBy}
 use Rattle.lex_command.specs.declared.job.args.Job.{Job}
 use Rattle.lex_command.specs.declared.job.args.Job.TheVariants.{Generate, ScanSpec, ScanTable}
@@ -13,9 +14,9 @@ making : (met : List Row) (names : List Text) (name : Option Text) (counts backs
     → (has (codes "stats") met && not (has (codes "no-stats") met)) ≡ counts → has (codes "backup") met ≡ backs → has (codes "fold") met ≡ false
     → has (codes "posix") met ≡ false → has (codes "quiet") met ≡ false
     → (separated : Bool) (job : Job) → IsJobOf met separated job ↔ Making names name counts backs job
-making met names name counts backs spec table files out stdout stats backup fold posix quiet separated (Generate o-files o-out o-stdout o-stats o-backup o-fold o-posix o-quiet) =
+making met names name counts backs spec table files out stdout stats backup fold posix quiet separated (Generate o-files o-out o-stdout o-stats o-backup o-patterns o-quiet) =
     rw (spec, table, files, out, stdout, stats, backup, fold, posix, quiet) ((λ h. h), (λ h. h))
-making met names name counts backs spec table files out stdout stats backup fold posix quiet separated (ScanSpec o-file o-fold o-posix o-quiet) =
+making met names name counts backs spec table files out stdout stats backup fold posix quiet separated (ScanSpec o-file o-patterns o-quiet) =
     rw (spec, table) ((λ h. h), (λ h. h))
 making met names name counts backs spec table files out stdout stats backup fold posix quiet separated (ScanTable o-file) =
     rw (spec, table) ((λ h. h), (λ h. h))
@@ -24,16 +25,16 @@ making met names name counts backs spec table files out stdout stats backup fold
 scanning : (met : List Row) (name : Text) (folds : Bool) → first_of (codes "scan-spec") met ≡ Some name → first_of (codes "scan-table") met ≡ None
     → (name ≢ codes "-") → makes_tables met ≡ false → has (codes "fold") met ≡ folds → has (codes "posix") met ≡ false → has (codes "quiet") met ≡ false
     → (job : Job) → IsJobOf met false job ↔ ScanningBy name folds job
-scanning met name folds spec table named makes fold posix quiet (Generate o-files o-out o-stdout o-stats o-backup o-fold o-posix o-quiet) = rw (spec, table) ((λ h. h), (λ h. h))
-scanning met name folds spec table named makes fold posix quiet (ScanSpec o-file o-fold o-posix o-quiet) =
-    rw (spec, table, fold, posix, quiet) ((λ h. (h.0, h.3, h.4, h.5)), (λ h. (h.0, named, makes, h.1, h.2, h.3)))
+scanning met name folds spec table named makes fold posix quiet (Generate o-files o-out o-stdout o-stats o-backup o-patterns o-quiet) = rw (spec, table) ((λ h. h), (λ h. h))
+scanning met name folds spec table named makes fold posix quiet (ScanSpec o-file o-patterns o-quiet) =
+    rw (spec, table, fold, posix, quiet) ((λ h. (h.0, h.3, h.4)), (λ h. (h.0, named, makes, h.1, h.2)))
 scanning met name folds spec table named makes fold posix quiet (ScanTable o-file) = rw (spec, table) ((λ h. h), (λ h. h))
 
 -- what only making takes stands beside a scan by a specification
 makes_beside : (met : List Row) (name : Text) → first_of (codes "scan-spec") met ≡ Some name → first_of (codes "scan-table") met ≡ None
     → makes_tables met ≡ true → (job : Job) → IsJobOf met false job → ⊥
-makes_beside met name spec table makes (Generate o-files o-out o-stdout o-stats o-backup o-fold o-posix o-quiet) h = rw (spec, table) at h
-makes_beside met name spec table makes (ScanSpec o-file o-fold o-posix o-quiet) h =
+makes_beside met name spec table makes (Generate o-files o-out o-stdout o-stats o-backup o-patterns o-quiet) h = rw (spec, table) at h
+makes_beside met name spec table makes (ScanSpec o-file o-patterns o-quiet) h =
     let beside = rw (spec, table) at h in
     let bad : makes_tables met ≡ false = beside.2 in
     cc
@@ -42,8 +43,8 @@ makes_beside met name spec table makes (ScanTable o-file) h = rw (spec, table) a
 -- what only reading patterns takes stands beside a scan by a table
 reads_beside : (met : List Row) (name : Text) → first_of (codes "scan-spec") met ≡ None → first_of (codes "scan-table") met ≡ Some name
     → reads_patterns met ≡ true → (job : Job) → IsJobOf met false job → ⊥
-reads_beside met name spec table reads (Generate o-files o-out o-stdout o-stats o-backup o-fold o-posix o-quiet) h = rw (spec, table) at h
-reads_beside met name spec table reads (ScanSpec o-file o-fold o-posix o-quiet) h = rw (spec, table) at h
+reads_beside met name spec table reads (Generate o-files o-out o-stdout o-stats o-backup o-patterns o-quiet) h = rw (spec, table) at h
+reads_beside met name spec table reads (ScanSpec o-file o-patterns o-quiet) h = rw (spec, table) at h
 reads_beside met name spec table reads (ScanTable o-file) h =
     let beside = rw (spec, table) at h in
     let bad : reads_patterns met ≡ false = beside.3 in
@@ -52,8 +53,8 @@ reads_beside met name spec table reads (ScanTable o-file) h =
 -- the specification of a scan is standard input
 by_input : (met : List Row) → first_of (codes "scan-spec") met ≡ Some (codes "-") → first_of (codes "scan-table") met ≡ None
     → (job : Job) → IsJobOf met false job → ⊥
-by_input met spec table (Generate o-files o-out o-stdout o-stats o-backup o-fold o-posix o-quiet) h = rw (spec, table) at h
-by_input met spec table (ScanSpec o-file o-fold o-posix o-quiet) h =
+by_input met spec table (Generate o-files o-out o-stdout o-stats o-backup o-patterns o-quiet) h = rw (spec, table) at h
+by_input met spec table (ScanSpec o-file o-patterns o-quiet) h =
     let by = rw (spec, table) at h in
     absurd (by.1 refl)
 by_input met spec table (ScanTable o-file) h = rw (spec, table) at h

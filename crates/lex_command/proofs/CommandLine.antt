@@ -13,7 +13,7 @@ use Rattle.clap.specs.declared.error.kind.ErrorKind.TheVariants as kind
 use Rattle.clap.specs.declared.parser.matches.ArgMatches.{ArgMatches}
 use Rattle.lex_command.specs.CommandLine.{AsksFor, IsJobOf, has_byte_at, has_separator, has_value_behind_equals, is_out_with_equals, lex_app}
 use Rattle.lex_command.specs.Refusal.{refusal_of}
-use Rattle.lex_command.specs.declared.job.args.ArgsError.TheVariants.{Usage}
+use Rattle.lex_command.specs.declared.error.ArgsError.TheVariants.{Usage}
 use Rattle.lex_command.specs.declared.job.args.Job.{Job}
 
 -- a command with one more argument has one more rule

@@ -1,5 +1,6 @@
 -- The flags of a subcommand, put together.
-use Rattle.std.proofs.Common.{◌≡◌, ◌&&◌, not, Bool, true, false, refl}
+use Rattle.std.proofs.Common.{◌≡◌, ◌&&◌, ◌∷◌, [], List, fold, not, Bool, true, false, refl}
+use Rattle.clap.specs.Words.{App, Rule, with_rule}
 
 -- the third of some flags is off
 pub third_off : (a b g rest : Bool) → (a && (not b && (not g && rest))) ≡ true → g ≡ false
@@ -7,3 +8,8 @@ third_off true false false rest e = refl
 third_off true false true rest e = absurd cc
 third_off true true g rest e = absurd cc
 third_off false b g rest e = absurd cc
+
+-- a command stays plain with more words
+pub stays_plain : (a : App) (rules : List Rule) → a.top.is_plain ≡ true → (fold with_rule a rules).top.is_plain ≡ true
+stays_plain a [] e = e
+stays_plain a (r ∷ rules) e = stays_plain (with_rule a r) rules e

@@ -5,6 +5,6 @@ use Rattle.lex_command.specs.declared.job.args.Job.TheVariants.{Generate, ScanSp
 
 -- a scan has a file by name: `-` would be standard input, which is scanned
 abbrev pub IsNamed : Job → Type 0
-IsNamed (ScanSpec file fold posix quiet) = string_bytes file ≢ codes "-"
+IsNamed (ScanSpec file patterns quiet) = string_bytes file ≢ codes "-"
 IsNamed (ScanTable file) = string_bytes file ≢ codes "-"
-IsNamed (Generate files out stdout stats backup fold posix quiet) = ⊤
+IsNamed (Generate files out stdout stats backup patterns quiet) = ⊤

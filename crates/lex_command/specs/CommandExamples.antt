@@ -16,19 +16,18 @@ Nothing job = ⊥
 
 -- tables of these files, in this file; of the flags, `-v` without `-n`, and `-b`, as they are told
 abbrev pub Making : List Text → Option Text → Bool → Bool → Job → Type 0
-Making names name counts backs (Generate files out stdout stats backup fold posix quiet) =
+Making names name counts backs (Generate files out stdout stats backup patterns quiet) =
     (map string_bytes files.items ≡ names)
     × (option_map string_bytes out ≡ name)
     × (stdout ≡ false)
     × (stats ≡ counts)
     × (backup ≡ backs)
-    × (fold ≡ false)
-    × (posix ≡ false)
+    × (patterns ≡ record { fold = false; posix = false })
     × (quiet ≡ false)
 Making names name counts backs _ = ⊥
 
 -- a scan by the specification in this file, with `-i` as it is told, and neither `-X` nor `-w`
 abbrev pub ScanningBy : Text → Bool → Job → Type 0
-ScanningBy name folds (ScanSpec file fold posix quiet) =
-    (string_bytes file ≡ name) × (fold ≡ folds) × (posix ≡ false) × (quiet ≡ false)
+ScanningBy name folds (ScanSpec file patterns quiet) =
+    (string_bytes file ≡ name) × (patterns ≡ record { fold = folds; posix = false }) × (quiet ≡ false)
 ScanningBy name folds _ = ⊥

@@ -1,23 +1,19 @@
--- What the words of the program's command line ask for.
+-- What the words of the command line of lex ask for.
 use Rattle.std.specs.Prelude.{◌≡◌, ◌≢◌, ◌==◌, ◌+◌, ◌&&◌, ◌||◌, ℕ, Bool, true, false, not, List, [], ◌∷◌, map}
-use Rattle.std.specs.Prelude.{Option, Some, None, is_some, option_map, slice_get, unwrap_or, fold, codes, nat_lt}
+use Rattle.std.specs.Prelude.{Option, Some, None, is_some, option_map, slice_get, unwrap_or, fold, codes}
 use Rattle.std.specs.Prelude.{string_bytes}
 use Rattle.std.specs.List.{list_any, position, starts_with}
 use Rattle.std.specs.Option.{option_map_or}
-use Rattle.std.specs.Str.{bytes_eq}
-use Rattle.clap.specs.Words.{App, Row, Rule, Text, all_of, count_of, fault_of, first_of, matches_of, new_app}
+use Rattle.clap.specs.Words.{App, Row, Rule, Text, all_of, fault_of, first_of, matches_of, new_app}
 use Rattle.clap.specs.Words.{new_rule, with_rule}
 use Rattle.clap.specs.Lexer.{usize_max}
 use Rattle.clap.specs.Simple.{on_top}
-use Rattle.clap.specs.declared.builder.action.ArgAction.TheVariants.{Append, Count, Set}
+use Rattle.clap.specs.declared.builder.action.ArgAction.TheVariants.{Append, Set}
+use Rattle.lex_command.specs.Flags.{flag_rule, has, is_separator, patterns_of}
 use Rattle.lex_command.specs.declared.job.args.Job.{Job}
 use Rattle.lex_command.specs.declared.job.args.Job.TheVariants.{Generate, ScanSpec, ScanTable}
 
 -- ---- the program's command line, in clap's terms
-
--- a flag, which may be repeated
-abbrev pub flag_rule : Text → ℕ → Rule
-flag_rule name letter = record (new_rule name) { short = Some letter; action = Some Count }
 
 -- a letter that has a value
 abbrev pub letter_rule : Text → ℕ → Rule
@@ -68,10 +64,7 @@ lex_app = fold with_rule (fold with_rule no_rules flag_rules) name_rules
 
 -- ---- words that are in none of the forms, though clap takes them
 
--- `--`, behind which each word is a file
-abbrev pub is_separator : Text → Bool
-is_separator word = bytes_eq word (codes "--")
-
+-- a word is `--`, behind which each word is a file
 abbrev pub has_separator : List Text → Bool
 has_separator words = list_any is_separator words
 
@@ -96,10 +89,6 @@ has_value_behind_equals (word ∷ rest) = not (is_separator word)
 
 -- ---- what was met
 
--- the flag stands there
-abbrev pub has : Text → List Row → Bool
-has flag met = nat_lt 0 (count_of flag met)
-
 -- something stands there that only making tables takes: `-t`, `-n`, `-v`, `-b`, `-o` or a file
 abbrev pub makes_tables : List Row → Bool
 makes_tables met = has (codes "stdout") met
@@ -118,23 +107,21 @@ files_of met = unwrap_or (all_of (codes "file") met) []
 
 -- the making of tables that was asked for; `-n` outweighs `-v`
 abbrev pub Makes : List Row → Job → Type 0
-Makes met (Generate files out stdout stats backup fold posix quiet) = (map string_bytes files.items ≡ files_of met)
+Makes met (Generate files out stdout stats backup patterns quiet) = (map string_bytes files.items ≡ files_of met)
     × (option_map string_bytes out ≡ first_of (codes "out") met)
     × (stdout ≡ has (codes "stdout") met)
     × (stats ≡ (has (codes "stats") met && not (has (codes "no-stats") met)))
     × (backup ≡ has (codes "backup") met)
-    × (fold ≡ has (codes "fold") met)
-    × (posix ≡ has (codes "posix") met)
+    × (patterns ≡ patterns_of met)
     × (quiet ≡ has (codes "quiet") met)
 Makes met _ = ⊥
 
 -- the scan by the specification in the file that was asked for
 abbrev pub ScansBySpec : List Row → Text → Job → Type 0
-ScansBySpec met name (ScanSpec file fold posix quiet) = (string_bytes file ≡ name)
+ScansBySpec met name (ScanSpec file patterns quiet) = (string_bytes file ≡ name)
     × (name ≢ codes "-")
     × (makes_tables met ≡ false)
-    × (fold ≡ has (codes "fold") met)
-    × (posix ≡ has (codes "posix") met)
+    × (patterns ≡ patterns_of met)
     × (quiet ≡ has (codes "quiet") met)
 ScansBySpec met name _ = ⊥
 

@@ -1,3 +1,4 @@
+pub mod Flags
 pub mod Args
 pub mod CommandLine
 pub mod CommandExamples

@@ -1,12 +1,14 @@
--- What the words of the program's command line ask for.
-use Rattle.std.specs.Prelude.{◌≡◌, ◌⊎◌, ◌&&◌, ◌||◌, ℕ, Bool, true, false, not, List, [], ◌∷◌, Option, Some, None, fold, codes, string_bytes}
+-- What the words of the command line of lexlook ask for.
+use Rattle.std.specs.Prelude.{◌≡◌, ◌&&◌, ◌||◌, Bool, true, false, not, List, [], ◌∷◌, Option, Some, None, fold, codes, string_bytes}
 use Rattle.std.specs.Str.{bytes_eq}
 use Rattle.clap.specs.Words.{App, Row, Rule, Text, fault_of, first_of, new_app, new_rule, subcommand_of, with_rule, with_subcommand}
 use Rattle.clap.specs.Simple.{on_top}
 use Rattle.clap.specs.declared.builder.action.ArgAction.TheVariants.{Set}
-use Rattle.lex_command.specs.CommandLine.{flag_rule, has, is_separator}
+use Rattle.lex_command.specs.Flags.{is_separator, pattern_rules, patterns_of}
 use Rattle.lex_command.specs.declared.look.args.Look.{Look}
-use Rattle.lex_command.specs.declared.look.args.Look.TheVariants.{Help, Picture, Same, Lines, Words, Trace}
+use Rattle.lex_command.specs.declared.look.args.Look.TheVariants.{Help, One, Same}
+use Rattle.lex_command.specs.declared.look.args.Subcommand.{Subcommand}
+use Rattle.lex_command.specs.declared.look.args.Subcommand.TheVariants.{Picture, Lines, Words, Trace}
 
 -- ---- the program's command line, in clap's terms
 
@@ -14,29 +16,19 @@ use Rattle.lex_command.specs.declared.look.args.Look.TheVariants.{Help, Picture,
 abbrev pub needed_rule : Text → Rule
 needed_rule name = record (new_rule name) { action = Some Set; required = true }
 
--- a flag by its letter, or else a word that has to stand there
-abbrev pub look_rule : Text → Option ℕ → Rule
-look_rule name (Some letter) = flag_rule name letter
-look_rule name None = needed_rule name
-
--- `-i` (105) and `-X` (88), and the file
-abbrev pub file_rules : List Rule
-file_rules = flag_rule (codes "fold") 105 ∷ flag_rule (codes "posix") 88 ∷ needed_rule (codes "file") ∷ []
-
 abbrev pub without_help : App → App
 without_help a = on_top (λ s. record s { disable_help_flag = true }) a
 
--- a subcommand of this name, with what stands behind it
-abbrev pub file_app : Text → App
-file_app name = fold with_rule (without_help (new_app name)) file_rules
+-- a subcommand of this name: behind it `-i` and `-X` may stand, and these files have to
+abbrev pub file_app : Text → List Rule → App
+file_app name files = fold with_rule (fold with_rule (without_help (new_app name)) pattern_rules) files
 
--- the same two flags, and two files
-abbrev pub same_rules : List Rule
-same_rules = flag_rule (codes "fold") 105 ∷ flag_rule (codes "posix") 88 ∷ needed_rule (codes "left") ∷ needed_rule (codes "right") ∷ []
+-- the file of a subcommand, and the two of `same`
+abbrev pub one_file : List Rule
+one_file = needed_rule (codes "file") ∷ []
 
--- `same`, with what stands behind it
-abbrev pub same_app : App
-same_app = fold with_rule (without_help (new_app (codes "same"))) same_rules
+abbrev pub two_files : List Rule
+two_files = needed_rule (codes "left") ∷ needed_rule (codes "right") ∷ []
 
 -- the words begin after the program's name, and name a subcommand; clap knows no help
 abbrev pub no_subcommand : App
@@ -47,7 +39,12 @@ no_subcommand =
 -- the program's command line
 abbrev pub lexlook_app : App
 lexlook_app = fold with_subcommand no_subcommand (
-    (file_app (codes "picture")).top ∷ same_app.top ∷ (file_app (codes "lines")).top ∷ (file_app (codes "words")).top ∷ (file_app (codes "trace")).top ∷ [])
+    (file_app (codes "picture") one_file).top
+    ∷ (file_app (codes "same") two_files).top
+    ∷ (file_app (codes "lines") one_file).top
+    ∷ (file_app (codes "words") one_file).top
+    ∷ (file_app (codes "trace") one_file).top
+    ∷ [])
 
 -- ---- what is asked for
 
@@ -56,87 +53,28 @@ abbrev pub has_help : List Text → Bool
 has_help [] = false
 has_help (word ∷ rest) = not (is_separator word) && (bytes_eq word (codes "--help") || has_help rest)
 
--- the picture of what is in the file, with `-i` and `-X` as they stand there
-abbrev pub AsksToDraw : List Row → Look → Type 0
-AsksToDraw met (Picture file folds series) = (Some (string_bytes file) ≡ first_of (codes "file") met)
-    × (folds ≡ has (codes "fold") met)
-    × (series ≡ has (codes "posix") met)
-AsksToDraw met Help = ⊥
-AsksToDraw met (Same left right folds series) = ⊥
-AsksToDraw met (Lines file folds series) = ⊥
-AsksToDraw met (Words file folds series) = ⊥
-AsksToDraw met (Trace file folds series) = ⊥
+-- what a subcommand of one file is called
+abbrev pub name_of : Subcommand → Text
+name_of Picture = codes "picture"
+name_of Lines = codes "lines"
+name_of Words = codes "words"
+name_of Trace = codes "trace"
 
--- whether what is in the two files does the same
-abbrev pub AsksToCompare : List Row → Look → Type 0
-AsksToCompare met (Same left right folds series) = (Some (string_bytes left) ≡ first_of (codes "left") met)
-    × (Some (string_bytes right) ≡ first_of (codes "right") met)
-    × (folds ≡ has (codes "fold") met)
-    × (series ≡ has (codes "posix") met)
-AsksToCompare met Help = ⊥
-AsksToCompare met (Picture file folds series) = ⊥
-AsksToCompare met (Lines file folds series) = ⊥
-AsksToCompare met (Words file folds series) = ⊥
-AsksToCompare met (Trace file folds series) = ⊥
-
--- whether an input of what is in the file may be cut at its newlines
-abbrev pub AsksToCut : List Row → Look → Type 0
-AsksToCut met (Lines file folds series) = (Some (string_bytes file) ≡ first_of (codes "file") met)
-    × (folds ≡ has (codes "fold") met)
-    × (series ≡ has (codes "posix") met)
-AsksToCut met Help = ⊥
-AsksToCut met (Picture file folds series) = ⊥
-AsksToCut met (Same left right folds series) = ⊥
-AsksToCut met (Words file folds series) = ⊥
-AsksToCut met (Trace file folds series) = ⊥
-
--- the texts that the rules of what is in the file take
-abbrev pub AsksToFind : List Row → Look → Type 0
-AsksToFind met (Words file folds series) = (Some (string_bytes file) ≡ first_of (codes "file") met)
-    × (folds ≡ has (codes "fold") met)
-    × (series ≡ has (codes "posix") met)
-AsksToFind met Help = ⊥
-AsksToFind met (Picture file folds series) = ⊥
-AsksToFind met (Same left right folds series) = ⊥
-AsksToFind met (Lines file folds series) = ⊥
-AsksToFind met (Trace file folds series) = ⊥
-
--- the lines of the matches of a scan by what is in the file
-abbrev pub AsksToTrace : List Row → Look → Type 0
-AsksToTrace met (Trace file folds series) = (Some (string_bytes file) ≡ first_of (codes "file") met)
-    × (folds ≡ has (codes "fold") met)
-    × (series ≡ has (codes "posix") met)
-AsksToTrace met Help = ⊥
-AsksToTrace met (Picture file folds series) = ⊥
-AsksToTrace met (Same left right folds series) = ⊥
-AsksToTrace met (Lines file folds series) = ⊥
-AsksToTrace met (Words file folds series) = ⊥
-
--- what a subcommand asks for, by its name and what stands behind it
+-- what a subcommand asks for, by its name and what stands behind it: the files, with `-i` and `-X` as they stand there
 abbrev pub IsLookOf : Option (Text × List Row) → Look → Type 0
-IsLookOf None look = ⊥
-IsLookOf (Some p) look = ((p.0 ≡ codes "picture") × AsksToDraw p.1 look)
-    ⊎ ((p.0 ≡ codes "same") × AsksToCompare p.1 look)
-    ⊎ ((p.0 ≡ codes "lines") × AsksToCut p.1 look)
-    ⊎ ((p.0 ≡ codes "words") × AsksToFind p.1 look)
-    ⊎ ((p.0 ≡ codes "trace") × AsksToTrace p.1 look)
+IsLookOf (Some p) (One what file patterns) = (p.0 ≡ name_of what)
+    × (Some (string_bytes file) ≡ first_of (codes "file") p.1)
+    × (patterns ≡ patterns_of p.1)
+IsLookOf (Some p) (Same left right patterns) = (p.0 ≡ codes "same")
+    × (Some (string_bytes left) ≡ first_of (codes "left") p.1)
+    × (Some (string_bytes right) ≡ first_of (codes "right") p.1)
+    × (patterns ≡ patterns_of p.1)
+IsLookOf p look = ⊥
 
 -- The words ask for the help if one of them is `--help`, before any `--`. Else they are a line of the program's, and ask for what the
 -- subcommand does.
 abbrev pub AsksFor : List Text → Look → Type 0
 AsksFor words Help = has_help words ≡ true
-AsksFor words (Picture file folds series) = (has_help words ≡ false)
+AsksFor words look = (has_help words ≡ false)
     × (fault_of lexlook_app words ≡ [])
-    × IsLookOf (subcommand_of lexlook_app words) (Picture file folds series)
-AsksFor words (Same left right folds series) = (has_help words ≡ false)
-    × (fault_of lexlook_app words ≡ [])
-    × IsLookOf (subcommand_of lexlook_app words) (Same left right folds series)
-AsksFor words (Lines file folds series) = (has_help words ≡ false)
-    × (fault_of lexlook_app words ≡ [])
-    × IsLookOf (subcommand_of lexlook_app words) (Lines file folds series)
-AsksFor words (Words file folds series) = (has_help words ≡ false)
-    × (fault_of lexlook_app words ≡ [])
-    × IsLookOf (subcommand_of lexlook_app words) (Words file folds series)
-AsksFor words (Trace file folds series) = (has_help words ≡ false)
-    × (fault_of lexlook_app words ≡ [])
-    × IsLookOf (subcommand_of lexlook_app words) (Trace file folds series)
+    × IsLookOf (subcommand_of lexlook_app words) look

@@ -1,7 +1,7 @@
-//! The words of the program's command line: what they ask for, and what is refused.
+//! The command line of lex.
 
 mod args;
 mod laws;
 
-pub use args::{ArgsError, Job, read_args};
+pub use args::{Job, read_args};
 pub use laws::command_lines;

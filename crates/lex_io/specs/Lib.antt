@@ -6,6 +6,7 @@ pub mod Taking
 pub mod SourceLaws
 pub mod MemorySinks
 pub mod MemorySources
+pub mod SliceSources
 pub mod ByteReaders
 pub mod ByteWriters
 pub mod Octal

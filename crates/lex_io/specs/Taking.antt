@@ -1,6 +1,6 @@
 -- What the calls of a source over memory do to its bytes.
 use Rattle.std.specs.Prelude.{◌≡◌, ℕ, true, false, List, [], ◌++◌}
-use Rattle.std.proofs.Common.{sym, ap, ◌∙◌, append_assoc}
+use Rattle.std.proofs.Common.{◌<◌, ◌^◌, sym, ap, ◌∙◌, append_assoc, lit<}
 
 -- the source lost these bytes
 abbrev pub Takes : List ℕ → List ℕ → List ℕ → Type 0
@@ -15,3 +15,7 @@ never-waits ready e = absurd (no e)
   where
     no : false ≡ true → ⊥
     no p = cc
+
+-- the count of failures of an end that never fails
+pub never-fails : 0 < 2 ^ 64
+never-fails = lit< tt

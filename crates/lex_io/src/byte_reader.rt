@@ -46,6 +46,7 @@ impl<R: Read> ByteReader<R> {
         ByteReader::with_capacity(alloc, buffer::CAPACITY, reader)
     }
 
+    /// The same with a buffer of this many bytes.
     fn with_capacity(alloc: Global, capacity: usize, reader: R) -> Result<ByteReader<R>, AllocError>
     where
         R: Drop,
@@ -87,6 +88,7 @@ impl<R: Read> ByteReader<R> {
         }
     }
 
+    /// The error that a refill met.
     #[cold]
     fn take_error(&mut self) -> io::Error
         requires { IsSome self.old.error }
@@ -149,6 +151,7 @@ impl<R: Read> Read for ByteReader<R> {
 
     ghost remaining = { bytes_left R.remaining };
 
+    /// Gives as many bytes ahead as there is room for. Where none is ahead, the reader behind is asked once before.
     #[inline(always)]
     fn read(&mut self, buf: &mut [u8]) -> io::Result<usize>
         ensures bound { ReadsAtMost result buf.new }

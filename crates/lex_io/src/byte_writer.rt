@@ -27,6 +27,7 @@ impl Held {
         self.buffer.len() - self.end
     }
 
+    /// The bytes that wait.
     fn as_slice(&self) -> &[u8]
         ensures { result.now ≡ take self.now.end self.now.buffer.items }
     {
@@ -80,6 +81,7 @@ impl<W: Write + Drop> ByteWriter<W> {
         ByteWriter::with_capacity(alloc, buffer::CAPACITY, writer)
     }
 
+    /// The same with a buffer of this many bytes.
     fn with_capacity(alloc: Global, capacity: usize, writer: W) -> Result<ByteWriter<W>, AllocError>
         ensures writer { IfOk result (λ made. made.writer ≡ writer) }
         ensures empty { IfOk result (λ made. bytes_held made ≡ []) }
@@ -136,6 +138,7 @@ impl<W: Write + Drop> ByteWriter<W> {
         }
     }
 
+    /// The error that pouring met.
     #[cold]
     fn take_error(&mut self) -> io::Error
         requires { IsSome self.old.error }
@@ -187,6 +190,7 @@ impl<W: Write + Drop> Write for ByteWriter<W> {
 }
 
 impl<W: Write + Drop> Drop for ByteWriter<W> {
+    /// Pours what is held. An error of that is told to nobody, so flush before.
     fn drop(mut self) {
         let _ = self.pour();
         let ByteWriter {

@@ -19,6 +19,7 @@ pub fn copy_to(place: &mut [u8], bytes: &[u8])
     }
 }
 
+/// Makes the one slice the other, all at once.
 #[inline(never)]
 fn copy_many(place: &mut [u8], bytes: &[u8])
     requires { length place.old ≡ length bytes.now }

@@ -50,6 +50,7 @@ impl<R: Read> Source for FromBytes<R> {
 
     ghost waits = { λ s. is_none (bytes_ahead (byte_reader_of s)) };
 
+    /// Reads one byte: no byte is the end, and any error is a fault.
     #[inline(always)]
     fn next(&mut self) -> Result<Option<u8>, ReadFault> {
         let mut one = [0u8; 1];
@@ -66,11 +67,13 @@ impl<R: Read> Source for FromBytes<R> {
         }
     }
 
+    /// The bytes that the reader has read ahead.
     #[inline(always)]
     fn ahead(&self) -> &[u8] {
         self.reader.ahead()
     }
 
+    /// Drops as many of these from the reader.
     #[inline(always)]
     fn give(&mut self, count: usize) {
         self.reader.skip(count);

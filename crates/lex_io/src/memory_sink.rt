@@ -1,4 +1,5 @@
-//! A sink over memory that fails once, at a stated place, for tests.
+//! A sink over memory, mostly for tests: it keeps what it is given, and may fail once, at a stated place. `null_sink`
+//! has one that keeps nothing.
 ghost use Rattle.std.specs.Prelude.{◌≡◌, ℕ, ◌+◌, ◌-◌, ◌^◌, ◌<◌, ◌≤◌, Bool, true, false};
 ghost use Rattle.std.specs.Prelude.{List, [], ◌++◌, length, None, Some, OnOk, ◌↔◌};
 ghost use Rattle.std.specs.Result.{IsErr};

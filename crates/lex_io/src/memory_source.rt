@@ -1,4 +1,5 @@
-//! A source over memory that pauses once, at a stated place, for tests.
+//! A source over a slice for tests: it may fail or end once, at a stated place, and counts its calls. `slice_source`
+//! has the one for scans, which does neither.
 ghost use Rattle.std.specs.Prelude.{◌≡◌, refl, ℕ, ◌+◌, ◌-◌, ◌^◌, ◌<◌, ◌≤◌, min, Bool, true, false};
 ghost use Rattle.std.specs.Prelude.{List, [], ◌++◌, length, take, None, Some, ◌⊎◌, ◌↔◌};
 ghost use Rattle.lex_io.specs.Sink.{fault_count};
@@ -66,6 +67,7 @@ impl<'a> MemorySource<'a> {
         MemorySource::pausing(bytes, Some(Pause::End(count)))
     }
 
+    /// Gives these bytes, with this pause or none.
     fn pausing(bytes: &'a [u8], pause: Option<Pause>) -> MemorySource<'a>
         ensures bytes { result.rest.now ≡ bytes.entry.now }
         ensures pause { result.pause ≡ pause }

@@ -103,6 +103,7 @@ impl<W: Write> Sink for ToWrite<W> {
 
     ghost flushed = { λ s. writer_flushed s };
 
+    /// Writes all of the bytes, or fails after a prefix of them.
     #[inline]
     fn put(&mut self, bytes: &[u8]) -> Result<(), WriteFault> {
         self.flushed = false;
@@ -115,6 +116,7 @@ impl<W: Write> Sink for ToWrite<W> {
         }
     }
 
+    /// Flushes the writer.
     fn flush(&mut self) -> Result<(), WriteFault> {
         match self.writer.flush() {
             Ok(()) => {

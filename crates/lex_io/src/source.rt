@@ -106,6 +106,7 @@ impl<R: Read> Source for FromRead<R> {
 
     ghost waits = { λ s. true };
 
+    /// Reads one byte: no byte is the end, and any error is a fault.
     #[inline(always)]
     fn next(&mut self) -> Result<Option<u8>, ReadFault> {
         let mut one = [0u8; 1];
@@ -122,10 +123,12 @@ impl<R: Read> Source for FromRead<R> {
         }
     }
 
+    /// None: the reader has no buffer to look into.
     fn ahead(&self) -> &[u8] {
         &[]
     }
 
+    /// Gives nothing, since nothing is ahead.
     fn give(&mut self, count: usize) {
         let _count = count;
     }

@@ -49,6 +49,7 @@ impl<W: Write + Drop> Sink for ToBytes<W> {
 
     ghost flushed = { λ s. is_none (bytes_held (byte_writer_of s)) };
 
+    /// Holds or writes all of the bytes, or fails after a prefix of them.
     #[inline]
     fn put(&mut self, bytes: &[u8]) -> Result<(), WriteFault> {
         match write_whole(&mut self.writer, bytes) {
@@ -60,6 +61,7 @@ impl<W: Write + Drop> Sink for ToBytes<W> {
         }
     }
 
+    /// Pours what the writer holds, and flushes the writer behind it.
     fn flush(&mut self) -> Result<(), WriteFault> {
         match self.writer.flush() {
             Ok(()) => Ok(()),

@@ -1,4 +1,26 @@
 //! What a scanner obeys: a machine of states, the rules that these accept, and what the rules do.
+//!
+//! - `cut`: how much of a match is the text, where a rule has trailing context.
+//! - `action`: the statements of an action and the end action, as values of the code.
+//! - `machine`: the trait `Machine`: starts, steps, accepted rules, and which states go on.
+//! - `glance`: what a machine may tell of a match at once: `Way`, a walk up to where it stops, and `Gist`, what the
+//!   first rule there does.
+//! - `copying`: copies of actions, for a table that is to own them.
+//!
+//! It promises lexscan the laws of machines (`laws` and `below` of the trait), whatever the machine is. So a scan is
+//! proved once for tables, for plain automata and for machines of tests, and lexscan and lexauto know nothing of each
+//! other.
+//!
+//! How actions are copied may be changed alone. A new statement changes lexspec_actions, which reads it,
+//! lexscan_window, which carries it out, and lextab_file, which writes it. Another kind of machine is a type above
+//! that implements the trait.
+//!
+//! Decided for this room alone:
+//!
+//! - A machine need not tell anything at a glance: `way` and `gist` may answer that nothing is known. Then a scan
+//!   makes each turn by itself.
+//! - A gist says what a rule does only where it keeps the whole match and each statement is ECHO, a literal or BEGIN.
+//!   These change nothing but the output and the condition.
 #![tactic(auto)]
 
 mod action;

@@ -136,26 +136,26 @@ pub kept_by_reject : E.Writes E.rejects_after_push (codes "ab") (codes "Ab") 0
 unfolding has single range_set union complement fold_case other_case set_of perform
 kept_by_reject = run_is E.rejects_after_push (codes "ab") 40 (codes "Ab") (Status 0) refl
 
-pub taken_by_exit : M.Tells M.exit_after_ab (codes "abXYZ") ((2, 2) ∷ [])
+pub taken_by_exit : M.HasTurnRows M.exit_after_ab (codes "abXYZ") ((2, 2) ∷ [])
 unfolding perform
 taken_by_exit = refl
 
-pub taken_after_more : M.Tells M.exit_after_bs (codes "abXYZ") ((3, 2) ∷ [])
+pub taken_after_more : M.HasTurnRows M.exit_after_bs (codes "abXYZ") ((3, 2) ∷ [])
 unfolding perform
 taken_after_more = refl
 
-pub taken_by_keys : M.Tells M.keys (codes "if 42 x") ((2, 2) ∷ (3, 3) ∷ (5, 5) ∷ (6, 6) ∷ (7, 7) ∷ (7, 7) ∷ [])
+pub taken_by_keys : M.HasTurnRows M.keys (codes "if 42 x") ((2, 2) ∷ (3, 3) ∷ (5, 5) ∷ (6, 6) ∷ (7, 7) ∷ (7, 7) ∷ [])
 unfolding perform
 taken_by_keys = refl
 
-pub held_after_backing_up : M.Tells M.abc (codes "abab") ((3, 1) ∷ (3, 2) ∷ (4, 3) ∷ (4, 4) ∷ (4, 4) ∷ [])
+pub held_after_backing_up : M.HasTurnRows M.abc (codes "abab") ((3, 1) ∷ (3, 2) ∷ (4, 3) ∷ (4, 4) ∷ (4, 4) ∷ [])
 unfolding perform
 held_after_backing_up = refl
 
-pub held_context : M.Tells M.before_cd (codes "abcdab") ((4, 2) ∷ (4, 3) ∷ (4, 4) ∷ (6, 5) ∷ (6, 6) ∷ (6, 6) ∷ [])
+pub held_context : M.HasTurnRows M.before_cd (codes "abcdab") ((4, 2) ∷ (4, 3) ∷ (4, 4) ∷ (6, 5) ∷ (6, 6) ∷ (6, 6) ∷ [])
 unfolding perform
 held_context = refl
 
-pub held_one_by_one : M.Tells M.one_by_one (codes "aaaaa") ((5, 1) ∷ (5, 2) ∷ (5, 3) ∷ (5, 4) ∷ (5, 5) ∷ (5, 5) ∷ [])
+pub held_one_by_one : M.HasTurnRows M.one_by_one (codes "aaaaa") ((5, 1) ∷ (5, 2) ∷ (5, 3) ∷ (5, 4) ∷ (5, 5) ∷ (5, 5) ∷ [])
 unfolding perform
 held_one_by_one = refl

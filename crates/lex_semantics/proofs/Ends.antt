@@ -103,7 +103,7 @@ no_more (Pop ∷ ss) a l h =
 
 -- The outcome of a match over `kept` bytes and a rest of `left`: the text lies inside, and it is kept whole and longer
 -- than `kept`, or it is not empty and the next text starts at its end.
-pub record GoesOn (kept left : ℕ) (a : Acting) : Type 0 where
+pub record Progresses (kept left : ℕ) (a : Acting) : Type 0 where
   pub inside : length a.text ≤ kept + left
   pub grows : ((kept < length a.text)) ⊎ ((1 ≤ length a.text) × (a.more ≡ false))
 
@@ -112,26 +112,26 @@ on_went P Q S (Done a) h k f = f a h k
 on_went P Q S (Again a) h k f = tt
 on_went P Q S (Over a e) h k f = f a h k
 
-act_goes_on : (n kept left : ℕ) (ss : List Statement) (a : Acting) → IsAction n ss → a.more ≡ false → kept < length a.text → length a.text ≤ kept + left → Leaves (GoesOn kept left) (act_result ss a)
+act_goes_on : (n kept left : ℕ) (ss : List Statement) (a : Acting) → IsAction n ss → a.more ≡ false → kept < length a.text → length a.text ≤ kept + left → Leaves (Progresses kept left) (act_result ss a)
 act_goes_on n kept left ss a legal more some inside = from (apart n ss legal)
   where
     size : Leaves (λ b. length b.text ≤ kept + left) (act_result ss a)
     size = no_longer (kept + left) ss a inside
 
-    from : (has_less ss ≡ false) ⊎ (has_more ss ≡ false) → Leaves (GoesOn kept left) (act_result ss a)
+    from : (has_less ss ≡ false) ⊎ (has_more ss ≡ false) → Leaves (Progresses kept left) (act_result ss a)
     from (inl l) =
-        on_went (λ b. length b.text ≤ kept + left) (λ b. length b.text ≡ length a.text) (GoesOn kept left) (act_result ss a) size (same_text (length a.text) ss a l refl)
+        on_went (λ b. length b.text ≤ kept + left) (λ b. length b.text ≡ length a.text) (Progresses kept left) (act_result ss a) size (same_text (length a.text) ss a l refl)
         (λ b p q. record { inside = p; grows = inl (omega (arith, q, some)) })
     from (inr m) =
         let both : Leaves (λ b. (1 ≤ length b.text) × (b.more ≡ false)) (act_result ss a) =
         on_went (λ b. 1 ≤ length b.text) (λ b. b.more ≡ false) (λ b. (1 ≤ length b.text) × (b.more ≡ false)) (act_result ss a) (not_empty ss a (less_from_one n ss legal.ranges) (omega arith)) (no_more ss a m more) (λ b p q. (p, q)) in
-        on_went (λ b. length b.text ≤ kept + left) (λ b. (1 ≤ length b.text) × (b.more ≡ false)) (GoesOn kept left) (act_result ss a) size both (λ b p q. record { inside = p; grows = inr q })
+        on_went (λ b. length b.text ≤ kept + left) (λ b. (1 ≤ length b.text) × (b.more ≡ false)) (Progresses kept left) (act_result ss a) size both (λ b p q. record { inside = p; grows = inr q })
 
 abbrev pub GoodMatch : ℕ → ℕ → Option Acting → Type 0
-GoodMatch kept left r = (o : Acting) × (r ≡ Some o) × GoesOn kept left o
+GoodMatch kept left r = (o : Acting) × (r ≡ Some o) × Progresses kept left o
 
 -- the action of a match settles it, or the next match does
-settle_good : (kept left : ℕ) (w : ActionResult) (f : Acting → Option Acting) → Leaves (GoesOn kept left) w → ((a : Acting) → w ≡ Again a → GoodMatch kept left (f a)) → GoodMatch kept left (settle w f)
+settle_good : (kept left : ℕ) (w : ActionResult) (f : Acting → Option Acting) → Leaves (Progresses kept left) w → ((a : Acting) → w ≡ Again a → GoodMatch kept left (f a)) → GoodMatch kept left (settle w f)
 settle_good kept left (Done a) f h later = (record a { ended = None }, refl, record { inside = h.inside; grows = h.grows })
 settle_good kept left (Again a) f h later = later a refl
 settle_good kept left (Over a e) f h later = (record a { ended = Some e }, refl, record { inside = h.inside; grows = h.grows })
@@ -177,7 +177,7 @@ Grows p q = (p.start < q.start) ⊎ ((p.start ≡ q.start) × (p.at < q.at))
 abbrev pub Moves : List ℕ → Place → State → Type 0
 Moves x p s = ((e : Ending) × (s.ended ≡ Some e)) ⊎ ((s.ended ≡ None) × Inside x s.place × Grows p s.place)
 
-place_from : (x : List ℕ) (p : Place) (a : Acting) → Inside x p → GoesOn (p.at - p.start) (length x - p.at) a → (b : Bool) → a.more ≡ b →
+place_from : (x : List ℕ) (p : Place) (a : Acting) → Inside x p → Progresses (p.at - p.start) (length x - p.at) a → (b : Bool) → a.more ≡ b →
     (q : Place) → q ≡ record { start = if b then p.start else p.start + length a.text; at = p.start + length a.text; condition = a.condition; stack = a.stack } → Inside x q × Grows p q
 place_from x p a h g true is q e =
     let s : q.start ≡ p.start = ap (λ (z : Place). z.start) e in
@@ -196,7 +196,7 @@ place_from x p a h g false is q e =
     longer s (inl lt) = omega arith
     longer s (inr k) = omega (arith, k.0)
 
-moves_from : (x : List ℕ) (p : Place) (o : Acting) → Inside x p → GoesOn (p.at - p.start) (length x - p.at) o → (e : Option Ending) → o.ended ≡ e →
+moves_from : (x : List ℕ) (p : Place) (o : Acting) → Inside x p → Progresses (p.at - p.start) (length x - p.at) o → (e : Option Ending) → o.ended ≡ e →
     Moves x p (record { written = o.written; place = next_place p o; ended = o.ended })
 moves_from x p o h g (Some e) is = inl (e, is)
 moves_from x p o h g None is =
@@ -235,7 +235,7 @@ module _ (R : Rules) (l : Laws R) (legal : (i : ℕ) → i < R.count → IsActio
           let good = perform_good R legal kept y listed.0 [] p.condition p.stack (λ m a. keep_bounds p.condition line_start y m ((listed.1.members m).0 a)) one among refl in
           let o : Acting = good.0 in
           let u : State = record { written = o.written; place = next_place p o; ended = o.ended } in
-          let goes : GoesOn (p.at - p.start) (length x - p.at) o = subst (λ n. GoesOn (p.at - p.start) n o) left (subst (λ n. GoesOn n (length y) o) before good.2) in
+          let goes : Progresses (p.at - p.start) (length x - p.at) o = subst (λ n. Progresses (p.at - p.start) n o) left (subst (λ n. Progresses n (length y) o) before good.2) in
           (u, inl (record { before_end = lt; matches = listed.0; all = listed.1; outcome = o; performed = results_are _ _ _ _ _ _ _ ∙ good.1; leaves = refl }), moves_from x p o h goes o.ended refl)
 
   -- from a state that has not ended the scan ends

@@ -8,7 +8,7 @@ use Rattle.lex_semantics.specs.Candidates.{Candidates}
 use Rattle.lex_semantics.specs.Acting.{Ending}
 use Rattle.lex_semantics.specs.ActionResults.{perform_results}
 use Rattle.lex_semantics.specs.Run.{Place, State, Turn, MatchTurn, EndTurn, NextFrom, first_state}
-use Rattle.lex_semantics.specs.Demand.{AsksAt, Reach, AsksForEnd, FarFrom, EndAsked, GoesOnFrom}
+use Rattle.lex_semantics.specs.Demand.{AsksAt, Reach, AsksForEnd, FarFrom, EndAsked, ExtendsGiven}
 use Rattle.lex_semantics.specs.Scanned.{AfterTurns, Scanned, Seen, seen_turn, then_turn}
 use Rattle.lex_semantics.proofs.Texts.{is_text_drop, is_text_right, line_start_front, part_front}
 use Rattle.lex_semantics.proofs.Once.{one_state}
@@ -65,12 +65,12 @@ seen_match R l given rest p r h is_text enough =
     suffices (inr dead) = inr (λ live. dead (inr (subst (λ line_start. R.live p.condition line_start (take r (drop p.at given))) (line_start_front given rest p.at (omega (arith, h.inside))) live)))
 
 -- an input that goes on from more bytes goes on from the first of them
-consistent_before : (given more : List ℕ) (at_end : Bool) (x : List ℕ) → (at_end ≡ true → more ≡ []) → GoesOnFrom (given ++ more) at_end x → GoesOnFrom given at_end x
+consistent_before : (given more : List ℕ) (at_end : Bool) (x : List ℕ) → (at_end ≡ true → more ≡ []) → ExtendsGiven (given ++ more) at_end x → ExtendsGiven given at_end x
 consistent_before given more true x none h = h ∙ ap (λ m. given ++ m) (none refl) ∙ append-nil given
 consistent_before given more false x none h = (more ++ h.0, h.1 ∙ append_assoc given more h.0)
 
 -- it is those bytes and a rest
-with_rest : (given : List ℕ) (at_end : Bool) (x : List ℕ) → GoesOnFrom given at_end x → (rest : List ℕ) × (x ≡ given ++ rest)
+with_rest : (given : List ℕ) (at_end : Bool) (x : List ℕ) → ExtendsGiven given at_end x → (rest : List ℕ) × (x ≡ given ++ rest)
 with_rest given true x h = ([], h ∙ sym (append-nil given))
 with_rest given false x h = h
 
@@ -120,7 +120,7 @@ scanned_match_end R l given more at_end n s r going before none h asks all x con
     subst (λ y. AfterTurns R y (suc n) (then_turn s (seen_turn s.place h.outcome)) (length g) true) (sym consistent.1)
     (one_more R g n s (seen_turn s.place h.outcome) (length given) (length g) at_end true old going turn (inr (lt, r, reach, far)) (λ b. inr (inr (lt, subst (AsksAt R g s.place) same asks)), λ _. refl))
   where
-    ends_here : (e : Bool) → GoesOnFrom (given ++ more) e (given ++ more)
+    ends_here : (e : Bool) → ExtendsGiven (given ++ more) e (given ++ more)
     ends_here true = refl
     ends_here false = ([], sym (append-nil (given ++ more)))
 
@@ -133,7 +133,7 @@ scanned_end R given at_end n s t going before at turn x consistent =
     subst (λ y. AfterTurns R y (suc n) (then_turn s t) (length given) true) (sym consistent.1)
     (one_more R given n s t (length given) (length given) at_end true old going (inr turn) (inl (at, refl)) (λ b. inr (inl at), λ _. refl))
   where
-    ends_here : (e : Bool) → GoesOnFrom given e given
+    ends_here : (e : Bool) → ExtendsGiven given e given
     ends_here true = refl
     ends_here false = ([], sym (append-nil given))
 

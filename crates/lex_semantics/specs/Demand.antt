@@ -42,5 +42,5 @@ abbrev pub Consistent : (given : List ℕ) → (at_end : Bool) → List ℕ → 
 Consistent given at_end x = IsText x × cond at_end (x ≡ given) (BeginsWith x given)
 
 -- A name that proofs have for the second part of this.
-abbrev pub GoesOnFrom : (given : List ℕ) → (at_end : Bool) → List ℕ → Type 0
-GoesOnFrom given at_end x = cond at_end (x ≡ given) (BeginsWith x given)
+abbrev pub ExtendsGiven : (given : List ℕ) → (at_end : Bool) → List ℕ → Type 0
+ExtendsGiven given at_end x = cond at_end (x ≡ given) (BeginsWith x given)

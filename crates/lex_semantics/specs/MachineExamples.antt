@@ -7,8 +7,8 @@ use Rattle.lex_semantics.specs.Machine.{Machine}
 use Rattle.lex_semantics.specs.PlainMachine.{told_of}
 
 -- the bytes taken and the text's start, after each turn
-abbrev pub Tells : Machine → (input : List ℕ) → List (ℕ × ℕ) → Type 0
-Tells M input rows = told_of M input 20 ≡ rows
+abbrev pub HasTurnRows : Machine → (input : List ℕ) → List (ℕ × ℕ) → Type 0
+HasTurnRows M input rows = told_of M input 20 ≡ rows
 
 abbrev pub machine : ℕ → (ℕ → ℕ → ℕ) → (ℕ → List ℕ) → (ℕ → Bool) → (ℕ → Cut) → (ℕ → List Statement) → Machine
 machine count next accepts goes_on cut statements = record {

@@ -63,14 +63,14 @@ pub fn examples_of_ends()
 
 /// How many bytes are taken, and where the held ones begin, after each turn of some machines.
 pub fn examples_of_demand()
-    ensures taken_by_exit { M.Tells M.exit_after_ab (codes "abXYZ") ((2, 2) ∷ []) }
-    ensures taken_after_more { M.Tells M.exit_after_bs (codes "abXYZ") ((3, 2) ∷ []) }
-    ensures taken_by_keys { M.Tells M.keys (codes "if 42 x") ((2, 2) ∷ (3, 3) ∷ (5, 5) ∷ (6, 6)
+    ensures taken_by_exit { M.HasTurnRows M.exit_after_ab (codes "abXYZ") ((2, 2) ∷ []) }
+    ensures taken_after_more { M.HasTurnRows M.exit_after_bs (codes "abXYZ") ((3, 2) ∷ []) }
+    ensures taken_by_keys { M.HasTurnRows M.keys (codes "if 42 x") ((2, 2) ∷ (3, 3) ∷ (5, 5) ∷ (6, 6)
         ∷ (7, 7) ∷ (7, 7) ∷ []) }
-    ensures held_after_backing_up { M.Tells M.abc (codes "abab") ((3, 1) ∷ (3, 2) ∷ (4, 3) ∷ (4, 4) ∷ (4, 4) ∷ []) }
-    ensures held_context { M.Tells M.before_cd (codes "abcdab") ((4, 2) ∷ (4, 3) ∷ (4, 4) ∷ (6, 5)
+    ensures held_after_backing_up { M.HasTurnRows M.abc (codes "abab") ((3, 1) ∷ (3, 2) ∷ (4, 3) ∷ (4, 4) ∷ (4, 4) ∷ []) }
+    ensures held_context { M.HasTurnRows M.before_cd (codes "abcdab") ((4, 2) ∷ (4, 3) ∷ (4, 4) ∷ (6, 5)
         ∷ (6, 6) ∷ (6, 6) ∷ []) }
-    ensures held_one_by_one { M.Tells M.one_by_one (codes "aaaaa") ((5, 1) ∷ (5, 2) ∷ (5, 3) ∷ (5, 4)
+    ensures held_one_by_one { M.HasTurnRows M.one_by_one (codes "aaaaa") ((5, 1) ∷ (5, 2) ∷ (5, 3) ∷ (5, 4)
         ∷ (5, 5) ∷ (5, 5) ∷ []) }
 {}
 

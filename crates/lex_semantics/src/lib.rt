@@ -1,5 +1,28 @@
-//! The meaning of a scan: the definitions that a reader must believe (in `specs/`), and the laws over them.
-//! Each function here has a law as its contract, and does nothing. The constants are the limits that crates share.
+//! The meaning of a scan: the words that every contract of the product is written in, and the laws over them.
+//!
+//! A reader has to believe what stands in `specs/`, and docs/DEFINITIONS.md reads it aloud. To read it, begin with
+//! `Text`, `ByteSets`, `Tree` and `Spec`; then `Fits`, `Active` and `Rules`; then `Candidates`, `Acting` and `Run`,
+//! which are the scan; then `Demand` and `Scanned`, for a scanner that sees one byte at a time; and `Machine`,
+//! `MachineLaws` and `TableFor`. `Examples` and `MachineExamples` are small worked cases that a misreading of a
+//! definition breaks.
+//!
+//! Each function here has a law as its contract, and does nothing:
+//!
+//! - `limits`: the limits that several crates keep to, as constants, and that these are the numbers of `specs/Limits`.
+//! - `words`: words of trees and their readings.
+//! - `turns`: a scan is determined, and each sound specification has one.
+//! - `demand`: how much of the input the matches ask for.
+//! - `knowledge`: what a scanner knows after n turns, and after one more.
+//! - `tables`: a machine that is a table for a specification has its scans and its reports.
+//! - `plain_program`: the slow program in the language of the specifications answers the run.
+//! - `examples`: the worked cases.
+//!
+//! It promises these words to all rooms above. The laws and their proofs may be changed alone. A definition may not:
+//! each contract that names it then says something else, and its row in docs/DEFINITIONS.md and its misreadings
+//! follow.
+//!
+//! Decided for this room alone, but for what docs/DECISIONS.md has under Definitions: a law stands in `specs/` as a
+//! name and is the contract of a function, since a theorem is proved only where a contract names it.
 #![tactic(auto)]
 
 mod demand;

@@ -18,7 +18,7 @@ use Rattle.lexauto_dfa.specs.Building.{FitsTable, ArePartsOf}
 use Rattle.lexauto_dfa.specs.Least.{SameFuture, AcceptsAs, GoesOnAs, IsLeast, IsNumbered}
 use Rattle.lexauto_dfa.specs.Least.{by_turns}
 use Rattle.lexauto_dfa.specs.Views.{automaton_of}
-use Rattle.lexauto_dfa.specs.declared.minimise.tables.ClassTable.{ClassTable}
+use Rattle.lexauto_dfa.specs.declared.least.tables.ClassTable.{ClassTable}
 use Rattle.lexauto_dfa.proofs.ByTurns.{turns_length, turn_even, turn_odd}
 use Rattle.lexauto_dfa.proofs.Wholes.{is_whole}
 use Rattle.lexauto_dfa.specs.Numbering.{InOrder}

@@ -1,7 +1,7 @@
 -- Blocks that are cut by one letter after another, and blocks that no letter cuts any more.
 use Rattle.std.proofs.Common.{◌≡◌, ℕ, zero, suc, ◌+◌, ◌<◌, Bool, true, List, length, slice_index, sym, subst, arith}
-use Rattle.lexauto_dfa.specs.declared.minimise.blocks.Blocks.{Blocks}
-use Rattle.lexauto_dfa.specs.declared.minimise.sources.Letter.{Letter}
+use Rattle.lexauto_dfa.specs.declared.least.blocks.Blocks.{Blocks}
+use Rattle.lexauto_dfa.specs.declared.least.sources.Letter.{Letter}
 use Rattle.lexauto_dfa.specs.Arranged.{Arranged, IsAlone, IsTouched, count, states, block_of}
 use Rattle.lexauto_dfa.specs.Going.{Counts}
 use Rattle.lexauto_dfa.specs.Letters.{AreLetters, Tells, machine, row_of}

@@ -6,7 +6,7 @@ use Rattle.lexauto_dfa.specs.Letters.{machine, bytes_machine}
 use Rattle.lexauto_dfa.specs.Columns.{AreBytes}
 use Rattle.lexauto_dfa.specs.LeastTables.{Automaton, IsWhole, after, next, accepts, IsText}
 use Rattle.lexauto_dfa.specs.Quotients.{AreClasses}
-use Rattle.lexauto_dfa.specs.declared.minimise.sources.Letter.{Letter}
+use Rattle.lexauto_dfa.specs.declared.least.sources.Letter.{Letter}
 
 -- a letter of k moves as the letter a of m does
 abbrev Stands : Machine → Machine → ℕ → Type 0

@@ -2,7 +2,7 @@
 use Rattle.std.proofs.Common.{◌≡◌, ◌≢◌, ℕ, suc, ◌+◌, ◌<◌, ◌≤◌, ◌⊎◌, List, [], ◌∷◌, ◌++◌, length, set, ap, sym, ◌∙◌, inl, inr, arith, get_or-set_other, get_or-set_same, length-set, length-append}
 use Rattle.std.proofs.lemmas.List.{get_or_append_left, get_or_push}
 use Rattle.std.specs.Prelude.{slice_index}
-use Rattle.lexauto_dfa.specs.declared.minimise.blocks.Blocks.{Blocks}
+use Rattle.lexauto_dfa.specs.declared.least.blocks.Blocks.{Blocks}
 use Rattle.lexauto_dfa.specs.Marked.{Marks}
 use Rattle.lexauto_dfa.specs.Sources.{AreChains}
 use Rattle.lexauto_dfa.proofs.Noting.{marks_then}

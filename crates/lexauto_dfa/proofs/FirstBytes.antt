@@ -2,7 +2,7 @@
 use Rattle.std.proofs.Common.{◌≡◌, ℕ, zero, suc, ◌+◌, ◌*◌, ◌<◌, ◌≢◌, List, [], ◌∷◌, ◌++◌, length, length-append, refl, sym, ap, ◌∙◌, inl, inr, arith}
 use Rattle.std.specs.Prelude.{slice_index}
 use Rattle.lexauto_dfa.proofs.Swapped.{same_or_not}
-use Rattle.lexauto_dfa.specs.declared.minimise.sources.Letter.{Letter}
+use Rattle.lexauto_dfa.specs.declared.least.sources.Letter.{Letter}
 use Rattle.lexauto_dfa.specs.Letters.{row_of, AreLetters}
 use Rattle.lexauto_dfa.specs.Columns.{IsLetterOf, HaveLetters, AreBytes}
 use Rattle.lexauto_dfa.specs.Alike.{AreLeads, moves}

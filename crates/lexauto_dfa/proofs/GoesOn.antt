@@ -1,7 +1,7 @@
 -- One block more is cut.
 use Rattle.std.proofs.Common.{◌≡◌, ◌≢◌, ◌↔◌, ℕ, ◌+◌, ◌<◌, ◌≤◌, ◌⊎◌, Bool, true, false, cond, List, refl, sym, subst, ◌∙◌, inl, inr, arith}
 use Rattle.std.specs.Prelude.{slice_index}
-use Rattle.lexauto_dfa.specs.declared.minimise.blocks.Blocks.{Blocks}
+use Rattle.lexauto_dfa.specs.declared.least.blocks.Blocks.{Blocks}
 use Rattle.lexauto_dfa.specs.Arranged.{Arranged, IsCut, IsTouched, IsMarked, states, count, block_of}
 use Rattle.lexauto_dfa.specs.Sources.{Has}
 use Rattle.lexauto_dfa.specs.Splits.{Cuts}

@@ -14,7 +14,7 @@ pub mod Chains
 pub mod GoesOn
 pub mod Rounds
 pub mod Stretched
-pub mod Alike
+pub mod AlikeBlocks
 pub mod Numbered
 pub mod Minimised
 pub mod Looks

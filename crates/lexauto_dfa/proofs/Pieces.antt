@@ -1,7 +1,7 @@
 -- A block is cut into its marked and its other states.
 use Rattle.std.proofs.Common.{◌≡◌, ◌≢◌, ◌↔◌, ℕ, ◌+◌, ◌<◌, ◌≤◌, ◌⊎◌, true, refl, ap, sym, ◌∙◌, inl, inr, arith, Vec, Global}
 use Rattle.std.specs.Prelude.{slice_index}
-use Rattle.lexauto_dfa.specs.declared.minimise.blocks.Blocks.{Blocks}
+use Rattle.lexauto_dfa.specs.declared.least.blocks.Blocks.{Blocks}
 use Rattle.lexauto_dfa.specs.Arranged.{Arranged, ArePieces, IsCut, IsMarked, IsTouched, block_of, count, place_of, states}
 
 less_or_not : (i j : ℕ) → (i < j) ⊎ (j ≤ i)

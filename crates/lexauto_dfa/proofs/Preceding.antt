@@ -6,8 +6,8 @@ use Rattle.std.proofs.lemmas.Grind.{get_or-set_at}
 use Rattle.std.proofs.lemmas.List.{get_or-set_other, take-append-le}
 use Rattle.std.proofs.Math.ListN.{drop_of_length-le}
 use Rattle.std.proofs.Math.Seq.{take-length}
-use Rattle.lexauto_dfa.specs.declared.minimise.predecessors.Predecessors.{Predecessors}
-use Rattle.lexauto_dfa.specs.declared.minimise.predecessors.Predecessors.TheVariants as P
+use Rattle.lexauto_dfa.specs.declared.least.predecessors.Predecessors.{Predecessors}
+use Rattle.lexauto_dfa.specs.declared.least.predecessors.Predecessors.TheVariants as P
 use Rattle.lexauto_dfa.specs.Predecessors.{Allows, AreBelow, known_of}
 
 -- what is known of the state at the place is put there anew

@@ -2,7 +2,7 @@
 use Rattle.std.proofs.Common.{◌≡◌, ◌↔◌, ℕ, ◌+◌, ◌-◌, ◌<◌, ◌≤◌, List, length, take, drop, get_or, ap, sym, subst, ◌∙◌, arith, length-drop}
 use Rattle.std.proofs.lemmas.List.{get_or-take, get_or-drop, length-take-le}
 use Rattle.std.specs.Prelude.{slice_index}
-use Rattle.lexauto_dfa.specs.declared.minimise.blocks.Blocks.{Blocks}
+use Rattle.lexauto_dfa.specs.declared.least.blocks.Blocks.{Blocks}
 use Rattle.lexauto_dfa.specs.Arranged.{Arranged, states, count, block_of, place_of}
 use Rattle.lexauto_dfa.specs.Sources.{Has}
 

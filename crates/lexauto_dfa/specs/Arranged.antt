@@ -1,6 +1,6 @@
 -- States in an order in which each block is a stretch, whose marked states stand first.
 use Rattle.std.specs.Prelude.{◌≡◌, ◌≢◌, ◌⊎◌, ◌↔◌, ◌^◌, ℕ, ◌+◌, ◌-◌, ◌*◌, ◌<◌, ◌≤◌, Bool, true, cond, List, length, slice_index}
-use Rattle.lexauto_dfa.specs.declared.minimise.blocks.Blocks.{Blocks}
+use Rattle.lexauto_dfa.specs.declared.least.blocks.Blocks.{Blocks}
 
 -- the block of the state x
 abbrev pub block_of : Blocks → ℕ → ℕ

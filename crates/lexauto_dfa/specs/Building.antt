@@ -4,7 +4,7 @@ use Rattle.lexauto_dfa.specs.Parts.{goes_on}
 use Rattle.lexauto_dfa.specs.declared.dfa.Parts.{Parts}
 use Rattle.lexauto_dfa.specs.Lists.{list_at}
 use Rattle.lexauto_dfa.specs.Least.{by_turns}
-use Rattle.lexauto_dfa.specs.declared.minimise.tables.ClassTable.{ClassTable}
+use Rattle.lexauto_dfa.specs.declared.least.tables.ClassTable.{ClassTable}
 
 -- the table has states of the automaton as members, and two starts for each condition
 pub record FitsTable (p : Parts) (t : ClassTable) : Type 0 where

@@ -1,6 +1,6 @@
 -- The letters of bytes: one for all by which all states go alike.
 use Rattle.std.specs.Prelude.{◌≡◌, ℕ, ◌+◌, ◌*◌, ◌<◌, List, length, slice_index}
-use Rattle.lexauto_dfa.specs.declared.minimise.sources.Letter.{Letter}
+use Rattle.lexauto_dfa.specs.declared.least.sources.Letter.{Letter}
 use Rattle.lexauto_dfa.specs.Letters.{row_of}
 
 -- the letter k has the moves of the n states by the byte b

@@ -1,6 +1,6 @@
 -- Cutting one touched block after another.
 use Rattle.std.specs.Prelude.{◌≡◌, ◌≢◌, ◌⊎◌, ◌↔◌, ℕ, ◌+◌, ◌<◌, ◌≤◌, Bool, true, List, length, slice_index}
-use Rattle.lexauto_dfa.specs.declared.minimise.blocks.Blocks.{Blocks}
+use Rattle.lexauto_dfa.specs.declared.least.blocks.Blocks.{Blocks}
 use Rattle.lexauto_dfa.specs.Arranged.{IsTouched, IsMarked, states, count, block_of}
 use Rattle.lexauto_dfa.specs.Sources.{Has}
 

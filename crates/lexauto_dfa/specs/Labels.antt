@@ -1,6 +1,6 @@
 -- The first blocks: states with one label.
 use Rattle.std.specs.Prelude.{◌≡◌, ◌⊎◌, ℕ, ◌<◌, ◌≤◌, List, slice_index}
-use Rattle.lexauto_dfa.specs.declared.minimise.blocks.Blocks.{Blocks}
+use Rattle.lexauto_dfa.specs.declared.least.blocks.Blocks.{Blocks}
 use Rattle.lexauto_dfa.specs.Arranged.{Arranged, states, count, block_of, IsTouched}
 use Rattle.lexauto_dfa.specs.Sources.{Has}
 

@@ -1,6 +1,6 @@
 -- The machine of some letters.
 use Rattle.std.specs.Prelude.{◌≡◌, ◌↔◌, ℕ, ◌+◌, ◌*◌, ◌<◌, Bool, true, List, [], ◌∷◌, map, length, slice_index, slice_index_or}
-use Rattle.lexauto_dfa.specs.declared.minimise.sources.Letter.{Letter}
+use Rattle.lexauto_dfa.specs.declared.least.sources.Letter.{Letter}
 use Rattle.lexauto_dfa.specs.Futures.{Machine}
 use Rattle.lexauto_dfa.specs.Sources.{Has}
 

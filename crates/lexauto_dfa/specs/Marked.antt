@@ -1,6 +1,6 @@
 -- What marking does.
 use Rattle.std.specs.Prelude.{◌≡◌, ◌⊎◌, ℕ, ◌<◌, List, length, slice_index}
-use Rattle.lexauto_dfa.specs.declared.minimise.blocks.Blocks.{Blocks}
+use Rattle.lexauto_dfa.specs.declared.least.blocks.Blocks.{Blocks}
 use Rattle.lexauto_dfa.specs.Arranged.{IsAlone, IsTouched, IsMarked, states, count}
 use Rattle.lexauto_dfa.specs.Sources.{Has}
 

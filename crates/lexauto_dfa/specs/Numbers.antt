@@ -1,7 +1,7 @@
 -- Classes of states get numbers when they are first called.
 use Rattle.std.specs.Prelude.{◌≡◌, ◌⊎◌, ℕ, ◌+◌, ◌-◌, ◌*◌, ◌/◌, ◌%◌, ◌<◌, ◌≤◌, List, [], ◌∷◌, ◌++◌, length, slice_index}
 use Rattle.lexauto_dfa.specs.Numbering.{InOrder}
-use Rattle.lexauto_dfa.specs.declared.minimise.numbering.Numbers.{Numbers}
+use Rattle.lexauto_dfa.specs.declared.least.numbering.Numbers.{Numbers}
 
 -- each number has a state, and its class has the number; a class that has none has a number that is too great
 pub record Numbering (classes of_class members : List ℕ) : Type 0 where

@@ -1,8 +1,8 @@
 -- The states that go to a state, whatever the letter.
 use Rattle.std.specs.Prelude.{◌≡◌, ℕ, ◌<◌, List, length, slice_index, slice_index_or, ⊤}
-use Rattle.lexauto_dfa.specs.declared.minimise.sources.Letter.{Letter}
-use Rattle.lexauto_dfa.specs.declared.minimise.predecessors.Predecessors.{Predecessors}
-use Rattle.lexauto_dfa.specs.declared.minimise.predecessors.Predecessors.TheVariants as P
+use Rattle.lexauto_dfa.specs.declared.least.sources.Letter.{Letter}
+use Rattle.lexauto_dfa.specs.declared.least.predecessors.Predecessors.{Predecessors}
+use Rattle.lexauto_dfa.specs.declared.least.predecessors.Predecessors.TheVariants as P
 use Rattle.lexauto_dfa.specs.Letters.{row_of}
 
 -- the state x may be among them

@@ -11,8 +11,8 @@ use Rattle.lex_semantics.specs.TableFor.{TableFor}
 use Rattle.lex_semantics.specs.Acting.{Ending, StackFault}
 use Rattle.lex_semantics.proofs.Both.{same_after, same_run}
 use Rattle.lexscan_window.specs.declared.error.RunError.{RunError}
-use Rattle.lexscan.specs.Stands.{RanTo}
-use Rattle.lexscan.specs.Runs.{RanInto}
+use Rattle.lexscan.specs.TurnInvariants.{RunCompleted}
+use Rattle.lexscan.specs.Runs.{RunStopped}
 
 -- the reads of a scan, by whether its end was answered
 pub few_reads : (given : List ℕ) (m e e' f f' : ℕ) → length given + (e' - e) + (f' - f) ≤ m → length given + cond (nat_lt e e') 1 0 + (f' - f) ≤ m
@@ -23,7 +23,7 @@ few_reads given m e e' f f' few = by_end (nat_lt e e') refl
     by_end false q = omega (arith, few)
 
 module _ (M : Machine) (laws : MachineLaws M) (S : Spec) (sound : IsSound S) (table : TableFor M S) where
-  pub ran_to : (given out : List ℕ) (at_end : Bool) (d : Ending) → RanTo (rules_of_machine M) given out at_end d → RanTo (rules_of S) given out at_end d
+  pub ran_to : (given out : List ℕ) (at_end : Bool) (d : Ending) → RunCompleted (rules_of_machine M) given out at_end d → RunCompleted (rules_of S) given out at_end d
   ran_to given out at_end d h = record {
     text = h.text;
     turns = h.turns;
@@ -31,24 +31,24 @@ module _ (M : Machine) (laws : MachineLaws M) (S : Spec) (sound : IsSound S) (ta
     scanned = λ x k. (same_after M laws S sound table x k.0 h.turns (record { written = out; place = h.place; ended = Some d }) _ at_end).0 (h.scanned x k);
   }
 
-  pub ran_into : (given out : List ℕ) (at_end : Bool) (max_reads : ℕ) (e : RunError) → RanInto (rules_of_machine M) given out at_end max_reads e → RanInto (rules_of S) given out at_end max_reads e
+  pub ran_into : (given out : List ℕ) (at_end : Bool) (max_reads : ℕ) (e : RunError) → RunStopped (rules_of_machine M) given out at_end max_reads e → RunStopped (rules_of S) given out at_end max_reads e
   ran_into given out at_end max_reads e h = record {
     turns = h.turns;
     had = h.had;
     got = h.got;
     all = h.all;
-    gave_up = record {
-      text = h.gave_up.text;
-      before = h.gave_up.before;
-      end_before = h.gave_up.end_before;
-      after = λ x k. (same_after M laws S sound table x k.0 h.turns h.gave_up.before _ h.gave_up.end_before).0 (h.gave_up.after x k);
-      going = h.gave_up.going;
-      front = λ x k w d r. h.gave_up.front x k w d ((same_run M laws S sound table x k.0 w d).1 r);
-      within = λ x k t far asked after. h.gave_up.within x k t far asked ((same_after M laws S sound table x k.0 (suc h.turns) t far asked).1 after);
-      kept = h.gave_up.kept;
-      whole = h.gave_up.whole;
-      not_before = h.gave_up.not_before;
-      asks_end = λ is t far asked after. h.gave_up.asks_end is t far asked ((same_after M laws S sound table (h.had ++ h.got) h.gave_up.text (suc h.turns) t far asked).1 after);
+    refused_turn = record {
+      text = h.refused_turn.text;
+      before = h.refused_turn.before;
+      end_before = h.refused_turn.end_before;
+      after = λ x k. (same_after M laws S sound table x k.0 h.turns h.refused_turn.before _ h.refused_turn.end_before).0 (h.refused_turn.after x k);
+      going = h.refused_turn.going;
+      front = λ x k w d r. h.refused_turn.front x k w d ((same_run M laws S sound table x k.0 w d).1 r);
+      within = λ x k t far asked after. h.refused_turn.within x k t far asked ((same_after M laws S sound table x k.0 (suc h.turns) t far asked).1 after);
+      kept = h.refused_turn.kept;
+      whole = h.refused_turn.whole;
+      not_before = h.refused_turn.not_before;
+      asks_end = λ is t far asked after. h.refused_turn.asks_end is t far asked ((same_after M laws S sound table (h.had ++ h.got) h.refused_turn.text (suc h.turns) t far asked).1 after);
     };
     too_many = h.too_many;
     fault = λ is. ran_to given out at_end StackFault (h.fault is);

@@ -2,8 +2,6 @@
 -- (Own: POSIX leaves both to the implementation. The statuses are those of BSD's sysexits.)
 use Rattle.std.specs.Prelude.{ℕ, Bool, true, false, if◌then◌else◌, List, [], ◌∷◌, ◌++◌, codes, decimal}
 use Rattle.std.specs.List.{concat}
-use Rattle.lex_command.specs.declared.job.args.ArgsError.{ArgsError}
-use Rattle.lex_command.specs.declared.job.args.ArgsError.TheVariants as args
 use Rattle.lexspec.specs.Refusals.PatternErrorKind.{PatternErrorKind}
 use Rattle.lexspec.specs.Refusals.PatternErrorKind.TheVariants as patterns
 use Rattle.lexspec.specs.Refusals.SpecErrorKind.{SpecErrorKind}
@@ -49,10 +47,6 @@ run_words runs.OutOfMemory = codes "out of memory"
 run_words runs.Stack = codes "condition stack"
 run_words runs.Failed = codes "failed"
 
-abbrev pub args_words : ArgsError → List ℕ
-args_words args.Usage = codes "usage"
-args_words args.OutOfMemory = codes "out of memory"
-
 abbrev pub build_words : BuildError → List ℕ
 build_words builds.TooManyPositions = codes "TooManyPositions"
 build_words builds.TooManyStates = codes "TooManyStates"
@@ -77,7 +71,7 @@ scan_words (scans.Table e) = table_words e
 scan_words (scans.Run e) = run_words e
 
 abbrev pub fault_words : Fault → List ℕ
-fault_words (faults.Args e) = args_words e
+fault_words faults.Usage = codes "usage"
 fault_words (faults.Scan e) = scan_words e
 fault_words (faults.File name) = concat (codes "cannot read " ∷ name.now ∷ [])
 fault_words faults.Output = codes "write fault"
@@ -114,12 +108,8 @@ scan_status (scans.Generate e) = gen_status e
 scan_status (scans.Table e) = table_status e
 scan_status (scans.Run e) = run_status e
 
-abbrev pub args_status : ArgsError → ℕ
-args_status args.Usage = 64
-args_status args.OutOfMemory = 71
-
 abbrev pub status_of : Fault → ℕ
-status_of (faults.Args e) = args_status e
+status_of faults.Usage = 64
 status_of (faults.Scan e) = scan_status e
 status_of (faults.File name) = 66
 status_of faults.Output = 74

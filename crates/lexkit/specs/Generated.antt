@@ -77,11 +77,8 @@ pub record AreMadeOf (limits : Limits) (S : Spec) (skipped : List ℕ) (m : Made
 
 -- the same with the back words
 pub record IsMadeOf (limits : Limits) (S : Spec) (skipped : List ℕ) (g : Generated) : Type 0 where
-  pub tables : AreTablesOf limits S g.tables
-  pub rule_lines : g.rule_lines.items ≡ map (λ r. r.line) S.rules
-  pub warnings : AreWarnings S skipped g.warnings.items
-  pub backup : AreBackUps (table_machine g.tables) S g.backup.items
-  pub stats : AreCounts S (table_of g.tables.parts) g.stats
+  pub made : AreMadeOf limits S skipped g.made
+  pub backup : AreBackUps (table_machine g.made.tables) S g.backup.items
 
 -- what is made by a specification with these lines of skipped code
 abbrev pub MakesBy : Limits → Spec → List ℕ → Result Generated GenError → Type 0

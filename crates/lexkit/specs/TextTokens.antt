@@ -15,4 +15,4 @@ use Rattle.lexkit.specs.declared.making.Generated.{Generated}
 -- The lines that are told are those of its rules.
 abbrev pub TextTokens : Type 0
 TextTokens = (options : Options) (text : List ℕ) (g : Generated) → Makes options text (Ok g) → (S : Spec) × SpellsSpec (reading options) text S
-    × (g.rule_lines.items ≡ lines_of S.rules) × SameTokens (rules_of_machine (table_machine g.tables)) (rules_of S)
+    × (g.made.rule_lines.items ≡ lines_of S.rules) × SameTokens (rules_of_machine (table_machine g.made.tables)) (rules_of S)

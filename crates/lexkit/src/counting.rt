@@ -26,11 +26,13 @@ impl Sink for Counter {
 
     ghost failures_bound = { λ counter. none_failed };
 
+    /// Counts the bytes, and stays at the greatest number where they are more.
     fn put(&mut self, bytes: &[u8]) -> Result<(), WriteFault> {
         self.bytes = self.bytes.saturating_add(bytes.len() as u64);
         Ok(())
     }
 
+    /// Nothing is held back.
     fn flush(&mut self) -> Result<(), WriteFault> {
         Ok(())
     }

@@ -41,6 +41,7 @@ impl From<OutOfMemory> for GenError {
 
     ghost from_gives = { λ _ e. e ≡ GenError.OutOfMemory };
 
+    /// Want of memory outside of the reader and the builder.
     fn from(_error: OutOfMemory) -> GenError {
         GenError::OutOfMemory
     }

@@ -4,7 +4,6 @@ ghost use Rattle.lexkit.specs.Failures.{Tells, out_of_memory};
 
 use crate::errors::{GenError, ScanError};
 use crate::faults::Fault;
-use lex_command::ArgsError;
 use lextab::WriteFault;
 use std::alloc::AllocError;
 use std::io::ErrorKind;
@@ -12,8 +11,8 @@ use std::io::ErrorKind;
 /// What ended a program before its work was done. It owns the name of the file.
 #[derive(Debug, Drop)]
 pub enum Failure {
-    /// The command line was refused.
-    Args(ArgsError),
+    /// The command line was in none of the forms that the program knows.
+    Usage,
     /// The specification or the table file was refused, or the scan stopped.
     Scan(ScanError),
     /// This file can't be read.
@@ -42,21 +41,11 @@ impl Failure {
         ensures { Tells self.now result }
     {
         match self {
-            Failure::Args(error) => Fault::Args(*error),
+            Failure::Usage => Fault::Usage,
             Failure::Scan(error) => Fault::Scan(*error),
             Failure::File(name) => Fault::File(name.as_str()),
             Failure::Output => Fault::Output,
         }
-    }
-}
-
-impl From<ArgsError> for Failure {
-    ghost use Rattle.lexkit.specs.declared.failure.Failure.{Failure};
-
-    ghost from_gives = { λ error failure. failure ≡ Failure.Args error };
-
-    fn from(error: ArgsError) -> Failure {
-        Failure::Args(error)
     }
 }
 
@@ -65,6 +54,7 @@ impl From<ScanError> for Failure {
 
     ghost from_gives = { λ error failure. failure ≡ Failure.Scan error };
 
+    /// A scan that was refused or stopped.
     fn from(error: ScanError) -> Failure {
         Failure::Scan(error)
     }
@@ -76,6 +66,7 @@ impl From<GenError> for Failure {
 
     ghost from_gives = { λ error failure. failure ≡ Failure.Scan (Generate error) };
 
+    /// A specification that was refused.
     fn from(error: GenError) -> Failure {
         Failure::Scan(ScanError::Generate(error))
     }
@@ -86,6 +77,7 @@ impl From<WriteFault> for Failure {
 
     ghost from_gives = { λ _ failure. failure ≡ Failure.Output };
 
+    /// A write or a flush that failed.
     fn from(_error: WriteFault) -> Failure {
         Failure::Output
     }
@@ -94,6 +86,7 @@ impl From<WriteFault> for Failure {
 impl From<AllocError> for Failure {
     ghost from_gives = { λ _ failure. failure ≡ out_of_memory };
 
+    /// Want of memory, wherever it came up.
     fn from(_error: AllocError) -> Failure {
         Failure::Scan(ScanError::Generate(GenError::OutOfMemory))
     }

@@ -3,14 +3,13 @@ ghost use Rattle.std.specs.Prelude.{◌≡◌, ℕ, ◌+◌, ◌-◌, ◌^◌, �
 ghost use Rattle.lex_io.specs.Sink.{Appended, fault_count};
 ghost use Rattle.lexauto_reports.specs.Joined.{joined};
 ghost use Rattle.lexkit.specs.Faults.{line_of, fault_words, scan_words, gen_words, gen_status, table_words};
-ghost use Rattle.lexkit.specs.Faults.{table_status, args_status, scan_status, run_status, build_words, spec_words};
-ghost use Rattle.lexkit.specs.Faults.{lacks_memory, run_words, args_words};
+ghost use Rattle.lexkit.specs.Faults.{table_status, scan_status, run_status, build_words, spec_words, lacks_memory};
+ghost use Rattle.lexkit.specs.Faults.{run_words};
 
 use crate::errors::{GenError, ScanError};
 use itoa::Buffer;
 use lexauto::BuildError;
 use lexauto_reports::put_all;
-use lex_command::ArgsError;
 use lexscan::RunError;
 use lexspec::{PatternError, PatternErrorKind, SpecError, SpecErrorKind};
 use lextab::{Sink, TableError, WriteFault};
@@ -18,8 +17,8 @@ use lextab::{Sink, TableError, WriteFault};
 /// What ended the program before its work was done.
 #[derive(Clone, Copy, Debug)]
 pub enum Fault<'a> {
-    /// The command line was refused.
-    Args(ArgsError),
+    /// The command line was in none of the forms that the program knows.
+    Usage,
     /// The scan was refused, or stopped.
     Scan(ScanError),
     /// This file can't be read.
@@ -37,21 +36,11 @@ impl Fault<'_> {
         ensures { result ≡ status_of self.now }
     {
         match self {
-            Fault::Args(error) => args_status(*error),
+            Fault::Usage => 64,
             Fault::Scan(error) => scan_status(*error),
             Fault::File(_) => 66,
             Fault::Output => 74,
         }
-    }
-}
-
-/// 64 for the words, and 71 for want of memory.
-fn args_status(error: ArgsError) -> u8
-    ensures { result ≡ args_status error }
-{
-    match error {
-        ArgsError::Usage => 64,
-        ArgsError::OutOfMemory => 71,
     }
 }
 
@@ -105,15 +94,17 @@ pub fn write_fault<K: Sink>(fault: Fault<'_>, sink: &mut K) -> Result<(), WriteF
     ensures failures { K.failures sink.new ≡ K.failures sink.old + fault_count result }
 {
     match fault {
-        Fault::Args(error) => put_line(sink, &[args_text(error)]),
+        Fault::Usage => put_line(sink, &["usage"]),
         Fault::Scan(error) => write_scan_error(error, sink),
         Fault::File(name) => put_line(sink, &["cannot read ", name]),
         Fault::Output => put_line(sink, &["write fault"]),
     }
 }
 
+/// What each want of memory is told as.
 const OUT_OF_MEMORY: &str = "out of memory";
 
+/// Writes the line of a scan that was refused, or stopped.
 fn write_scan_error<K: Sink>(error: ScanError, sink: &mut K) -> Result<(), WriteFault>
     requires { K.failures sink.old < 2 ^ 64 - 1 }
     ensures bytes { Appended (λ xs. K.wrote sink.old xs sink.new) (line_of (scan_words error)) result }
@@ -126,6 +117,7 @@ fn write_scan_error<K: Sink>(error: ScanError, sink: &mut K) -> Result<(), Write
     }
 }
 
+/// Writes the line of a specification of which no scanner is made.
 fn write_gen_error<K: Sink>(error: GenError, sink: &mut K) -> Result<(), WriteFault>
     requires { K.failures sink.old < 2 ^ 64 - 1 }
     ensures bytes { Appended (λ xs. K.wrote sink.old xs sink.new) (line_of (gen_words error)) result }
@@ -138,6 +130,7 @@ fn write_gen_error<K: Sink>(error: GenError, sink: &mut K) -> Result<(), WriteFa
     }
 }
 
+/// Writes the line of bytes that are no table file, with the byte from 0 at which a field is wrong.
 fn write_table_error<K: Sink>(error: TableError, sink: &mut K) -> Result<(), WriteFault>
     requires { K.failures sink.old < 2 ^ 64 - 1 }
     ensures bytes { Appended (λ xs. K.wrote sink.old xs sink.new) (line_of (table_words error)) result }
@@ -157,6 +150,7 @@ fn write_table_error<K: Sink>(error: TableError, sink: &mut K) -> Result<(), Wri
     }
 }
 
+/// The words of an automaton that was not built.
 fn build_text(error: BuildError) -> &'static str
     ensures { result.now ≡ build_words error }
 {
@@ -167,6 +161,7 @@ fn build_text(error: BuildError) -> &'static str
     }
 }
 
+/// Writes the line of a text that spells no specification: its line, from 1, and in a pattern the byte from 0.
 fn write_spec_error<K: Sink>(error: SpecError, sink: &mut K) -> Result<(), WriteFault>
     requires { K.failures sink.old < 2 ^ 64 - 1 }
     ensures bytes { Appended (λ xs. K.wrote sink.old xs sink.new) (line_of (spec_words error)) result }
@@ -188,6 +183,7 @@ fn write_spec_error<K: Sink>(error: SpecError, sink: &mut K) -> Result<(), Write
     }
 }
 
+/// Whether the refusal says nothing of the text, since memory ran out.
 fn lacks_memory(kind: SpecErrorKind) -> bool
     ensures { result ≡ lacks_memory kind }
 {
@@ -201,6 +197,7 @@ fn lacks_memory(kind: SpecErrorKind) -> bool
     )
 }
 
+/// The words of a scan that stopped.
 fn run_text(error: RunError) -> &'static str
     ensures { result.now ≡ run_words error }
 {
@@ -211,15 +208,6 @@ fn run_text(error: RunError) -> &'static str
         RunError::OutOfMemory => OUT_OF_MEMORY,
         RunError::Stack => "condition stack",
         RunError::Failed => "failed",
-    }
-}
-
-fn args_text(error: ArgsError) -> &'static str
-    ensures { result.now ≡ args_words error }
-{
-    match error {
-        ArgsError::Usage => "usage",
-        ArgsError::OutOfMemory => OUT_OF_MEMORY,
     }
 }
 

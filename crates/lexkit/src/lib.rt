@@ -1,5 +1,27 @@
-//! The scanner generator as calls: where a scan reads from and writes to, what it refuses, and the
-//! words and lines of its program.
+//! The scanner generator as calls: tables made of a specification, scans by its text or by a table file, and what both
+//! programs report. Callers in Rattle read CALLING.md of this crate.
+//!
+//! - `errors`: why a scanner is not made, or a scan stops.
+//! - `options`: how a specification is read, and how large its automaton may be.
+//! - `counting` and `stats`: the counts of `-v`, with the length of the table file.
+//! - `making`: what is made of a text: `generate`, `generate_tables`, and their steps `read_text` and `least_automaton`.
+//! - `scan`: `scan_spec`, `scan_by`, `scan_made` and `scan_table`.
+//! - `laws`: one canonical file, and a scan by a file is a scan by its specification.
+//! - `failure` and `faults`: what ended a program, its line on standard error and its status.
+//! - `program`: the words of a command line, the files that both programs read, and how a failure is reported.
+//!
+//! The headline is promised here: what `scan_spec` and `scan_table` write, answer and take (`specs/Headline`), and what
+//! `generate` makes (`specs/Generated`). It joins the automata of lexauto, the tables of lextab and the scans of lexscan, and
+//! exports what a caller names of these. A change of what is told of a fault stays here, with docs/MANUAL.md. The calls
+//! themselves are used by both programs, by lexlook_calls and by liblex_calls.
+//!
+//! - **What ended a program is said once**, by `Failure`, for lex and lexlook. It owns the name of a file, and `Fault`, which
+//!   is written, borrows it. Out of memory inside a refusal of the specification is `lex: out of memory`, 71, with no line,
+//!   since the text is not at fault.
+//! - **`lex:` stands before the lines of both programs**, so that one page lists them.
+//! - **States that back up are looked for where they are asked for.** That takes up to a third of the instructions, and half
+//!   of the memory. So `generate_tables` makes all that `generate` does but for their report.
+//! - **The contract of `scan_made` is that of `scan_spec`** for each text of which the tables are made.
 #![tactic(auto)]
 
 mod counting;
@@ -9,6 +31,7 @@ mod faults;
 mod laws;
 mod making;
 mod options;
+mod program;
 mod scan;
 mod stats;
 
@@ -19,7 +42,6 @@ pub use laws::{example_of_canonical_files, file_scans, one_file, text_tokens};
 pub use lex_semantics::{MAX_FILE_BYTES, MAX_POSITIONS, MAX_STATES};
 pub use lexauto::{BackUp, BuildError, Limits};
 pub use lexauto_reports::{Warning, write_backup, write_warnings};
-pub use lex_command::{ArgsError, Job, command_lines, read_args};
 pub use lexscan::{
     ByteReader, Candidate, FromBytes, FromRead, Match, MatchedRule, MemorySource, ReadFault,
     RunError, Scanner, Source, Token, Turn, Window, accepted, longest, run, table_tokens, texts_of,
@@ -32,7 +54,12 @@ pub use lextab::{
     ByteWriter, Cut, EndAction, Flat, Machine, MemorySink, Plain, Sink, Statement, TableError,
     Tables, ToBytes, ToWrite, WriteFault, read_tables, write_tables,
 };
-pub use making::{Generated, Made, generate, generate_tables, lines_of, read_text};
+pub use making::{
+    Generated, Least, Made, generate, generate_tables, least_automaton, lines_of, read_text,
+};
 pub use options::Options;
+pub use program::{
+    MAX_TABLE_BYTES, SPEC_READ_BYTES, command_words, read_more, read_spec_file, report_failure,
+};
 pub use scan::{scan_by, scan_made, scan_spec, scan_table};
 pub use stats::{Stats, write_stats};

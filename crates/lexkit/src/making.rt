@@ -21,20 +21,6 @@ use lexspec::{ReadOptions, Rule, Spec, SpecError, read_spec, tested_specificatio
 use lextab::{Tables, pack};
 use std::alloc::{AllocError, Global};
 
-/// What is made of a specification.
-#[derive(Drop)]
-pub struct Generated {
-    /// The packed tables of its least automaton.
-    pub tables: Tables,
-    /// The line of each rule's pattern, from 1, in the order of the file.
-    pub rule_lines: Vec<u32>,
-    /// Skipped code and rules that cannot be matched, in order of line.
-    pub warnings: Vec<Warning>,
-    pub stats: Stats,
-    /// The states that back up, ascending, each with its first word.
-    pub backup: Vec<BackUp>,
-}
-
 /// What is made of a specification but for the states that back up.
 #[derive(Drop)]
 pub struct Made {
@@ -44,15 +30,26 @@ pub struct Made {
     pub rule_lines: Vec<u32>,
     /// Skipped code and rules that cannot be matched, in order of line.
     pub warnings: Vec<Warning>,
+    /// The counts that `-v` writes.
     pub stats: Stats,
+}
+
+/// What is made of a specification, with the states that back up.
+#[derive(Drop)]
+pub struct Generated {
+    /// All but these.
+    pub made: Made,
+    /// The states that back up, ascending, each with its first word.
+    pub backup: Vec<BackUp>,
 }
 
 /// The least automaton of a specification.
 #[derive(Drop)]
-pub(crate) struct Least {
-    pub(crate) automaton: Dfa,
+pub struct Least {
+    /// The minimal DFA, with canonical numbers.
+    pub automaton: Dfa,
     /// How many states there were before.
-    pub(crate) subsets: u32,
+    pub subsets: u32,
 }
 
 /// Makes tables, warnings, statistics and the report of states that back up of the specification that a text spells.
@@ -96,6 +93,7 @@ pub fn read_text(alloc: Global, text: &[u8], options: Options) -> Result<Spec, G
     }
 }
 
+/// Makes all of a specification.
 fn generate_by(alloc: Global, spec: &Spec, limits: Limits) -> Result<Generated, GenError>
     requires few_positions { limits.positions ≤ max_positions }
     requires few_states { limits.states ≤ max_states }
@@ -108,6 +106,7 @@ fn generate_by(alloc: Global, spec: &Spec, limits: Limits) -> Result<Generated, 
     }
 }
 
+/// Makes all of a specification but for the states that back up.
 fn tables_by(alloc: Global, spec: &Spec, limits: Limits) -> Result<Made, GenError>
     requires few_positions { limits.positions ≤ max_positions }
     requires few_states { limits.states ≤ max_states }
@@ -120,8 +119,8 @@ fn tables_by(alloc: Global, spec: &Spec, limits: Limits) -> Result<Made, GenErro
     }
 }
 
-/// Builds the automaton of a specification, and minimises it.
-pub(crate) fn least_automaton(alloc: Global, spec: &Spec, limits: Limits) -> Result<Least, GenError>
+/// Builds the automaton of a specification, and minimises it. One whose automaton passes the limits is refused.
+pub fn least_automaton(alloc: Global, spec: &Spec, limits: Limits) -> Result<Least, GenError>
     requires few_positions { limits.positions ≤ max_positions }
     requires few_states { limits.states ≤ max_states }
     ensures made { IfOk result (λ l. IsLeastOf limits (spec_of spec.now) l.subsets l.automaton) }
@@ -182,17 +181,6 @@ fn all_of(
     ensures { IfOk result (IsMadeOf limits (spec_of spec.now) (skipped_in spec.now)) }
 {
     let backup = backing_up(alloc, &least.automaton)?;
-    let Made {
-        tables,
-        rule_lines,
-        warnings,
-        stats,
-    } = made_of(alloc, spec, limits, least)?;
-    Ok(Generated {
-        tables,
-        rule_lines,
-        warnings,
-        stats,
-        backup,
-    })
+    let made = made_of(alloc, spec, limits, least)?;
+    Ok(Generated { made, backup })
 }

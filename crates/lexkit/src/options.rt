@@ -38,4 +38,23 @@ impl Options {
             },
         }
     }
+
+    /// Patterns that are read so, and automata of at most 16,384 positions and 8,192 states.
+    pub fn reading(fold: bool, posix: bool) -> Options
+        ensures { result ≡ record {
+          fold = fold;
+          posix = posix;
+          limits = record {
+            positions = max_positions;
+            states =
+                max_states;
+          };
+        } }
+    {
+        Options {
+            fold,
+            posix,
+            ..Options::new()
+        }
+    }
 }

@@ -1,79 +1,80 @@
-//! The program: it shows what a specification of lex does.
+//! The program lexlook: it shows what a specification of lex does.
+//!
+//! - `main`: which subcommand the command line asks for (`run`), and for each one where it reads and writes.
+//! - `reading`: the files that are compared or cut, which may be table files.
+//!
+//! What is asked for is read by lex_command. What is written and answered is that of lexlook_calls, and proved there. A read,
+//! a fault and a status are as those of the program lex, by lexkit.
+//!
+//! A subcommand has its words in lex_command, its call in lexlook_calls, and here its function `show_..`, which writes to
+//! standard output, flushes, and answers the status: 1 for an answer no, and of a trace that of the scan.
 #![tactic(auto)]
 
 ghost use Rattle.std.specs.Prelude.{◌≡◌, ◌≤◌};
 
 mod reading;
 
-use crate::reading::{read_compared_file, read_spec_file};
+use crate::reading::read_compared_file;
+use lex_command::{ArgsError, Look, PatternFlags, Subcommand, read_look_args, write_help};
 use lexkit::{
-    ArgsError, ByteReader, ByteWriter, Failure, FromBytes, MAX_POSITIONS, MAX_STATES, Options,
-    Sink, ToBytes, ToWrite, write_fault,
+    ByteReader, ByteWriter, Failure, FromBytes, MAX_POSITIONS, MAX_STATES, Options, Sink, ToBytes,
+    ToWrite, command_words, read_spec_file, report_failure,
 };
-use lexlook_calls::{
-    Given, Look, draw, read_args, tell_lines, tell_same, tell_words, trace, write_help,
-};
-use std::io::ErrorKind;
+use lexlook_calls::{Given, draw, tell_lines, tell_same, tell_words, trace};
+use std::alloc::AllocError;
+use std::io;
 use std::process::ExitCode;
-use std::{env, io};
 
-/// What the command line asks for. A word that is no text is refused.
-fn look_of(rt: &HostRuntime) -> Result<Look, ArgsError> {
-    let words = match env::args(rt) {
-        Ok(words) => words,
-        Err(error) => {
-            return Err(match error.kind() {
-                ErrorKind::OutOfMemory => ArgsError::OutOfMemory,
-                _ => ArgsError::Usage,
-            });
-        }
-    };
-    let words: Vec<String> = words.skip(1).collect(rt.alloc())?;
-    read_args(rt.alloc(), words.as_slice())
-}
-
-/// How a specification is read, with the limits of lex.
-fn options_of(fold: bool, posix: bool) -> Options
-    ensures few_positions { result.limits.positions ≤ MAX_POSITIONS }
-    ensures few_states { result.limits.states ≤ MAX_STATES }
-    ensures fold { result.fold ≡ fold }
-    ensures posix { result.posix ≡ posix }
-{
-    Options {
-        fold,
-        posix,
-        ..Options::new()
+/// What the command line asks for.
+fn look_of(rt: &HostRuntime) -> Result<Look, Failure> {
+    let words = command_words(rt)?;
+    match read_look_args(rt.alloc(), words.as_slice()) {
+        Ok(look) => Ok(look),
+        Err(ArgsError::Usage) => Err(Failure::Usage),
+        Err(ArgsError::OutOfMemory) => Err(Failure::from(AllocError)),
     }
 }
 
+/// How a specification is read, with the limits of lex.
+fn options_of(patterns: PatternFlags) -> Options
+    ensures few_positions { result.limits.positions ≤ MAX_POSITIONS }
+    ensures few_states { result.limits.states ≤ MAX_STATES }
+    ensures fold { result.fold ≡ patterns.fold }
+    ensures posix { result.posix ≡ patterns.posix }
+{
+    Options::reading(patterns.fold, patterns.posix)
+}
+
 /// Writes the help to standard output.
-fn show_help(rt: &HostRuntime) -> Result<(), Failure> {
+fn show_help(rt: &HostRuntime) -> Result<ExitCode, Failure> {
     let mut sink = ToWrite::new(io::writer(rt));
     write_help(&mut sink)?;
     sink.flush()?;
-    Ok(())
+    Ok(ExitCode::SUCCESS)
 }
 
 /// Writes the picture of a specification to standard output.
-fn show_picture(rt: &HostRuntime, text: &[u8], options: Options) -> Result<(), Failure>
+fn show_picture(rt: &HostRuntime, file: String, options: Options) -> Result<ExitCode, Failure>
     requires few_positions { options.limits.positions ≤ MAX_POSITIONS }
     requires few_states { options.limits.states ≤ MAX_STATES }
 {
+    let text = read_spec_file(rt, file)?;
     let mut sink = ToBytes::new(ByteWriter::new(rt.alloc(), io::writer(rt))?);
-    draw(rt.alloc(), text, options, &mut sink)?;
+    draw(rt.alloc(), text.as_slice(), options, &mut sink)?;
     sink.flush()?;
-    Ok(())
+    Ok(ExitCode::SUCCESS)
 }
 
 /// Writes to standard output the texts that the rules of a specification take.
-fn show_words(rt: &HostRuntime, text: &[u8], options: Options) -> Result<(), Failure>
+fn show_words(rt: &HostRuntime, file: String, options: Options) -> Result<ExitCode, Failure>
     requires few_positions { options.limits.positions ≤ MAX_POSITIONS }
     requires few_states { options.limits.states ≤ MAX_STATES }
 {
+    let text = read_spec_file(rt, file)?;
     let mut sink = ToBytes::new(ByteWriter::new(rt.alloc(), io::writer(rt))?);
-    tell_words(rt.alloc(), text, options, &mut sink)?;
+    tell_words(rt.alloc(), text.as_slice(), options, &mut sink)?;
     sink.flush()?;
-    Ok(())
+    Ok(ExitCode::SUCCESS)
 }
 
 /// Says on standard output what two files do not do the same.
@@ -115,13 +116,14 @@ fn show_lines(rt: &HostRuntime, name: &str, options: Options) -> Result<ExitCode
 }
 
 /// Writes a line for each match of a scan of standard input. It is flushed before a read that may wait.
-fn show_trace(rt: &HostRuntime, text: &[u8], options: Options) -> Result<ExitCode, Failure>
+fn show_trace(rt: &HostRuntime, file: String, options: Options) -> Result<ExitCode, Failure>
     requires few_positions { options.limits.positions ≤ MAX_POSITIONS }
     requires few_states { options.limits.states ≤ MAX_STATES }
 {
+    let text = read_spec_file(rt, file)?;
     let mut source = FromBytes::new(ByteReader::new(rt.alloc(), rt.reader())?);
     let mut sink = ToBytes::new(ByteWriter::new(rt.alloc(), io::writer(rt))?);
-    let result = trace(rt.alloc(), text, options, &mut source, &mut sink);
+    let result = trace(rt.alloc(), text.as_slice(), options, &mut source, &mut sink);
     if result.is_err() {
         // What was written before the fault is still to be seen, and the fault is reported in any case.
         let _ = sink.flush();
@@ -138,41 +140,45 @@ fn status_of(yes: bool) -> ExitCode {
     }
 }
 
+/// Shows this of a file.
+fn show_one(
+    rt: &HostRuntime,
+    what: Subcommand,
+    file: String,
+    options: Options,
+) -> Result<ExitCode, Failure>
+    requires few_positions { options.limits.positions ≤ MAX_POSITIONS }
+    requires few_states { options.limits.states ≤ MAX_STATES }
+{
+    match what {
+        Subcommand::Picture => show_picture(rt, file, options),
+        Subcommand::Lines => show_lines(rt, file.as_str(), options),
+        Subcommand::Words => show_words(rt, file, options),
+        Subcommand::Trace => show_trace(rt, file, options),
+    }
+}
+
+/// Shows what the command line asks for, and answers with the status of the program.
 fn run(rt: &HostRuntime) -> Result<ExitCode, Failure> {
     match look_of(rt)? {
-        Look::Help => show_help(rt)?,
-        Look::Picture { file, fold, posix } => {
-            let text = read_spec_file(rt, file)?;
-            show_picture(rt, text.as_slice(), options_of(fold, posix))?;
-        }
-        Look::Words { file, fold, posix } => {
-            let text = read_spec_file(rt, file)?;
-            show_words(rt, text.as_slice(), options_of(fold, posix))?;
-        }
+        Look::Help => show_help(rt),
+        Look::One {
+            what,
+            file,
+            patterns,
+        } => show_one(rt, what, file, options_of(patterns)),
         Look::Same {
             left,
             right,
-            fold,
-            posix,
-        } => return show_same(rt, left.as_str(), right.as_str(), options_of(fold, posix)),
-        Look::Lines { file, fold, posix } => {
-            return show_lines(rt, file.as_str(), options_of(fold, posix));
-        }
-        Look::Trace { file, fold, posix } => {
-            let text = read_spec_file(rt, file)?;
-            return show_trace(rt, text.as_slice(), options_of(fold, posix));
-        }
+            patterns,
+        } => show_same(rt, left.as_str(), right.as_str(), options_of(patterns)),
     }
-    Ok(ExitCode::SUCCESS)
 }
 
+/// Runs, and reports what ended the run before its work was done.
 fn main(rt: HostRuntime) -> ExitCode {
     match run(&rt) {
         Ok(status) => status,
-        Err(failure) => {
-            let fault = failure.fault();
-            let _ = write_fault(fault, &mut ToWrite::new(rt.stderr()));
-            ExitCode::from(fault.status())
-        }
+        Err(failure) => report_failure(&rt, &failure),
     }
 }

@@ -8,7 +8,7 @@ use Rattle.lexkit.specs.declared.options.Options.{Options}
 use Rattle.lexlook_calls.specs.Lines.{Side, told_line}
 use Rattle.lexlook_calls.specs.Naming.{ArePaired}
 use Rattle.lexlook_calls.specs.Sides.{StandsFor, IsRefused}
-use Rattle.lexlook_calls.specs.declared.comparing.Given.{Given}
+use Rattle.lexlook_calls.specs.declared.same.Given.{Given}
 use Rattle.lexlook_calls.specs.declared.error.LookError.{LookError}
 use Rattle.lexlook_calls.specs.declared.error.LookError.TheVariants.{Refused, Table, OutOfMemory, Write}
 

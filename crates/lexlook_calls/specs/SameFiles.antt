@@ -7,7 +7,7 @@ use Rattle.lexlook_tables.specs.declared.same.tables.Comparison.TheVariants.{Sam
 use Rattle.lexlook_calls.specs.Compared.{IsSideOf, Holds}
 use Rattle.lexlook_calls.specs.Lines.{Side}
 use Rattle.lexlook_calls.specs.Sides.{is_table_file}
-use Rattle.lexlook_calls.specs.declared.comparing.Given.{Given}
+use Rattle.lexlook_calls.specs.declared.same.Given.{Given}
 
 -- Two files that are found to do the same scan each input alike.
 abbrev pub SameScanAlike : Type 0

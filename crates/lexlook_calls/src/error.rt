@@ -28,6 +28,7 @@ impl From<GenError> for LookError {
 
     ghost from_gives = { λ e refused. refused ≡ Refused e };
 
+    /// A text that was refused.
     fn from(error: GenError) -> LookError {
         LookError::Refused(error)
     }
@@ -38,6 +39,7 @@ impl From<PictureError> for LookError {
 
     ghost from_gives = { λ e told. told ≡ told_of e };
 
+    /// A picture that was not drawn whole.
     fn from(error: PictureError) -> LookError {
         match error {
             PictureError::OutOfMemory => LookError::OutOfMemory,
@@ -51,6 +53,7 @@ impl From<LookError> for Failure {
 
     ghost from_gives = { λ error failure. failure ≡ failure_of error };
 
+    /// How the program reports it: a file that is refused as a scan by it is.
     fn from(error: LookError) -> Failure {
         match error {
             LookError::Refused(error) => Failure::Scan(ScanError::Generate(error)),

@@ -1,9 +1,17 @@
-//! What labels the picture of a specification's automaton.
-ghost use Rattle.std.specs.Prelude.{◌≡◌, map, IfOk};
+//! What conditions, rules and texts are called in the lines that are written.
+ghost use Rattle.std.specs.Prelude.{◌≡◌, ◌<◌, Bool, [], ◌++◌, length, map, slice_index, slice_index_or};
+ghost use Rattle.std.specs.Prelude.{IfOk, IfSome, OnOk};
+ghost use Rattle.std.specs.List.{flat_map};
 ghost use Rattle.lexspec_actions.specs.Views.{condition_of};
+ghost use Rattle.lexspec.specs.Views.{conditions_in, rules_in, spec_of};
+ghost use Rattle.lexkit.specs.Generated.{lines_of};
 ghost use Rattle.lexlook_calls.specs.Looks.{names_of};
+ghost use Rattle.lexlook_calls.specs.Lines.{in_quotes, condition_words, rule_words, start_words};
+ghost use Rattle.lexlook_calls.specs.Sides.{read_as};
 
-use lexspec::Condition;
+use lex_io::octal;
+use lexlook_specs::{add, add_number};
+use lexspec::{Condition, Spec};
 use std::alloc::{AllocError, Global};
 
 /// The names of conditions.
@@ -15,4 +23,92 @@ pub(crate) fn names_of(alloc: Global, conditions: &[Condition]) -> Result<Vec<&[
         names.push(condition.name.as_slice())?;
     }
     Ok(names)
+}
+
+/// Appends a byte as it is spelled in a quoted string of a pattern.
+fn add_in_quotes(text: &mut Vec<u8>, byte: u8) -> Result<(), AllocError>
+    ensures { OnOk result (text.new.items ≡ text.old.items ++ in_quotes byte) }
+{
+    match byte {
+        b'\t' => add(text, b"\\t"),
+        b'\n' => add(text, b"\\n"),
+        b'"' | b'\\' => add(text, &[b'\\', byte]),
+        b' '..=b'~' => add(text, &[byte]),
+        _ => add(text, &octal(byte)),
+    }
+}
+
+/// Appends bytes as they are spelled in a quoted string of a pattern.
+pub(crate) fn add_string(text: &mut Vec<u8>, bytes: &[u8]) -> Result<(), AllocError>
+    ensures { OnOk result (text.new.items ≡ text.old.items ++ flat_map in_quotes bytes.now) }
+{
+    for byte in bytes {
+        add_in_quotes(text, *byte)?;
+    }
+    Ok(())
+}
+
+/// The name of a condition.
+fn name_of(spec: &Spec, condition: u8) -> &[u8]
+    requires { condition < length (conditions_in (spec_of spec.now)) }
+    ensures { result.now ≡ slice_index_or (names_of (conditions_in (spec_of spec.now))) condition [] }
+{
+    spec.conditions()[condition as usize].name.as_slice()
+}
+
+/// The line of a rule.
+fn line_of(spec: &Spec, rule: u32) -> u32
+    requires { rule < length (rules_in (spec_of spec.now)) }
+    ensures { result ≡ slice_index (lines_of (rules_in (spec_of spec.now))) rule }
+{
+    spec.rules()[rule as usize].line
+}
+
+/// Appends what a condition is called.
+pub(crate) fn add_condition(
+    text: &mut Vec<u8>,
+    given: &Option<Spec>,
+    condition: u8,
+) -> Result<(), AllocError>
+    requires { IfSome (read_as given.now) (λ S. condition < length (conditions_in S)) }
+    ensures { OnOk result (text.new.items ≡ text.old.items ++ condition_words (read_as given.now) condition) }
+{
+    match given {
+        Some(spec) => add(text, name_of(spec, condition)),
+        None => {
+            add(text, b"condition ")?;
+            add_number(text, condition as u32)
+        }
+    }
+}
+
+/// Appends what a rule is called.
+pub(crate) fn add_rule(
+    text: &mut Vec<u8>,
+    given: &Option<Spec>,
+    rule: u32,
+) -> Result<(), AllocError>
+    requires { IfSome (read_as given.now) (λ S. rule < length (rules_in S)) }
+    ensures { OnOk result (text.new.items ≡ text.old.items ++ rule_words (read_as given.now) rule) }
+{
+    match given {
+        Some(spec) => {
+            add(text, b" line ")?;
+            add_number(text, line_of(spec, rule))
+        }
+        None => {
+            add(text, b" rule ")?;
+            add_number(text, rule)
+        }
+    }
+}
+
+/// Appends whether a match is at the start of a line.
+pub(crate) fn add_start(text: &mut Vec<u8>, line_start: bool) -> Result<(), AllocError>
+    ensures { OnOk result (text.new.items ≡ text.old.items ++ start_words line_start) }
+{
+    if line_start {
+        return add(text, b" at the start of a line");
+    }
+    add(text, b"")
 }

@@ -5,8 +5,7 @@ ghost use Rattle.lextab_packed.specs.Machines.{table_machine};
 ghost use Rattle.lexlook_calls.specs.Sides.{StandsFor, IsRefused, is_table_file, read_as};
 
 use crate::error::LookError;
-use crate::least::least_automaton;
-use lexkit::{Options, Tables, read_tables, read_text};
+use lexkit::{Options, Tables, least_automaton, read_tables, read_text};
 use lexspec::Spec;
 use lextab::pack;
 use std::alloc::Global;
@@ -14,7 +13,9 @@ use std::alloc::Global;
 /// The tables of a file, and the specification if it is one.
 #[derive(Drop)]
 pub(crate) struct Side {
+    /// The tables that the file has, or those of its specification.
     pub tables: Tables,
+    /// The specification, where the file is one.
     pub spec: Option<Spec>,
 }
 
@@ -47,8 +48,8 @@ fn side_of_spec(alloc: Global, text: &[u8], options: Options) -> Result<Side, Lo
     ensures refused { IfErr result (IsRefused options text.now) }
 {
     let spec = read_text(alloc, text, options)?;
-    let automaton = least_automaton(alloc, &spec, options.limits)?;
-    match pack(alloc, &automaton, &spec) {
+    let least = least_automaton(alloc, &spec, options.limits)?;
+    match pack(alloc, &least.automaton, &spec) {
         Err(_) => Err(LookError::OutOfMemory),
         Ok(tables) => Ok(Side {
             tables,

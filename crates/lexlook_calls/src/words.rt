@@ -15,8 +15,7 @@ ghost use Rattle.lexlook_calls.specs.Words.{AreLabelled, AreWordsOf, HasLabels, 
 ghost use Rattle.lexlook_calls.specs.Words.{default_line, line_words, never_words, place_words, word_line, word_lines};
 
 use crate::error::LookError;
-use crate::labels::names_of;
-use crate::telling::{add_start, add_string};
+use crate::labels::{add_start, add_string, names_of};
 use lexauto::build;
 use lexkit::{GenError, Limits, Options, Sink, lines_of, read_text};
 use lexlook_specs::{Place, Word, Words, add, add_number, find_words, rejecting, rejects_of};

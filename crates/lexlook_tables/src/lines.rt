@@ -6,5 +6,5 @@ mod newlines;
 mod reaching;
 mod tables;
 
-pub use cutting::Obstacle;
+pub use cutting::{MachineSizes, Obstacle, find_obstacle};
 pub use tables::find_obstacle_in;

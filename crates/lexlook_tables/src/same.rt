@@ -7,5 +7,5 @@ mod pairs;
 mod tables;
 
 pub use deeds::{number_in, rules_after};
-pub use differing::Difference;
+pub use differing::{Difference, PairSizes, tell_apart};
 pub use tables::{Comparison, compare, counts_all};

@@ -9,12 +9,12 @@ use Rattle.lexre.specs.Definitions.{Definitions}
 use Rattle.lexre.specs.Entries.{map_of}
 use Rattle.lexre.specs.Reading.{StandsIn}
 use Rattle.lexre.specs.Views.{tree_of}
-use Rattle.lexre.specs.declared.names.Kept.{Kept}
-use Rattle.lexre.specs.declared.names.Names.{Names}
+use Rattle.lexre.specs.declared.name_cache.Kept.{Kept}
+use Rattle.lexre.specs.declared.name_cache.NameCache.{NameCache}
 use Rattle.lexre.specs.declared.options.ReadOptions.{ReadOptions}
 
 -- the names that are being read, the outermost first
-abbrev pub open_of : Names → List (List ℕ)
+abbrev pub open_of : NameCache → List (List ℕ)
 open_of names = map (λ v. v.items) names.being_read.items
 
 -- names to trees, each with how many parentheses and names have to be opened for it
@@ -24,7 +24,7 @@ Trees = FinMap (slice_cmp nat_cmp) (Tree × ℕ)
 abbrev pub tree_kept : Kept → Tree × ℕ
 tree_kept k = (tree_of k.tree.pattern, k.needed)
 
-abbrev pub trees_of : Names → Trees
+abbrev pub trees_of : NameCache → Trees
 trees_of names = map_of tree_kept names.kept.entries
 
 -- what is kept of a name, unless it needs more than may be opened

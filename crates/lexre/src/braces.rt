@@ -46,6 +46,7 @@ pub(crate) fn interval_at(text: &[u8]) -> Option<((u8, Option<u8>), &[u8])>
     Some((counts(least, capped_value(10, digits))?, after))
 }
 
+/// The digits at the front, and what follows them.
 fn digits_at(text: &[u8]) -> (&[u8], &[u8])
     ensures { ◌≡◌ {A = List ℕ × List ℕ} (take_up_to (length text.now) is_digit text.now) (result.0.now, result.1.now) }
 {

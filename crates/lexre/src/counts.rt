@@ -20,6 +20,7 @@ pub fn positions(pattern: &Pattern) -> Option<u32>
     u32::try_from(capped_positions(pattern)).ok()
 }
 
+/// How many positions the pattern has, up to 4,294,967,296.
 #[cycle(positions)]
 fn capped_positions(pattern: &Pattern) -> u64
     ensures { result ≡ min (2 ^ 32) (positions (tree_of pattern.now)) }
@@ -51,6 +52,7 @@ fn positions_in(parts: &Operands<Pattern>) -> u64
     capped_positions_of(parts.items())
 }
 
+/// How many positions the patterns have together, up to 4,294,967,296.
 #[cycle(positions)]
 fn capped_positions_of(parts: &[Pattern]) -> u64
     ensures { result ≡ min (2 ^ 32) (positions_of (trees (map tree_of parts.now))) }
@@ -76,6 +78,7 @@ pub(crate) fn capped_nodes(pattern: &Pattern) -> u64
     }
 }
 
+/// How many nodes the patterns have together, up to 4,294,967,296.
 #[cycle(nodes)]
 fn capped_nodes_of(parts: &[Pattern]) -> u64
     ensures { result ≡ min (2 ^ 32) (nodes_of (trees (map tree_of parts.now))) }

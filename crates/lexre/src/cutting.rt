@@ -1,4 +1,9 @@
 //! Where the pattern of a rule ends. (POSIX, lex, Rules in lex; flex, Patterns: `r/s`, `r$`.)
+//!
+//! A pattern is said by the texts from each piece on (`specs/Cutting`): what such a text begins with is its piece, and
+//! its length says where it stands. The code goes by kinds and places, and both are proved to say the same. What is
+//! wrong inside a class is passed over, but for a class without an end: the reader of classes, which comes later, tells
+//! the rest.
 ghost use Rattle.std.specs.Prelude.{◌≡◌, ◌+◌, ◌^◌, ◌<◌, ◌≤◌, ℕ, Bool, ◌∷◌, List, length, Option, Some, None};
 ghost use Rattle.std.specs.Prelude.{IfOk, IfErr, IfSome, OnErr, MatchOption, MatchResult};
 ghost use Rattle.lexre.specs.Cutting.{IsCutting, IsCuttingFault};

@@ -11,8 +11,10 @@ use thiserror::Error;
 /// Why a definition was not taken.
 #[derive(Clone, Copy, Debug, PartialEq, Eq, Error)]
 pub enum DefsError {
+    /// The name has a text already.
     #[error("the name is defined already")]
     Duplicate,
+    /// A request for memory was refused.
     #[error("out of memory")]
     OutOfMemory,
 }
@@ -20,6 +22,7 @@ pub enum DefsError {
 impl From<AllocError> for DefsError {
     ghost from_gives = { λ _ e. e ≡ OutOfMemory };
 
+    /// A request for memory was refused.
     fn from(_error: AllocError) -> DefsError {
         DefsError::OutOfMemory
     }
@@ -28,6 +31,7 @@ impl From<AllocError> for DefsError {
 impl<T: Drop> From<AllocFailed<T>> for DefsError {
     ghost from_gives = { λ _ e. e ≡ OutOfMemory };
 
+    /// A request for memory was refused, and what was handed in is dropped.
     fn from(_error: AllocFailed<T>) -> DefsError {
         DefsError::OutOfMemory
     }

@@ -1,4 +1,9 @@
-//! A pattern as far as it was read. Its methods are in `stack`.
+//! A pattern as far as it was read, as values. The steps over them are in `stack`.
+//!
+//! Operators are counted by two numbers (`Signs`): how many stand on the series, and how many on its last item, if it
+//! has one that stands for itself. An interval over the whole series and the operators that directly follow it are at
+//! most 64 in all, whatever items stand between. The operators on an item are counted for that item. Each parenthesis
+//! and each name begins a series of its own. So one grammar serves intervals over series and over items.
 ghost use Rattle.std.specs.Prelude.{◌+◌, ◌≤◌, vec_len};
 ghost use Rattle.lexre.specs.Limits.{max_open};
 
@@ -30,6 +35,7 @@ pub(crate) struct Frame {
     pub(crate) signs: Signs,
 }
 
+/// The pattern that is being read, with those round it that its parentheses and names interrupt.
 #[derive(Drop)]
 pub(crate) struct Stack {
     pub(crate) alloc: Global,

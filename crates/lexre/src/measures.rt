@@ -1,4 +1,8 @@
 //! The lengths of the texts that a pattern matches.
+//!
+//! They are of the language: a star of the empty pattern has the greatest length 0, so `a*/(""*)` has trailing context
+//! of the fixed length 0. They are computed with a cap at 2 ^ 32 and tested at the end, so a part may pass the limit
+//! where the whole does not.
 ghost use Rattle.std.specs.Prelude.{◌≡◌, ℕ, Option, ◌^◌, min, map, option_map, IfSome, IfNone};
 ghost use Rattle.lex_semantics.specs.Shapes.{HasLengths, IsSoundTree};
 ghost use Rattle.lex_semantics.specs.Tree.{In, trees};
@@ -28,6 +32,7 @@ pub fn lengths(pattern: &Pattern) -> Option<Lengths>
     Some(Lengths { min, max })
 }
 
+/// The least length of a text that the pattern matches, up to the cap.
 #[cycle(least)]
 fn capped_least(pattern: &Pattern) -> u64
     ensures { result ≡ capped (least (tree_of pattern.now)) }
@@ -52,6 +57,7 @@ fn capped_least(pattern: &Pattern) -> u64
     }
 }
 
+/// The sum of the least lengths of these, up to the cap.
 #[cycle(least)]
 fn capped_least_of_each(parts: &[Pattern]) -> u64
     ensures { result ≡ capped (least_of_each (trees (map tree_of parts.now))) }
@@ -63,6 +69,7 @@ fn capped_least_of_each(parts: &[Pattern]) -> u64
     total
 }
 
+/// The least of the least lengths of these, up to the cap. None where there are none.
 #[cycle(least)]
 fn capped_least_of_some(parts: &[Pattern]) -> Option<u64>
     ensures { result ≡ option_map capped (least_of_some (trees (map tree_of parts.now))) }
@@ -74,6 +81,7 @@ fn capped_least_of_some(parts: &[Pattern]) -> Option<u64>
     found
 }
 
+/// The greatest length of a text that the pattern matches, up to the cap. None where there is none.
 #[cycle(greatest)]
 fn capped_greatest(pattern: &Pattern) -> Option<u64>
     ensures { result ≡ option_map capped (greatest (tree_of pattern.now)) }
@@ -105,6 +113,7 @@ fn unbounded(most: Option<u64>) -> Option<u64>
     if most == Some(0) { Some(0) } else { None }
 }
 
+/// At most so many times, or any number of times, what has this greatest length.
 fn repeated(times: Option<u8>, most: Option<u64>) -> Option<u64>
     ensures { (x : Option ℕ) → most ≡ option_map capped x → result ≡ option_map capped (repeated times x) }
 {
@@ -115,6 +124,7 @@ fn repeated(times: Option<u8>, most: Option<u64>) -> Option<u64>
     Some(u64::from(times).saturating_mul(most).min(CAP))
 }
 
+/// The sum of the greatest lengths of these, up to the cap. None where one has none.
 #[cycle(greatest)]
 fn capped_greatest_of_each(parts: &[Pattern]) -> Option<u64>
     ensures { result ≡ option_map capped (greatest_of_each (trees (map tree_of parts.now))) }
@@ -126,6 +136,7 @@ fn capped_greatest_of_each(parts: &[Pattern]) -> Option<u64>
     Some(total)
 }
 
+/// The greatest of the greatest lengths of these, up to the cap. None where one has none.
 #[cycle(greatest)]
 fn capped_greatest_of_some(parts: &[Pattern]) -> Option<u64>
     ensures { result ≡ option_map capped (greatest_of_some (trees (map tree_of parts.now))) }

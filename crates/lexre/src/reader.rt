@@ -1,4 +1,7 @@
 //! Reads patterns. (POSIX, lex, Regular Expressions in lex; flex, Patterns. The bounds are this project's.)
+//!
+//! A name inside its own text is refused where it is met there. It stands for no tree: wherever it did, it would stand
+//! for one inside that where fewer may be opened, and so down until none may be opened.
 ghost use Rattle.std.specs.Prelude.{◌≡◌, ◌+◌, ◌-◌, ◌≤◌, ℕ, IfOk, IfErr, OnOk};
 ghost use Rattle.lex_semantics.specs.Shapes.{IsSoundTree, nodes};
 ghost use Rattle.lex_semantics.specs.Tree.{Tree};
@@ -20,7 +23,7 @@ use crate::counted::Counted;
 use crate::definitions::Defs;
 use crate::frames::Stack;
 use crate::lexer::symbol_at;
-use crate::names::Names;
+use crate::name_cache::NameCache;
 use crate::options::ReadOptions;
 use crate::pattern::Pattern;
 use crate::symbols::Symbol;
@@ -93,7 +96,7 @@ fn read_name(
     scope: Scope<'_>,
     left: u8,
     room: u64,
-    names: &mut Names,
+    names: &mut NameCache,
 ) -> Result<Read, PatternErrorKind>
     requires left { left ≤ max_open }
     requires room { room ≤ max_nodes }
@@ -146,7 +149,7 @@ fn step(
     at: usize,
     scope: Scope<'_>,
     room: u64,
-    names: &mut Names,
+    names: &mut NameCache,
 ) -> Result<Taken, PatternErrorKind>
     requires room { room ≤ max_nodes }
     requires sound { IsSoundSymbol symbol }
@@ -204,7 +207,7 @@ fn read_within(
     scope: Scope<'_>,
     left: u8,
     room: u64,
-    names: &mut Names,
+    names: &mut NameCache,
 ) -> Result<Read, PatternError>
     requires left { left ≤ max_open }
     requires room { room ≤ max_nodes }
@@ -273,7 +276,7 @@ pub fn read_pattern(
     ensures none { IfErr result (λ e. UnlessMemory e.kind ((t : Tree)
         → Spells options definitions.now text.now t → ⊥)) }
 {
-    let mut names = Names::new(alloc);
+    let mut names = NameCache::new(alloc);
     read_with_names(alloc, text, definitions, options, &mut names)
 }
 
@@ -284,7 +287,7 @@ pub fn read_with_names(
     text: &[u8],
     definitions: &Defs,
     options: ReadOptions,
-    names: &mut Names,
+    names: &mut NameCache,
 ) -> Result<Pattern, PatternError>
     requires known_so_far { AreKnown options definitions.now (trees_of names.old) }
     ensures found { IfOk result (λ p. Spells options definitions.now text.now (tree_of p)) }

@@ -1,4 +1,10 @@
-//! A pattern as far as it was read. (POSIX, lex, Regular Expressions in lex; flex, Patterns.)
+//! The steps over a pattern as far as it was read, by each symbol. (POSIX, lex, Regular Expressions in lex; flex,
+//! Patterns.)
+//!
+//! Nodes are counted in the tree of the text so far. A series has its own node from its second item on, and a choice
+//! from the first item after its first bar. The node of an operator is counted at the item that it stands after, and
+//! that of an operator on a series is told at the operator. One count goes through all names, and each item is refused
+//! as soon as it passes 65,536.
 ghost use Rattle.std.specs.Prelude.{◌≡◌, ◌+◌, ◌≤◌, ◌<◌, ℕ, List, Option, [], Some, None};
 ghost use Rattle.std.specs.Prelude.{map, MatchResult, IfOk, IfErr, IfSome, IfNone, IsSome};
 ghost use Rattle.lex_semantics.specs.Tree.{Repeat, Tree};
@@ -104,6 +110,7 @@ impl Signs {
         }
     }
 
+    /// One sign more, on what the last one stands on.
     fn one_more(self) -> Signs
         requires { how_many (signs_of self) < max_signs }
         ensures { signs_of result ≡ one_more (signs_of self) }
@@ -140,6 +147,7 @@ impl Signs {
 }
 
 impl Frame {
+    /// A pattern of which nothing was read yet, opened at this place.
     fn new(alloc: Global, opening: usize) -> Frame
         ensures { frame_of result ≡ fresh }
     {

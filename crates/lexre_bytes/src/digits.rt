@@ -19,6 +19,7 @@ pub fn capped_value(radix: u32, digits: &[u8]) -> u32
     number
 }
 
+/// The value of a digit, decimal or hexadecimal.
 #[tactic(auto, unfolding(lex_semantics::specs::ByteSets::is_digit))]
 fn digit_of(digit: u8) -> u32
     ensures value { result ≡ digit_of digit }

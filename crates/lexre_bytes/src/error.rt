@@ -40,6 +40,7 @@ pub enum PatternErrorKind {
     TooBig,
     /// A slash inside a pattern, or inside parentheses.
     MisplacedSlash,
+    /// A request for memory was refused.
     OutOfMemory,
 }
 
@@ -72,6 +73,7 @@ impl PatternErrorKind {
 impl fmt::Display for PatternErrorKind {
     ghost output = { λ kind. Some (pattern_name kind) };
 
+    /// Writes the name of the reason.
     fn fmt<W: fmt::Write>(&self, f: &mut fmt::Formatter<W>) -> fmt::Result {
         f.write_str(self.name())
     }
@@ -80,6 +82,7 @@ impl fmt::Display for PatternErrorKind {
 impl From<AllocError> for PatternErrorKind {
     ghost from_gives = { λ _ e. e ≡ OutOfMemory };
 
+    /// A request for memory was refused.
     fn from(_error: AllocError) -> PatternErrorKind {
         PatternErrorKind::OutOfMemory
     }
@@ -88,6 +91,7 @@ impl From<AllocError> for PatternErrorKind {
 impl<T: Drop> From<AllocFailed<T>> for PatternErrorKind {
     ghost from_gives = { λ _ e. e ≡ OutOfMemory };
 
+    /// A request for memory was refused, and what was handed in is dropped.
     fn from(_error: AllocFailed<T>) -> PatternErrorKind {
         PatternErrorKind::OutOfMemory
     }
@@ -97,13 +101,17 @@ impl<T: Drop> From<AllocFailed<T>> for PatternErrorKind {
 #[derive(Clone, Copy, Debug, PartialEq, Eq, Error)]
 #[error("{kind} at {at}")]
 pub struct PatternError {
+    /// The reason.
     pub kind: PatternErrorKind,
+    /// The offset in the text where it was found, from 0.
     pub at: usize,
 }
 
 /// A fault, and the text from its place on.
 #[derive(Clone, Copy)]
 pub struct FaultAt<'a> {
+    /// The reason.
     pub kind: PatternErrorKind,
+    /// The text from the place on where it was found.
     pub rest: &'a [u8],
 }

@@ -99,6 +99,7 @@ impl SpecErrorKind {
 }
 
 impl fmt::Display for SpecErrorKind {
+    /// Writes the name of the reason.
     fn fmt<W: fmt::Write>(&self, f: &mut fmt::Formatter<W>) -> fmt::Result {
         match self {
             SpecErrorKind::Pattern(error) => error.fmt(f),
@@ -111,7 +112,9 @@ impl fmt::Display for SpecErrorKind {
 #[derive(Clone, Copy, PartialEq, Eq, Debug, Error)]
 #[error("line {line}: {kind}")]
 pub struct SpecError {
+    /// The line, from 1, or 0 where it is of no line.
     pub line: u32,
+    /// The reason.
     pub kind: SpecErrorKind,
 }
 
@@ -124,6 +127,7 @@ const OUT_OF_MEMORY: SpecError = SpecError {
 impl From<AllocError> for SpecErrorKind {
     ghost from_gives = { λ _ e. e ≡ OutOfMemory };
 
+    /// A request for memory was refused.
     fn from(_error: AllocError) -> SpecErrorKind {
         SpecErrorKind::OutOfMemory
     }
@@ -132,6 +136,7 @@ impl From<AllocError> for SpecErrorKind {
 impl<T: Drop> From<AllocFailed<T>> for SpecErrorKind {
     ghost from_gives = { λ _ e. e ≡ OutOfMemory };
 
+    /// A request for memory was refused, and what was handed in is dropped.
     fn from(_error: AllocFailed<T>) -> SpecErrorKind {
         SpecErrorKind::OutOfMemory
     }
@@ -140,6 +145,7 @@ impl<T: Drop> From<AllocFailed<T>> for SpecErrorKind {
 impl From<AllocError> for SpecError {
     ghost from_gives = { λ _ e. e ≡ record { line = 0; kind = OutOfMemory } };
 
+    /// A request for memory was refused where no line is at hand: it is told of line 0.
     fn from(_error: AllocError) -> SpecError {
         OUT_OF_MEMORY
     }
@@ -148,6 +154,7 @@ impl From<AllocError> for SpecError {
 impl<T: Drop> From<AllocFailed<T>> for SpecError {
     ghost from_gives = { λ _ e. e ≡ record { line = 0; kind = OutOfMemory } };
 
+    /// A request for memory was refused where no line is at hand, and what was handed in is dropped.
     fn from(_error: AllocFailed<T>) -> SpecError {
         OUT_OF_MEMORY
     }

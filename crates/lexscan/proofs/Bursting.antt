@@ -26,7 +26,7 @@ use Rattle.lexscan_window.specs.declared.matched.MatchedRule.TheVariants.{Number
 use Rattle.lexscan_window.specs.declared.state.Reading.{Reading}
 use Rattle.lexscan_window.specs.declared.state.TextPlace.{TextPlace}
 use Rattle.lexscan_window.specs.declared.act.ActionState.{ActionState}
-use Rattle.lexscan_window.specs.declared.act.Step.{Step}
+use Rattle.lexscan_window.specs.declared.act.ActionFlow.{ActionFlow}
 use Rattle.lexscan.specs.declared.turn.Turn.{Turn}
 use Rattle.lexscan_matching.specs.declared.glanced.GlancedMatch.{GlancedMatch}
 use Rattle.lexscan_window.specs.declared.error.RunError.TheVariants.{Write, Stack, TooManyReads}
@@ -34,10 +34,10 @@ use Rattle.lexscan_window.specs.Acts.{acting_of, after_step, written_of}
 use Rattle.lexscan_matching.specs.Descends.{Conditions, conditions_in, outcome, matches_of, Performed, CutAll, IsRule, Takes}
 use Rattle.lexscan_matching.specs.Looks.{SoFar, Looked}
 use Rattle.lexscan_matching.specs.Picks.{path_of, state_at}
-use Rattle.lexscan.specs.Moves.{Matched, Refused}
-use Rattle.lexscan.specs.Stands.{Stands, Fell}
-use Rattle.lexscan.specs.Bursts.{Between, AllStand, TurnsMade, Broke}
-use Rattle.lexscan_matching.specs.Glanced.{statements_in, names_rule, condition_after, written_by, NoneAfter, Tells}
+use Rattle.lexscan.specs.TurnSteps.{MatchStep, RefusedStep}
+use Rattle.lexscan.specs.TurnInvariants.{TurnInvariant, AfterRefusal}
+use Rattle.lexscan.specs.Bursts.{Between, AllInvariant, TurnsMade, BurstStopped}
+use Rattle.lexscan_matching.specs.Glanced.{statements_in, names_rule, condition_after, written_by, NoneAfter, IsGlancedMatch}
 use Rattle.lexscan_matching.proofs.Descending as Down
 use Rattle.lexscan_matching.proofs.Descending.{one_match, start_of, head_outcome, statements_are, default_is, default_one, settled}
 use Rattle.lexscan_matching.proofs.Picking.{falling_last, falling_more}
@@ -128,7 +128,7 @@ acting_after_gist g keep c = record { end = 0 + keep; condition = condition_afte
 
 -- the statements that are told, over a text
 act_gist : (w : List ℕ) (g : Gist) (keep : ℕ) (c : Conditions) (before : List ℕ) → names_rule g ≡ true → are_simple (statements_in g) ≡ true →
-    act_result (statements_in g) (acting_of w (start_of 0 keep c) before) ≡ after_step Step.Next [] (acting_of w (acting_after_gist g keep c) (before ++ written_by g (take (0 + keep) w)))
+    act_result (statements_in g) (acting_of w (start_of 0 keep c) before) ≡ after_step ActionFlow.Next [] (acting_of w (acting_after_gist g keep c) (before ++ written_by g (take (0 + keep) w)))
 act_gist w Any keep c before is simple = absurd (no is)
   where
     no : false ≡ true → ⊥
@@ -137,10 +137,10 @@ act_gist w NoRule keep c before is simple = absurd (no is)
   where
     no : false ≡ true → ⊥
     no e = cc
-act_gist w Silent keep c before is simple = ap (λ b. after_step Step.Next [] (acting_of w (start_of 0 keep c) b)) (sym (append-nil before))
+act_gist w Silent keep c before is simple = ap (λ b. after_step ActionFlow.Next [] (acting_of w (start_of 0 keep c) b)) (sym (append-nil before))
 act_gist w Echo keep c before is simple = refl
 act_gist w (Print bytes) keep c before is simple = refl
-act_gist w (Begin d) keep c before is simple = ap (λ b. after_step Step.Next [] (acting_of w (acting_after_gist (Begin d) keep c) b)) (sym (append-nil before))
+act_gist w (Begin d) keep c before is simple = ap (λ b. after_step ActionFlow.Next [] (acting_of w (acting_after_gist (Begin d) keep c) b)) (sym (append-nil before))
 act_gist w (Several ss) keep c before is simple = act_all w (map statement_of ss.now) (start_of 0 keep c) before simple
 
 -- what is written before a fault is a front of it
@@ -162,7 +162,7 @@ falling_none M p w n (suc more) le none =
     ∙ falling_none M p w n more (omega (arith, le)) (λ i less few. none i less (omega (arith, few)))
 
 module _ (M : Machine) (laws : MachineLaws M) (text : List ℕ) (bytes : IsText text) (c far condition : ℕ) (line : Bool) (way : Way) (longest : GlancedMatch) (le : c ≤ far) (inside : far ≤ length text)
-    (leads : Leads M (M.start condition line) (drop c text) way) (tells : Tells M (M.start condition line) (drop c text) way.count longest) (is : names_rule longest.gist ≡ true) where
+    (leads : Leads M (M.start condition line) (drop c text) way) (tells : IsGlancedMatch M (M.start condition line) (drop c text) way.count longest) (is : names_rule longest.gist ≡ true) where
   -- how far is asked for then
   abbrev pub beyond : ℕ
   beyond = max far (c + way.count)
@@ -222,7 +222,7 @@ module _ (M : Machine) (laws : MachineLaws M) (text : List ℕ) (bytes : IsText 
   heads : Heads M w path longest.gist longest.keep
   heads = from tells
     where
-      from : Tells M (M.start condition line) (drop c text) way.count longest → Heads M w path longest.gist longest.keep
+      from : IsGlancedMatch M (M.start condition line) (drop c text) way.count longest → Heads M w path longest.gist longest.keep
       from (inl (some, few, none, known)) =
           let s : ℕ = state_at M p w longest.keep in
           let gist : Gists M s longest.gist = subst (λ l. Gists M (walk M (M.start condition line) l) longest.gist) (sym (front_here longest.keep few)) known in
@@ -255,7 +255,7 @@ module _ (M : Machine) (laws : MachineLaws M) (text : List ℕ) (bytes : IsText 
   pub keeps_some : (1 ≤ longest.keep) × (longest.keep ≤ way.count)
   keeps_some = from tells
     where
-      from : Tells M (M.start condition line) (drop c text) way.count longest → (1 ≤ longest.keep) × (longest.keep ≤ way.count)
+      from : IsGlancedMatch M (M.start condition line) (drop c text) way.count longest → (1 ≤ longest.keep) × (longest.keep ≤ way.count)
       from (inl (some, few, none, known)) = (some, few)
       from (inr (inl (one, echo, none))) = (omega (arith, one), omega (arith, one, leads.some))
       from (inr (inr any)) = untold any
@@ -263,7 +263,7 @@ module _ (M : Machine) (laws : MachineLaws M) (text : List ℕ) (bytes : IsText 
   pub condition_below : condition < M.conditions → condition_after longest.gist condition < M.conditions
   condition_below lt = from tells
     where
-      from : Tells M (M.start condition line) (drop c text) way.count longest → condition_after longest.gist condition < M.conditions
+      from : IsGlancedMatch M (M.start condition line) (drop c text) way.count longest → condition_after longest.gist condition < M.conditions
       from (inl (some, few, none, known)) = gist_below M laws (walk M (M.start condition line) (take longest.keep (drop c text))) longest.gist condition is known lt
       from (inr (inl (one, echo, none))) = subst (λ g. condition_after g condition < M.conditions) (sym echo) lt
       from (inr (inr any)) = untold any
@@ -285,7 +285,7 @@ module _ (M : Machine) (laws : MachineLaws M) (text : List ℕ) (bytes : IsText 
               ∙ head_outcome M w 0 (record { len = heads.len; rule = heads.rule; keep = longest.keep }) heads.others before cs
               ∙ ap (λ l. settle (act_result l (acting_of w (start_of 0 longest.keep cs) before)) (λ a. outcome M w 0 heads.others a.written (conditions_in a))) (sym heads.does)
               ∙ ap (λ z. settle z (λ a. outcome M w 0 heads.others a.written (conditions_in a))) (act_gist w longest.gist longest.keep cs before is heads.simple)
-              ∙ settled Step.Next (acting_of w (acting_after_gist longest.gist longest.keep cs) (before ++ out)) (λ a. outcome M w 0 heads.others a.written (conditions_in a)) (λ e. cc);
+              ∙ settled ActionFlow.Next (acting_of w (acting_after_gist longest.gist longest.keep cs) (before ++ out)) (λ a. outcome M w 0 heads.others a.written (conditions_in a)) (λ e. cc);
         }
 
     -- the match that is told is the one carried out
@@ -303,7 +303,7 @@ module _ (M : Machine) (laws : MachineLaws M) (text : List ℕ) (bytes : IsText 
             head_outcome M w 0 (record { len = heads.len; rule = heads.rule; keep = longest.keep }) rest before cs
             ∙ ap (λ l. settle (act_result l (acting_of w (start_of 0 longest.keep cs) before)) (λ a. outcome M w 0 rest a.written (conditions_in a))) (sym heads.does)
             ∙ ap (λ z. settle z (λ a. outcome M w 0 rest a.written (conditions_in a))) (act_gist w longest.gist longest.keep cs before is heads.simple)
-            ∙ settled Step.Next (acting_of w (acting_after_gist longest.gist longest.keep cs) (before ++ written_by longest.gist (take (0 + longest.keep) w))) (λ a. outcome M w 0 rest a.written (conditions_in a)) (λ e. cc),
+            ∙ settled ActionFlow.Next (acting_of w (acting_after_gist longest.gist longest.keep cs) (before ++ written_by longest.gist (take (0 + longest.keep) w))) (λ a. outcome M w 0 rest a.written (conditions_in a)) (λ e. cc),
       );
     }
 
@@ -338,12 +338,12 @@ module _ (M : Machine) (laws : MachineLaws M) (text : List ℕ) (bytes : IsText 
 
     -- the turn was carried out
     pub step : wrote t (written_by longest.gist (take longest.keep (drop c text))) u → (line' : Bool) → line' ≡ nat_eq (get_or (take longest.keep (drop c text)) (longest.keep - 1) 0) 10 → (n taken : ℕ) (given before : List ℕ) →
-        AllStand M n given before (drop c (take far text)) taken condition line stack →
-        AllStand M (suc n) (given ++ drop far (take beyond text)) (before ++ written_by longest.gist (take longest.keep (drop c text))) (drop (c + longest.keep) (take beyond text)) (taken + (beyond - far)) (condition_after longest.gist condition) line' stack
+        AllInvariant M n given before (drop c (take far text)) taken condition line stack →
+        AllInvariant M (suc n) (given ++ drop far (take beyond text)) (before ++ written_by longest.gist (take longest.keep (drop c text))) (drop (c + longest.keep) (take beyond text)) (taken + (beyond - far)) (condition_after longest.gist condition) line' stack
     step put line' starts n taken given before all v b works =
         let few : taken + 0 ≤ v.reading.max_reads = let all = v.reading.few_reads in omega (arith, all, b.taken_is) in
         let old : State = was v taken few in
-        let h : Stands M n given before old = all old (record { bytes_are = refl; taken_is = refl; at_end = refl; at = refl; line_is = refl; condition_is = refl; stack_is = refl; going = refl }) refl in
+        let h : TurnInvariant M n given before old = all old (record { bytes_are = refl; taken_is = refl; at_end = refl; at = refl; line_is = refl; condition_is = refl; stack_is = refl; going = refl }) refl in
         let mid : Reading = record v.reading { window = record { bytes = w; room = true; ahead = []; behind = [] } } in
         let size = grown_by text c far beyond le far_beyond inside_beyond in
         let did = performed put in
@@ -353,7 +353,7 @@ module _ (M : Machine) (laws : MachineLaws M) (text : List ℕ) (bytes : IsText 
           acting = record v.acting { end = 0 + longest.keep };
           matched = heads.number;
         } in
-        let m : Matched M Nothing wrote tt tt t u (record old { failed = true }) now Turn.Went = record {
+        let m : MatchStep M Nothing wrote tt tt t u (record old { failed = true }) now Turn.Went = record {
           mid = mid;
           took = record {
             got = got;
@@ -394,29 +394,29 @@ module _ (M : Machine) (laws : MachineLaws M) (text : List ℕ) (bytes : IsText 
             takes = takes;
           };
         } in
-        let stands : Stands M (suc n) (given ++ got) (before ++ did.out) (record now { failed = false }) = Go.matched_stands M laws Nothing wrote tt tt t u n given before old now Turn.Went refl h m b.going in
-        let stands' : Stands M (suc n) (given ++ got) (before ++ did.out) v = record {
+        let invariant : TurnInvariant M (suc n) (given ++ got) (before ++ did.out) (record now { failed = false }) = Go.matched_stands M laws Nothing wrote tt tt t u n given before old now Turn.Went refl h m b.going in
+        let stands' : TurnInvariant M (suc n) (given ++ got) (before ++ did.out) v = record {
           works = works;
-          start = stands.start;
-          scanned = stands.scanned;
-          text = stands.text;
-          covered = stands.covered;
-          held = stands.held;
-          line = stands.line;
-          taken = stands.taken;
+          start = invariant.start;
+          scanned = invariant.scanned;
+          text = invariant.text;
+          covered = invariant.covered;
+          held = invariant.held;
+          line = invariant.line;
+          taken = invariant.taken;
         } in
-        subst (λ l. Stands M (suc n) (given ++ got) (before ++ written_by longest.gist l) v) said_here stands'
+        subst (λ l. TurnInvariant M (suc n) (given ++ got) (before ++ written_by longest.gist l) v) said_here stands'
       where
         last_byte : nat_eq (get_or (take longest.keep (drop c text)) (0 + longest.keep - 1) 0) 10 ≡ nat_eq (get_or w (0 + longest.keep - 1) 0) 10
         last_byte = ap (λ l. nat_eq (get_or l (0 + longest.keep - 1) 0) 10) (sym (front_here longest.keep keeps_some.1)) ∙ ap (λ b. nat_eq b 10) (get_or-take longest.keep w (0 + longest.keep - 1) 0 (omega (arith, keeps_some.0)))
 
     -- the sink failed in it
-    pub broke : (front : List ℕ) → BeginsWith (written_by longest.gist (take longest.keep (drop c text))) front → wrote t front u → (n taken : ℕ) (given before : List ℕ) → AllStand M n given before (drop c (take far text)) taken condition line stack →
-        (v : State) → Between v (drop c (take beyond text)) (taken + (beyond - far)) condition line stack → v.failed ≡ true → Fell M n given (drop far (take beyond text)) (before ++ front) v Write
+    pub broke : (front : List ℕ) → BeginsWith (written_by longest.gist (take longest.keep (drop c text))) front → wrote t front u → (n taken : ℕ) (given before : List ℕ) → AllInvariant M n given before (drop c (take far text)) taken condition line stack →
+        (v : State) → Between v (drop c (take beyond text)) (taken + (beyond - far)) condition line stack → v.failed ≡ true → AfterRefusal M n given (drop far (take beyond text)) (before ++ front) v Write
     broke front begins put n taken given before all v b bad =
         let few : taken + 0 ≤ v.reading.max_reads = let all = v.reading.few_reads in omega (arith, all, b.taken_is) in
         let old : State = was v taken few in
-        let h : Stands M n given before old = all old (record { bytes_are = refl; taken_is = refl; at_end = refl; at = refl; line_is = refl; condition_is = refl; stack_is = refl; going = refl }) refl in
+        let h : TurnInvariant M n given before old = all old (record { bytes_are = refl; taken_is = refl; at_end = refl; at = refl; line_is = refl; condition_is = refl; stack_is = refl; going = refl }) refl in
         let size = grown_by text c far beyond le far_beyond inside_beyond in
         let looked : Looked M p old.reading v.reading (path_of M p v.reading.window.bytes way.count) = record {
           reach = way.count;
@@ -431,7 +431,7 @@ module _ (M : Machine) (laws : MachineLaws M) (text : List ℕ) (bytes : IsText 
           sink = put;
           front = subst (λ z. (before : List ℕ) (o : Scan.Acting) → outcome M z 0 (matches_of M z 0 (path_of M p z way.count)) before cs ≡ Some o → BeginsWith o.written (before ++ front)) (sym b.bytes_are) (cut front begins put);
         } in
-        let m : Refused M Nothing wrote tt tt t u (record old { failed = true }) v Write = record {
+        let m : RefusedStep M Nothing wrote tt tt t u (record old { failed = true }) v Write = record {
           took = record {
             got = got;
             source = tt;
@@ -447,7 +447,7 @@ module _ (M : Machine) (laws : MachineLaws M) (text : List ℕ) (bytes : IsText 
           early = λ early. absurd (early.0 refl);
           fault = λ e. absurd (not_stack e);
         } in
-        Fall.fell M laws Nothing wrote tt tt t u n given before old v Write refl h m bad (λ e. absurd (not_many e)) short.out
+        Fall.refusal M laws Nothing wrote tt tt t u n given before old v Write refl h m bad (λ e. absurd (not_many e)) short.out
         (Fall.match_front M laws Nothing wrote tt tt t u n given before old v Write refl h m (path_of M p v.reading.window.bytes way.count) looked short)
         (Fall.match_within M laws Nothing wrote tt tt t u n given before old v Write refl h m (path_of M p v.reading.window.bytes way.count) looked)
         (Fall.match_end M laws Nothing wrote tt tt t u n given before old v Write refl h m (path_of M p v.reading.window.bytes way.count) looked) (λ e. absurd (not_stack e)) (λ early. absurd (early.0 refl))
@@ -466,10 +466,10 @@ went_none M wrote t text held condition line inside none = record {
   sink = none;
   stand = λ n given before taken stack all v b works.
       let nothing : drop held (take held text) ≡ [] = drop_all held (take held text) (omega (arith, length-take-le held text inside)) in
-      subst (λ l. Stands M (0 + n) (given ++ l) (before ++ []) v) (sym nothing)
-      (subst (λ l. Stands M (0 + n) l (before ++ []) v) (sym (append-nil given))
-      (subst (λ l. Stands M (0 + n) given l v) (sym (append-nil before))
-      (subst (λ k. Stands M k given before v) (omega arith)
+      subst (λ l. TurnInvariant M (0 + n) (given ++ l) (before ++ []) v) (sym nothing)
+      (subst (λ l. TurnInvariant M (0 + n) l (before ++ []) v) (sym (append-nil given))
+      (subst (λ l. TurnInvariant M (0 + n) given l v) (sym (append-nil before))
+      (subst (λ k. TurnInvariant M k given before v) (omega arith)
       (all v (record {
         bytes_are = b.bytes_are;
         taken_is = b.taken_is ∙ omega arith;
@@ -483,7 +483,7 @@ went_none M wrote t text held condition line inside none = record {
 }
 
 module _ (M : Machine) (laws : MachineLaws M) (text : List ℕ) (bytes : IsText text) (held condition0 : ℕ) (line0 : Bool) (c far condition : ℕ) (line : Bool) (way : Way) (longest : GlancedMatch) (first : held ≤ far) (le : c ≤ far) (inside : far ≤ length text)
-    (leads : Leads M (M.start condition line) (drop c text) way) (tells : Tells M (M.start condition line) (drop c text) way.count longest) (is : names_rule longest.gist ≡ true)
+    (leads : Leads M (M.start condition line) (drop c text) way) (tells : IsGlancedMatch M (M.start condition line) (drop c text) way.count longest) (is : names_rule longest.gist ≡ true)
     {K : Type 0} (wrote : K → List ℕ → K → Type 0) (none : (s : K) → wrote s [] s) (join : (s t u : K) (xs ys : List ℕ) → wrote s xs t → wrote t ys u → wrote s (xs ++ ys) u) (s t u : K) (went : TurnsMade M wrote s t text held condition0 line0 c far condition line) where
   abbrev next : ℕ
   next = max far (c + way.count)
@@ -512,13 +512,13 @@ module _ (M : Machine) (laws : MachineLaws M) (text : List ℕ) (bytes : IsText 
           stack_is = b.stack_is;
           going = b.going;
         }) works in
-        subst (λ k. Stands M k (given ++ drop held (take next text)) (before ++ (went.out ++ written_by longest.gist (take longest.keep (drop c text)))) v) (omega arith)
-        (subst (λ l. Stands M (suc (went.turns + n)) l (before ++ (went.out ++ written_by longest.gist (take longest.keep (drop c text)))) v) (all_given given)
-        (subst (λ l. Stands M (suc (went.turns + n)) ((given ++ drop held (take far text)) ++ drop far (take next text)) l v) (append_assoc before went.out (written_by longest.gist (take longest.keep (drop c text)))) h));
+        subst (λ k. TurnInvariant M k (given ++ drop held (take next text)) (before ++ (went.out ++ written_by longest.gist (take longest.keep (drop c text)))) v) (omega arith)
+        (subst (λ l. TurnInvariant M (suc (went.turns + n)) l (before ++ (went.out ++ written_by longest.gist (take longest.keep (drop c text)))) v) (all_given given)
+        (subst (λ l. TurnInvariant M (suc (went.turns + n)) ((given ++ drop held (take far text)) ++ drop far (take next text)) l v) (append_assoc before went.out (written_by longest.gist (take longest.keep (drop c text)))) h));
   }
 
   -- the sink failed in it
-  pub broke_then : (front : List ℕ) → BeginsWith (written_by longest.gist (take longest.keep (drop c text))) front → wrote t front u → Broke M wrote s u text held condition0 line0 c next condition line
+  pub broke_then : (front : List ℕ) → BeginsWith (written_by longest.gist (take longest.keep (drop c text))) front → wrote t front u → BurstStopped M wrote s u text held condition0 line0 c next condition line
   broke_then front begins put = record {
     turns = went.turns;
     out = went.out ++ front;
@@ -526,8 +526,8 @@ module _ (M : Machine) (laws : MachineLaws M) (text : List ℕ) (bytes : IsText 
     before = far;
     few = first;
     more = far_beyond M laws text bytes c far condition line way longest le inside leads tells is;
-    fell = λ n given before taken stack all v b bad.
-        subst (λ l. Fell M (went.turns + n) (given ++ drop held (take far text)) (drop far (take next text)) l v Write) (append_assoc before went.out front)
+    refusal = λ n given before taken stack all v b bad.
+        subst (λ l. AfterRefusal M (went.turns + n) (given ++ drop held (take far text)) (drop far (take next text)) l v Write) (append_assoc before went.out front)
         (broke M laws text bytes c far condition line way longest le inside leads tells is wrote none join t u stack front begins put (went.turns + n) (taken + (far - held)) (given ++ drop held (take far text)) (before ++ went.out)
         (went.stand n given before taken stack all) v (record {
           bytes_are = b.bytes_are;

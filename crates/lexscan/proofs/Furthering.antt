@@ -9,12 +9,12 @@ use Rattle.lex_semantics.proofs.Texts.{take_past}
 use Rattle.lexscan_window.specs.declared.state.State.{State}
 use Rattle.lexscan_window.specs.declared.error.RunError.TheVariants.{Write}
 use Rattle.lexscan_matching.specs.Descends.{ending_of}
-use Rattle.lexscan.specs.Stands.{state_of, Stands, Fell}
-use Rattle.lexscan.specs.Bursts.{Between, AllStand, TurnsMade, Broke}
+use Rattle.lexscan.specs.TurnInvariants.{state_of, TurnInvariant, AfterRefusal}
+use Rattle.lexscan.specs.Bursts.{Between, AllInvariant, TurnsMade, BurstStopped}
 
 -- what is known of a state is known of each that stands as it does
-pub stands_all : (M : Machine) (n : ℕ) (given out : List ℕ) (old : State) (bytes : List ℕ) → old.reading.window.bytes ≡ bytes → old.reading.at_end ≡ false → old.place.at ≡ 0 → old.ended ≡ None → Stands M n given out old →
-    AllStand M n given out bytes old.reading.taken old.place.condition old.place.line_start old.acting.stack
+pub stands_all : (M : Machine) (n : ℕ) (given out : List ℕ) (old : State) (bytes : List ℕ) → old.reading.window.bytes ≡ bytes → old.reading.at_end ≡ false → old.place.at ≡ 0 → old.ended ≡ None → TurnInvariant M n given out old →
+    AllInvariant M n given out bytes old.reading.taken old.place.condition old.place.line_start old.acting.stack
 stands_all M n given out old bytes held reading at going h v b works = record {
   works = works;
   start = h.start;
@@ -55,8 +55,8 @@ accepted text held bytes ahead given ready h shown asked done size is few high e
     ap (λ l. drop done (l ++ take (asked - h) ahead)) e ∙ ap (λ l. drop done (held ++ take (asked - h) l)) (f ∙ ap (take shown) g) ∙ ap (λ l. drop done (held ++ l)) (take-take (asked - h) shown ready (omega (arith, all, size, high)))
 
 -- nothing was done
-pub no_further : (M : Machine) (n : ℕ) (given out : List ℕ) (s : State) → Stands M n given out s → Stands M (0 + n) (given ++ []) (out ++ []) s
-no_further M n given out s h = subst (λ l. Stands M (0 + n) l (out ++ []) s) (sym (append-nil given)) (subst (λ l. Stands M (0 + n) given l s) (sym (append-nil out)) (subst (λ k. Stands M k given out s) (omega arith) h))
+pub no_further : (M : Machine) (n : ℕ) (given out : List ℕ) (s : State) → TurnInvariant M n given out s → TurnInvariant M (0 + n) (given ++ []) (out ++ []) s
+no_further M n given out s h = subst (λ l. TurnInvariant M (0 + n) l (out ++ []) s) (sym (append-nil given)) (subst (λ l. TurnInvariant M (0 + n) given l s) (sym (append-nil out)) (subst (λ k. TurnInvariant M k given out s) (omega arith) h))
 
 -- the turns of a burst, over a state and the one after it
 module _ (M : Machine) (old new : State) (text ready : List ℕ) (h shown asked done condition : ℕ) (line : Bool) (size : h ≡ length old.reading.window.bytes) (is : text ≡ old.reading.window.bytes ++ take shown ready) (few : shown ≤ length ready)
@@ -90,12 +90,12 @@ module _ (M : Machine) (old new : State) (text ready : List ℕ) (h shown asked 
     going = goes;
   }
 
-  pub went_further : (went : TurnsMade M wrote t u text h old.place.condition old.place.line_start done asked condition line) → new.failed ≡ false → (n : ℕ) (given out : List ℕ) → Stands M n given out old →
-      Stands M (went.turns + n) (given ++ take (asked - h) ready) (out ++ went.out) new
-  went_further went works n given out stands =
-      subst (λ l. Stands M (went.turns + n) (given ++ l) (out ++ went.out) new) given_is
-      (went.stand n given out old.reading.taken old.acting.stack (stands_all M n given out old (take h text) first_held reading begins going stands) new between works)
+  pub went_further : (went : TurnsMade M wrote t u text h old.place.condition old.place.line_start done asked condition line) → new.failed ≡ false → (n : ℕ) (given out : List ℕ) → TurnInvariant M n given out old →
+      TurnInvariant M (went.turns + n) (given ++ take (asked - h) ready) (out ++ went.out) new
+  went_further went works n given out invariant =
+      subst (λ l. TurnInvariant M (went.turns + n) (given ++ l) (out ++ went.out) new) given_is
+      (went.stand n given out old.reading.taken old.acting.stack (stands_all M n given out old (take h text) first_held reading begins going invariant) new between works)
 
-  pub broke_further : (broke : Broke M wrote t u text h old.place.condition old.place.line_start done asked condition line) → new.failed ≡ true → (n : ℕ) (given out : List ℕ) → Stands M n given out old →
-      Fell M (broke.turns + n) (given ++ drop h (take broke.before text)) (drop broke.before (take asked text)) (out ++ broke.out) new Write
-  broke_further broke bad n given out stands = broke.fell n given out old.reading.taken old.acting.stack (stands_all M n given out old (take h text) first_held reading begins going stands) new between bad
+  pub broke_further : (broke : BurstStopped M wrote t u text h old.place.condition old.place.line_start done asked condition line) → new.failed ≡ true → (n : ℕ) (given out : List ℕ) → TurnInvariant M n given out old →
+      AfterRefusal M (broke.turns + n) (given ++ drop h (take broke.before text)) (drop broke.before (take asked text)) (out ++ broke.out) new Write
+  broke_further broke bad n given out invariant = broke.refusal n given out old.reading.taken old.acting.stack (stands_all M n given out old (take h text) first_held reading begins going invariant) new between bad

@@ -19,8 +19,8 @@ use Rattle.lexscan_window.specs.declared.error.RunError.TheVariants.{TooManyRead
 use Rattle.lex_semantics.specs.ByteSets.{bit_of}
 use Rattle.lexscan_window.specs.Reads.{end_step}
 use Rattle.lexscan_matching.specs.Descends.{ending_of}
-use Rattle.lexscan.specs.Stands.{state_of, Stands, Fell, NoneAfterEnd, RanTo}
-use Rattle.lexscan.specs.Runs.{Running, RanInto}
+use Rattle.lexscan.specs.TurnInvariants.{state_of, TurnInvariant, AfterRefusal, NoneAfterEnd, RunCompleted}
+use Rattle.lexscan.specs.Runs.{Running, RunStopped}
 use Rattle.lexscan.specs.Bursts.{NoEarlier}
 use Rattle.lexscan.proofs.Refusing.{earlier, just_these}
 
@@ -32,12 +32,12 @@ start_of s = s.reading.taken - length s.reading.window.bytes
 abbrev pub left_over : ℕ → State → ℕ
 left_over m s = (m - start_of s) * (m + 1) + (m - (start_of s + s.place.at))
 
-start_is : (M : Machine) (n : ℕ) (given out : List ℕ) (s : State) (h : Stands M n given out s) → start_of s ≡ h.start
+start_is : (M : Machine) (n : ℕ) (given out : List ℕ) (s : State) (h : TurnInvariant M n given out s) → start_of s ≡ h.start
 start_is M n given out s h =
     let size : length s.reading.window.bytes ≡ length given - h.start = ap length h.held ∙ length-drop h.start given in
     omega (arith, size, h.taken, h.covered)
 
-pub turn_falls : (M : Machine) (laws : MachineLaws M) (m n : ℕ) (given got out wrote : List ℕ) (old new : State) → (h : Stands M n given out old) → (k : Stands M (suc n) (given ++ got) (out ++ wrote) new) → NoneAfterEnd old new got → new.ended ≡ None →
+pub turn_falls : (M : Machine) (laws : MachineLaws M) (m n : ℕ) (given got out wrote : List ℕ) (old new : State) → (h : TurnInvariant M n given out old) → (k : TurnInvariant M (suc n) (given ++ got) (out ++ wrote) new) → NoneAfterEnd old new got → new.ended ≡ None →
     old.reading.taken ≤ m → new.reading.taken ≤ m → left_over m new < left_over m old
 turn_falls M laws m n given got out wrote old new h k none going few few' =
     let g : List ℕ = given ++ got in
@@ -69,27 +69,27 @@ answered_once false false h = refl
 -- one turn more
 pub running_on : {S K : Type 0} (M : Machine) (gave : S → List ℕ → S → Type 0) (wrote : K → List ℕ → K → Type 0) (r s s' : S) (t u u' : K) (old new : State) (got put : List ℕ) →
     ((r s t : S) (xs ys : List ℕ) → gave r xs s → gave s ys t → gave r (xs ++ ys) t) → ((r s t : K) (xs ys : List ℕ) → wrote r xs s → wrote s ys t → wrote r (xs ++ ys) t) →
-    (h : Running M gave wrote r s t u old) → gave s got s' → wrote u put u' → Stands M (suc h.turns) (h.given ++ got) (h.out ++ put) new → Running M gave wrote r s' t u' new
+    (h : Running M gave wrote r s t u old) → gave s got s' → wrote u put u' → TurnInvariant M (suc h.turns) (h.given ++ got) (h.out ++ put) new → Running M gave wrote r s' t u' new
 running_on M gave wrote r s s' t u u' old new got put join join' h a b k = record {
   turns = suc h.turns;
   given = h.given ++ got;
   out = h.out ++ put;
   source = join r s s' h.given got h.source a;
   sink = join' t u u' h.out put h.sink b;
-  stands = k;
+  invariant = k;
 }
 
 -- several turns more
 pub running_further : {S K : Type 0} (M : Machine) (gave : S → List ℕ → S → Type 0) (wrote : K → List ℕ → K → Type 0) (r s s' : S) (t u u' : K) (old new : State) (turns : ℕ) (got put : List ℕ) →
     ((r s t : S) (xs ys : List ℕ) → gave r xs s → gave s ys t → gave r (xs ++ ys) t) → ((r s t : K) (xs ys : List ℕ) → wrote r xs s → wrote s ys t → wrote r (xs ++ ys) t) →
-    (h : Running M gave wrote r s t u old) → gave s got s' → wrote u put u' → Stands M (turns + h.turns) (h.given ++ got) (h.out ++ put) new → Running M gave wrote r s' t u' new
+    (h : Running M gave wrote r s t u old) → gave s got s' → wrote u put u' → TurnInvariant M (turns + h.turns) (h.given ++ got) (h.out ++ put) new → Running M gave wrote r s' t u' new
 running_further M gave wrote r s s' t u u' old new turns got put join join' h a b k = record {
   turns = turns + h.turns;
   given = h.given ++ got;
   out = h.out ++ put;
   source = join r s s' h.given got h.source a;
   sink = join' t u u' h.out put h.sink b;
-  stands = k;
+  invariant = k;
 }
 
 -- what does not start earlier has no more left
@@ -106,11 +106,11 @@ few_made given s m fault e e' f f' f'' taken ends more before few most =
     omega (arith, taken, ended, more, before, few, most)
 
 -- at the end
-pub ran_to : (M : Machine) (n status e e' : ℕ) (given out : List ℕ) (s : State) → e' ≡ e + end_step false s.reading.at_end → s.ended ≡ Some status → Stands M n given out s → RanTo (rules_of_machine M) given out (nat_lt e e') (Status status)
+pub ran_to : (M : Machine) (n status e e' : ℕ) (given out : List ℕ) (s : State) → e' ≡ e + end_step false s.reading.at_end → s.ended ≡ Some status → TurnInvariant M n given out s → RunCompleted (rules_of_machine M) given out (nat_lt e e') (Status status)
 ran_to M n status e e' given out s ends over h =
     let told : nat_lt e e' ≡ s.reading.at_end = answered e e' s.reading.at_end ends in
     let ended : (state_of out h.start s).ended ≡ Some (Status status) = ap ending_of over in
-    subst (λ b. RanTo (rules_of_machine M) given out b (Status status)) (sym told) (record {
+    subst (λ b. RunCompleted (rules_of_machine M) given out b (Status status)) (sym told) (record {
       text = h.text;
       turns = n;
       place = (state_of out h.start s).place;
@@ -118,15 +118,15 @@ ran_to M n status e e' given out s ends over h =
     })
 
 -- at a refusal
-pub ran_into : (M : Machine) (n e e' m : ℕ) (given got out : List ℕ) (s : State) (error : RunError) → e' ≡ e + end_step false s.reading.at_end → (error ≡ TooManyReads → (s.reading.taken ≡ m) × (s.reading.at_end ≡ false)) → Fell M n given got out s error → RanInto (rules_of_machine M) (given ++ got) out (nat_lt e e') m error
+pub ran_into : (M : Machine) (n e e' m : ℕ) (given got out : List ℕ) (s : State) (error : RunError) → e' ≡ e + end_step false s.reading.at_end → (error ≡ TooManyReads → (s.reading.taken ≡ m) × (s.reading.at_end ≡ false)) → AfterRefusal M n given got out s error → RunStopped (rules_of_machine M) (given ++ got) out (nat_lt e e') m error
 ran_into M n e e' m given got out s error ends many h =
     let told : nat_lt e e' ≡ s.reading.at_end = answered e e' s.reading.at_end ends in
-    subst (λ b. RanInto (rules_of_machine M) (given ++ got) out b m error) (sym told) (record {
+    subst (λ b. RunStopped (rules_of_machine M) (given ++ got) out b m error) (sym told) (record {
       turns = n;
       had = given;
       got = got;
       all = refl;
-      gave_up = h.gave_up;
+      refused_turn = h.refused_turn;
       too_many = λ is. (let all = many is in (sym h.taken ∙ all.0, all.1));
       fault = h.fault;
     })

@@ -16,7 +16,7 @@ use Rattle.lexscan_window.specs.declared.act.Finish.{Finish}
 use Rattle.lexscan_window.specs.Acts.{finish_of}
 use Rattle.lexscan_matching.specs.Descends.{conditions_at, matches_of, finished_of, CutAll, Faulted, Performed, Takes}
 use Rattle.lexscan_window.specs.Ends.{IsEarly}
-use Rattle.lexscan.specs.Moves.{Left, Says, EndLeft, EndsScan, EndsTurn, MatchLeft, Moved}
+use Rattle.lexscan.specs.TurnSteps.{AtNextPlace, TellsEnd, EndLeft, EndsScan, EndsTurn, MatchLeft, TurnStep}
 use Rattle.lexscan_matching.proofs.Descending.{performed_flushed, performed_cut}
 
 not_early : (e : RunError) → (e ≡ Write) ⊎ (e ≡ Stack) → IsEarly e → ⊥
@@ -29,7 +29,7 @@ module _ {S K : Type 0} (M : Machine) (gave : S → List ℕ → S → Type 0) (
 
   -- a match and its action
   pub matched_moved : (fails : K → ℕ) (live : Bool) (path : List ℕ) (result : Result Turn RunError) → Looked M old.place old.reading mid path →
-      MatchLeft M wrote fails t t' live (record old { reading = mid }) new path result → Moved M gave wrote s s' t t' old new result
+      MatchLeft M wrote fails t t' live (record old { reading = mid }) new path result → TurnStep M gave wrote s s' t t' old new result
   matched_moved fails live path (Ok turn) looked left = inl (record { mid = mid; took = took; path = path; looked = looked; acted = left.acted })
   matched_moved fails live path (Err e) looked left =
       let same = left.unchanged in
@@ -52,7 +52,7 @@ module _ {S K : Type 0} (M : Machine) (gave : S → List ℕ → S → Type 0) (
 
   -- the end action
   pub finished_moved : (result : Result Turn RunError) → LookedAtEnd old.place old.reading mid → Appended (λ xs. wrote t xs t') (M.ending old.place.condition).print result →
-      IfOk result (λ turn. EndLeft M mid old.place (conditions_at old) new turn) → IfErr result (λ e. e ≡ Write) → OnErr result (new ≡ record old { reading = mid }) → Moved M gave wrote s s' t t' old new result
+      IfOk result (λ turn. EndLeft M mid old.place (conditions_at old) new turn) → IfErr result (λ e. e ≡ Write) → OnErr result (new ≡ record old { reading = mid }) → TurnStep M gave wrote s s' t t' old new result
   finished_moved (Ok turn) looked put left write same = inr (record { mid = mid; took = took; looked = looked; sink = put; left = left })
   finished_moved (Err e) looked put left write same =
       let back : mid ≡ new.reading = sym (ap (λ (z : State). z.reading) same) in
@@ -104,7 +104,7 @@ module _ {K : Type 0} (M : Machine) (wrote : K → List ℕ → K → Type 0) (f
 
   -- its action was carried out, and the scan goes on
   match_done : (a : ActionState) (new : State) → Performed M wrote t t' old.reading.window.bytes old.place.at (matches_of M old.reading.window.bytes old.place.at path) (conditions_at old) a None → a.end ≤ length old.reading.window.bytes →
-      fails t' ≡ fails t + 0 → live ≡ true → Left old.reading.window.bytes a false new → new.reading.taken ≡ old.reading.taken → new.reading.at_end ≡ old.reading.at_end → new.reading.max_reads ≡ old.reading.max_reads →
+      fails t' ≡ fails t + 0 → live ≡ true → AtNextPlace old.reading.window.bytes a false new → new.reading.taken ≡ old.reading.taken → new.reading.at_end ≡ old.reading.at_end → new.reading.max_reads ≡ old.reading.max_reads →
       new.ended ≡ old.ended → new.failed ≡ old.failed → (r : Option MatchedRule) → new.matched ≡ r → Takes M old.reading.window.bytes old.place.at (matches_of M old.reading.window.bytes old.place.at path) (conditions_at old) r →
       MatchLeft M wrote fails t t' live old new path (Ok Turn.Went)
   match_done a new h inside faults may left taken at_end max_reads ended failed r is takes = record {
@@ -148,7 +148,7 @@ module _ {K : Type 0} (M : Machine) (wrote : K → List ℕ → K → Type 0) (f
               (performed_flushed M wrote t u t' old.reading.window.bytes old.place.at (matches_of M old.reading.window.bytes old.place.at path) (conditions_at old) a (Some (finish_of finish)) join h ends.sink);
           inside = inside;
           left = by.left;
-          says = subst (λ z. Says z (Some by.status)) (sym by.says) refl;
+          says = subst (λ z. TellsEnd z (Some by.status)) (sym by.says) refl;
           same = record { taken = by.same.taken; at_end = by.same.at_end };
           is_ended = λ x p. by.ended ∙ p;
           takes = subst (λ z. Takes M old.reading.window.bytes old.place.at (matches_of M old.reading.window.bytes old.place.at path) (conditions_at old) z) (sym by.matched) takes;

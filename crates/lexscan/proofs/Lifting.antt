@@ -13,7 +13,7 @@ use Rattle.lex_semantics.proofs.Texts.{line_start_front}
 use Rattle.lex_semantics.proofs.Wanted.{WantsMore}
 use Rattle.lexscan_window.specs.declared.state.Reading.{Reading}
 use Rattle.lexscan_window.specs.declared.state.TextPlace.{TextPlace}
-use Rattle.lexscan_matching.specs.Looks.{SoFar, GoesOnAfter, Wants}
+use Rattle.lexscan_matching.specs.Looks.{SoFar, IsLiveAfter, Wants}
 use Rattle.lexscan_matching.specs.Descends.{outcome, matches_of}
 use Rattle.lexscan.proofs.Outcomes.{seen_matches, all_seen, seen_outcome}
 
@@ -35,11 +35,11 @@ module _ (M : Machine) (laws : MachineLaws M) (given got : List ℕ) (start : �
   pub input_size : length (given ++ got) ≡ length given + length got
   input_size = length-append given got
 
-  to_input : (i : ℕ) → GoesOnAfter M p (drop p.at w) i → M.goes_on (state_after M p.condition (at_line_start (given ++ got) (start + p.at)) (take i (drop (start + p.at) (given ++ got)))) ≡ true
+  to_input : (i : ℕ) → IsLiveAfter M p (drop p.at w) i → M.goes_on (state_after M p.condition (at_line_start (given ++ got) (start + p.at)) (take i (drop (start + p.at) (given ++ got)))) ≡ true
   to_input i k = subst (λ b. M.goes_on (state_after M p.condition b (take i (drop (start + p.at) (given ++ got)))) ≡ true) (sym line_is)
       (subst (λ z. M.goes_on (state_after M p.condition p.line_start (take i z)) ≡ true) (sym from_here) k)
 
-  from_input : (i : ℕ) → M.goes_on (state_after M p.condition (at_line_start (given ++ got) (start + p.at)) (take i (drop (start + p.at) (given ++ got)))) ≡ true → GoesOnAfter M p (drop p.at w) i
+  from_input : (i : ℕ) → M.goes_on (state_after M p.condition (at_line_start (given ++ got) (start + p.at)) (take i (drop (start + p.at) (given ++ got)))) ≡ true → IsLiveAfter M p (drop p.at w) i
   from_input i k =
       subst (λ z. M.goes_on (state_after M p.condition p.line_start (take i z)) ≡ true) from_here
       (subst (λ b. M.goes_on (state_after M p.condition b (take i (drop (start + p.at) (given ++ got)))) ≡ true) line_is k)
@@ -50,7 +50,7 @@ module _ (M : Machine) (laws : MachineLaws M) (given got : List ℕ) (start : �
     where
       asks : (i : ℕ) → start + p.at + i ≤ length (given ++ got) → AsksAt (rules_of_machine M) (given ++ got) (record { start = start; at = start + p.at; condition = p.condition; stack = cs }) i
       asks zero le = inl refl
-      asks (suc i) le = inr (to_input (suc i) (subst (λ z. GoesOnAfter M p (drop p.at z) (suc i)) same (h.asked (suc i) (omega arith) (omega (arith, le, window_size, ap length same)))))
+      asks (suc i) le = inr (to_input (suc i) (subst (λ z. IsLiveAfter M p (drop p.at z) (suc i)) same (h.asked (suc i) (omega arith) (omega (arith, le, window_size, ap length same)))))
 
   -- what a match has seen
   module _ (reach state : ℕ) (path : List ℕ) (some : 1 ≤ reach) (h : SoFar M p (drop p.at w) reach state path) where

@@ -2,7 +2,7 @@
 use Rattle.std.proofs.Common.{◌≡◌, ℕ, zero, suc, ◌≤◌, ◌<◌, List, [], ◌∷◌, ◌++◌, length, drop, ap, ◌∙◌, sym, subst, arith}
 use Rattle.std.proofs.Math.Seq.{drop-append_seam}
 use Rattle.std.specs.Prelude.{slice_index_or}
-use Rattle.lexscan.specs.declared.tokens.listing.Token.{Token}
+use Rattle.lexscan.specs.declared.token.Token.{Token}
 use Rattle.lexscan.specs.Tokens.{LieIn}
 
 -- one of them

@@ -10,9 +10,9 @@ use Rattle.lexscan_window.specs.declared.error.RunError.TheVariants.{Read, TooMa
 use Rattle.lexscan_matching.specs.Descends.{conditions_at, matches_of, CutAll}
 use Rattle.lexscan_window.specs.Ends.{IsEarly}
 use Rattle.lexscan_matching.specs.Looks.{Wants, Unmet}
-use Rattle.lexscan.specs.Moves.{Matched, Finished, Refused, Why, StackFaulted, Says, Moved}
-use Rattle.lexscan.specs.Stands.{Stands, MakesTurn}
-use Rattle.lexscan.specs.Turns.{MoveLeft}
+use Rattle.lexscan.specs.TurnSteps.{MatchStep, EndStep, RefusedStep, RefusalCause, StackFaulted, TellsEnd, TurnStep}
+use Rattle.lexscan.specs.TurnInvariants.{TurnInvariant, MakesTurn}
+use Rattle.lexscan.specs.Turns.{StepLeft}
 use Rattle.lexscan_matching.proofs.Descending.{performed_front}
 use Rattle.lexscan.proofs.Refusing as Fall
 use Rattle.lexscan.proofs.Stepping as Go
@@ -35,17 +35,17 @@ is_early Write = inr (λ early. early.0 refl)
 is_early Stack = inr (λ early. early.1 refl)
 
 module _ {S K : Type 0} (M : Machine) (laws : MachineLaws M) (gave : S → List ℕ → S → Type 0) (wrote : K → List ℕ → K → Type 0) (s s' : S) (t t' : K) (source_live sink_live : Bool) (old : State) where
-  pub turn_made : (new : State) (turn : Turn) → old.failed ≡ false → old.ended ≡ None → Moved M gave wrote s s' t t' old new (Ok turn) → MoveLeft M source_live sink_live old new (Ok turn) → MakesTurn M gave wrote s s' t t' old new (Ok turn)
-  turn_made new turn works going moved left = from moved
+  pub turn_made : (new : State) (turn : Turn) → old.failed ≡ false → old.ended ≡ None → TurnStep M gave wrote s s' t t' old new (Ok turn) → StepLeft M source_live sink_live old new (Ok turn) → MakesTurn M gave wrote s s' t t' old new (Ok turn)
+  turn_made new turn works going turn_step left = from turn_step
     where
       failed : new.failed ≡ false
       failed = left.failed ∙ works
 
-      working : (n : ℕ) (given out : List ℕ) → Stands M n given out (record new { failed = false }) → Stands M n given out new
-      working n given out h = subst (λ f. Stands M n given out (record new { failed = f })) (sym failed) h
+      working : (n : ℕ) (given out : List ℕ) → TurnInvariant M n given out (record new { failed = false }) → TurnInvariant M n given out new
+      working n given out h = subst (λ f. TurnInvariant M n given out (record new { failed = f })) (sym failed) h
 
-      from : Matched M gave wrote s s' t t' old new turn
-          ⊎ Finished M gave wrote s s' t t' old new turn →
+      from : MatchStep M gave wrote s s' t t' old new turn
+          ⊎ EndStep M gave wrote s s' t t' old new turn →
           MakesTurn M gave wrote s s' t t' old new (Ok turn)
       from (inl m) =
           let ended : new.ended ≡ m.acted.ended = Go.ended_is m.acted.ended turn new.ended m.acted.says m.acted.is_ended (λ e. left.ended (ap Ok e) ∙ going) in (
@@ -55,7 +55,7 @@ module _ {S K : Type 0} (M : Machine) (laws : MachineLaws M) (gave : S → List 
             m.acted.performed.sink,
             λ e. (m.took.nothing e, m.acted.same.at_end ∙ m.took.end_stays e),
             (
-              subst (Says turn) (sym ended) m.acted.says,
+              subst (TellsEnd turn) (sym ended) m.acted.says,
               λ n given out h. working (suc n) (given ++ m.took.got) (out ++ m.acted.performed.out)
                   (Go.matched_stands M laws gave wrote _ _ _ _ n given out old new turn going h (record { mid = m.mid; took = m.took; path = m.path; looked = m.looked; acted = m.acted }) ended),
               λ _ n given out h. Take.tells_working _ _ _ _ new failed (Take.match_tells M laws gave wrote _ _ _ _ n given out old new turn h (record { mid = m.mid; took = m.took; path = m.path; looked = m.looked; acted = m.acted })),
@@ -75,14 +75,14 @@ module _ {S K : Type 0} (M : Machine) (laws : MachineLaws M) (gave : S → List 
         ),
       )
 
-  pub turn_refused : (mid : State) (e : RunError) → old.ended ≡ None → Moved M gave wrote s s' t t' old mid (Err e) → MoveLeft M source_live sink_live old mid (Err e) → MakesTurn M gave wrote s s' t t' old (record mid { failed = true }) (Err e)
-  turn_refused mid e going moved left = by_fault (is_fault e)
+  pub turn_refused : (mid : State) (e : RunError) → old.ended ≡ None → TurnStep M gave wrote s s' t t' old mid (Err e) → StepLeft M source_live sink_live old mid (Err e) → MakesTurn M gave wrote s s' t t' old (record mid { failed = true }) (Err e)
+  turn_refused mid e going turn_step left = by_fault (is_fault e)
     where
       new : State
       new = record mid { failed = true }
 
-      m : Refused M gave wrote s s' t t' (record old { failed = true }) new e
-      m = (let k = moved in record { took = k.took; place = k.place; why = k.why; early = k.early; fault = k.fault })
+      m : RefusedStep M gave wrote s s' t t' (record old { failed = true }) new e
+      m = (let k = turn_step in record { took = k.took; place = k.place; why = k.why; early = k.early; fault = k.fault })
 
       wants : e ≡ TooManyReads → Wants M old.place new.reading
       wants is = (left.too_many (ap Err is)).1
@@ -96,14 +96,14 @@ module _ {S K : Type 0} (M : Machine) (laws : MachineLaws M) (gave : S → List 
         λ is. (m.took.nothing is, m.took.end_stays is),
         (
           λ _. refl,
-          λ n given out h. Fall.fell M laws gave wrote _ _ _ _ n given out old new e going h m refl wants []
+          λ n given out h. Fall.refusal M laws gave wrote _ _ _ _ n given out old new e going h m refl wants []
               (Fall.wanted_front M laws gave wrote _ _ _ _ n given out old new e going h m)
               (Fall.unmet_within M laws gave wrote _ _ _ _ n given out old new e going h m k.0)
               (Fall.unmet_end M laws gave wrote _ _ _ _ n given out old new e going h m k.0) (λ is. absurd (not is)) (λ _. refl),
         ),
       )
 
-      from : (e ≡ Stack → ⊥) → (IsEarly e → ⊥) → Why M wrote t t' (record old { failed = true }) new →
+      from : (e ≡ Stack → ⊥) → (IsEarly e → ⊥) → RefusalCause M wrote t t' (record old { failed = true }) new →
           MakesTurn M gave wrote s s' t t' old new (Err e)
       from not late (inl k) = unmet not k
       from not late (inr (inl k)) = (
@@ -114,7 +114,7 @@ module _ {S K : Type 0} (M : Machine) (laws : MachineLaws M) (gave : S → List 
         λ is. (m.took.nothing is, m.took.end_stays is),
         (
           λ early. absurd (late early),
-          λ n given out h. Fall.fell M laws gave wrote _ _ _ _ n given out old new e going h m refl wants k.2.out
+          λ n given out h. Fall.refusal M laws gave wrote _ _ _ _ n given out old new e going h m refl wants k.2.out
               (Fall.match_front M laws gave wrote _ _ _ _ n given out old new e going h m k.0 k.1 k.2)
               (Fall.match_within M laws gave wrote _ _ _ _ n given out old new e going h m k.0 k.1)
               (Fall.match_end M laws gave wrote _ _ _ _ n given out old new e going h m k.0 k.1) (λ is. absurd (not is)) (λ early. absurd (late early)),
@@ -128,7 +128,7 @@ module _ {S K : Type 0} (M : Machine) (laws : MachineLaws M) (gave : S → List 
         λ is. (m.took.nothing is, m.took.end_stays is),
         (
           λ early. absurd (late early),
-          λ n given out h. Fall.fell M laws gave wrote _ _ _ _ n given out old new e going h m refl wants k.1
+          λ n given out h. Fall.refusal M laws gave wrote _ _ _ _ n given out old new e going h m refl wants k.1
               (Fall.end_front M laws gave wrote _ _ _ _ n given out old new e going h m k.0 k.1 k.2)
               (Fall.end_within M laws gave wrote _ _ _ _ n given out old new e going h m k.0)
               (Fall.end_end M laws gave wrote _ _ _ _ n given out old new e going h m k.0) (λ is. absurd (not is)) (λ early. absurd (late early)),
@@ -150,7 +150,7 @@ module _ {S K : Type 0} (M : Machine) (laws : MachineLaws M) (gave : S → List 
             λ is. (m.took.nothing is, m.took.end_stays is),
             (
               λ early. absurd (early.1 is),
-              λ n given out h. Fall.fell M laws gave wrote _ _ _ _ n given out old new e going h m refl wants k.2.performed.out
+              λ n given out h. Fall.refusal M laws gave wrote _ _ _ _ n given out old new e going h m refl wants k.2.performed.out
                   (Fall.match_front M laws gave wrote _ _ _ _ n given out old new e going h m k.0 k.1 cut)
                   (Fall.match_within M laws gave wrote _ _ _ _ n given out old new e going h m k.0 k.1)
                   (Fall.match_end M laws gave wrote _ _ _ _ n given out old new e going h m k.0 k.1)

@@ -9,7 +9,7 @@ use Rattle.lex_semantics.specs.Text.{IsText, BeginsWith, at_line_start}
 use Rattle.lex_semantics.specs.Acting.{Ending, Status}
 use Rattle.lex_semantics.specs.Run as Scan
 use Rattle.lex_semantics.specs.Run.{Run}
-use Rattle.lex_semantics.specs.Demand.{Consistent, GoesOnFrom}
+use Rattle.lex_semantics.specs.Demand.{Consistent, ExtendsGiven}
 use Rattle.lex_semantics.specs.Scanned.{Scanned}
 use Rattle.lex_semantics.specs.Rules.{Rules}
 use Rattle.lex_semantics.specs.Machine.{Machine, walk, rules_of_machine}
@@ -22,8 +22,8 @@ use Rattle.lexscan_window.specs.declared.error.RunError.TheVariants.{TooManyRead
 use Rattle.lex_semantics.specs.ByteSets.{bit_of}
 use Rattle.lexscan_window.specs.Reads.{end_step}
 use Rattle.lexscan_matching.specs.Descends.{ending_of}
-use Rattle.lexscan.specs.Stands.{state_of, Stands, Fell, NoneAfterEnd}
-use Rattle.lexscan.specs.Pushes.{AsksForMore, Standing, MadeTurns, Pauses, Fed, RunsTo, WritesFirst, AfterFeed, AfterFinish, GoesOnOver, WalksOn, IsAsking}
+use Rattle.lexscan.specs.TurnInvariants.{state_of, TurnInvariant, AfterRefusal, NoneAfterEnd}
+use Rattle.lexscan.specs.Pushes.{AsksForMore, IsReachable, MadeTurns, Pauses, Fed, RunsTo, WritesFirst, AfterFeed, AfterFinish, WalkStaysLive, WalksOn, IsAsking}
 use Rattle.lexscan_window.specs.Waits.{GivesWaiting}
 use Rattle.lex_semantics.specs.MachineLaws.{MachineLaws}
 use Rattle.lex_semantics.proofs.MachineLaws.{walk-append}
@@ -70,30 +70,30 @@ drop_over n k xs ys is = elim (cases_lt (length xs) n) [
 ]
 
 -- A turn that asked for more than may be read is given up.
-module _ (M : Machine) (n : ℕ) (given got out out' : List ℕ) (old mid new : State) (h : Stands M n given out old) (none : NoneAfterEnd old mid got) (fell : Fell M n given got out' mid TooManyReads) (more : mid.reading.at_end ≡ false) where
+module _ (M : Machine) (n : ℕ) (given got out out' : List ℕ) (old mid new : State) (h : TurnInvariant M n given out old) (none : NoneAfterEnd old mid got) (refusal : AfterRefusal M n given got out' mid TooManyReads) (more : mid.reading.at_end ≡ false) where
   abbrev pub all : List ℕ
   all = given ++ got
 
   consistent : Consistent all mid.reading.at_end all
-  consistent = (fell.gave_up.text, just_these all mid.reading.at_end)
+  consistent = (refusal.refused_turn.text, just_these all mid.reading.at_end)
 
-  pub same_start : fell.gave_up.before.place.start ≡ h.start
+  pub same_start : refusal.refused_turn.before.place.start ≡ h.start
   same_start =
-      let b = fell.gave_up.after all consistent in
-      let a = h.scanned all (fell.gave_up.text, earlier given got old.reading.at_end mid.reading.at_end all (λ e. (none e).0) (λ e. (none e).1) consistent.1) in
-      let one : fell.gave_up.before ≡ state_of out h.start old = one_state (rules_of_machine M) all n fell.gave_up.before (state_of out h.start old) b.turns a.turns in
+      let b = refusal.refused_turn.after all consistent in
+      let a = h.scanned all (refusal.refused_turn.text, earlier given got old.reading.at_end mid.reading.at_end all (λ e. (none e).0) (λ e. (none e).1) consistent.1) in
+      let one : refusal.refused_turn.before ≡ state_of out h.start old = one_state (rules_of_machine M) all n refusal.refused_turn.before (state_of out h.start old) b.turns a.turns in
       ap (λ (s : Scan.State). s.place.start) one
 
   pub same_bytes : new.reading.window.bytes ≡ take (length old.reading.window.bytes) mid.reading.window.bytes → new.reading.window.bytes ≡ old.reading.window.bytes
   same_bytes kept =
       let w : List ℕ = old.reading.window.bytes in
-      let grown : mid.reading.window.bytes ≡ w ++ got = fell.held ∙ ap (λ k. drop k all) same_start ∙ drop-append-le h.start given got (omega (arith, h.covered)) ∙ ap (λ l. l ++ got) (sym h.held) in
+      let grown : mid.reading.window.bytes ≡ w ++ got = refusal.held ∙ ap (λ k. drop k all) same_start ∙ drop-append-le h.start given got (omega (arith, h.covered)) ∙ ap (λ l. l ++ got) (sym h.held) in
       kept ∙ ap (take (length w)) grown ∙ take-append_seam w got
 
   held_again : new.reading.window.bytes ≡ take (length old.reading.window.bytes) mid.reading.window.bytes → new.reading.window.bytes ≡ drop h.start given
   held_again kept = same_bytes kept ∙ h.held
 
-  pub stands_again : new.failed ≡ false → new.place ≡ old.place → new.acting.stack ≡ old.acting.stack → old.ended ≡ None → new.ended ≡ None → new.reading.at_end ≡ false → new.reading.window.bytes ≡ take (length old.reading.window.bytes) mid.reading.window.bytes → new.reading.taken ≡ old.reading.taken → Stands M n given out new
+  pub stands_again : new.failed ≡ false → new.place ≡ old.place → new.acting.stack ≡ old.acting.stack → old.ended ≡ None → new.ended ≡ None → new.reading.at_end ≡ false → new.reading.window.bytes ≡ take (length old.reading.window.bytes) mid.reading.window.bytes → new.reading.taken ≡ old.reading.taken → TurnInvariant M n given out new
   stands_again works place stack was going reading kept taken =
       let back : old.place ≡ new.place = sym place in
       let cs : old.acting.stack ≡ new.acting.stack = sym stack in
@@ -112,33 +112,33 @@ module _ (M : Machine) (n : ℕ) (given got out out' : List ℕ) (old mid new : 
       }
 
   pub asks_more : AsksForMore (rules_of_machine M) n all
-  asks_more = fell.gave_up.asks_end (inl refl)
+  asks_more = refusal.refused_turn.asks_end (inl refl)
 
 -- some turns, and then some more
 pub made_then : (M : Machine) (old mid new : State) (a b : ℕ) (got put got' put' : List ℕ) → MadeTurns M old mid a got put → MadeTurns M mid new b got' put' → MadeTurns M old new (b + a) (got ++ got') (put ++ put')
 made_then M old mid new a b got put got' put' first second n given out h =
     let k = second (a + n) (given ++ got) (out ++ put) (first n given out h) in
     let e : b + (a + n) ≡ (b + a) + n = omega arith in
-    subst (λ t. Stands M t (given ++ (got ++ got')) (out ++ (put ++ put')) new) e
-    (subst (λ l. Stands M (b + (a + n)) l (out ++ (put ++ put')) new) (append_assoc given got got')
-    (subst (λ l. Stands M (b + (a + n)) ((given ++ got) ++ got') l new) (append_assoc out put put') k))
+    subst (λ t. TurnInvariant M t (given ++ (got ++ got')) (out ++ (put ++ put')) new) e
+    (subst (λ l. TurnInvariant M (b + (a + n)) l (out ++ (put ++ put')) new) (append_assoc given got got')
+    (subst (λ l. TurnInvariant M (b + (a + n)) ((given ++ got) ++ got') l new) (append_assoc out put put') k))
 
-pub made_one : (M : Machine) (old new : State) (got put : List ℕ) → ((n : ℕ) (given out : List ℕ) → Stands M n given out old → Stands M (suc n) (given ++ got) (out ++ put) new) → MadeTurns M old new 1 got put
-made_one M old new got put turn n given out h = let e : suc n ≡ 1 + n = omega arith in subst (λ t. Stands M t (given ++ got) (out ++ put) new) e (turn n given out h)
+pub made_one : (M : Machine) (old new : State) (got put : List ℕ) → ((n : ℕ) (given out : List ℕ) → TurnInvariant M n given out old → TurnInvariant M (suc n) (given ++ got) (out ++ put) new) → MadeTurns M old new 1 got put
+made_one M old new got put turn n given out h = let e : suc n ≡ 1 + n = omega arith in subst (λ t. TurnInvariant M t (given ++ got) (out ++ put) new) e (turn n given out h)
 
 pub made_none : (M : Machine) (s : State) → MadeTurns M s s 0 [] []
 made_none M s n given out h = no_further M n given out s h
 
-pub standing_on : (M : Machine) (old new : State) (turns : ℕ) (got put : List ℕ) → Standing M old → MadeTurns M old new turns got put → Standing M new
-standing_on M old new turns got put stood made denied = stood (λ n given out h. denied (turns + n) (given ++ got) (out ++ put) (made n given out h))
+pub standing_on : (M : Machine) (old new : State) (turns : ℕ) (got put : List ℕ) → IsReachable M old → MadeTurns M old new turns got put → IsReachable M new
+standing_on M old new turns got put reachable made denied = reachable (λ n given out h. denied (turns + n) (given ++ got) (out ++ put) (made n given out h))
 
-pub made_working : (M : Machine) (old new : State) (turns : ℕ) (got put : List ℕ) → Standing M old → MadeTurns M old new turns got put → new.failed ≡ false
-made_working M old new turns got put stood made = certain_false new.failed (λ denied. stood (λ n given out h. denied (let k = made n given out h in k.works)))
+pub made_working : (M : Machine) (old new : State) (turns : ℕ) (got put : List ℕ) → IsReachable M old → MadeTurns M old new turns got put → new.failed ≡ false
+made_working M old new turns got put reachable made = certain_false new.failed (λ denied. reachable (λ n given out h. denied (let k = made n given out h in k.works)))
 
-pub made_taken : (M : Machine) (old new : State) (turns : ℕ) (got put : List ℕ) → Standing M old → MadeTurns M old new turns got put → new.reading.taken ≡ old.reading.taken + length got
-made_taken M old new turns got put stood made = certain_is new.reading.taken (old.reading.taken + length got) (λ denied. stood (λ n given out h. denied (taken_by n given out h)))
+pub made_taken : (M : Machine) (old new : State) (turns : ℕ) (got put : List ℕ) → IsReachable M old → MadeTurns M old new turns got put → new.reading.taken ≡ old.reading.taken + length got
+made_taken M old new turns got put reachable made = certain_is new.reading.taken (old.reading.taken + length got) (λ denied. reachable (λ n given out h. denied (taken_by n given out h)))
   where
-    taken_by : (n : ℕ) (given out : List ℕ) → Stands M n given out old → new.reading.taken ≡ old.reading.taken + length got
+    taken_by : (n : ℕ) (given out : List ℕ) → TurnInvariant M n given out old → new.reading.taken ≡ old.reading.taken + length got
     taken_by n given out h = let k = made n given out h in omega (arith, k.taken, h.taken, length-append given got)
 
 -- What the turns so far have done, over the source and the sink.
@@ -162,19 +162,19 @@ module _ {S K : Type 0} (M : Machine) (gave : S → List ℕ → S → Type 0) (
   }
 
 -- A turn after some others was refused.
-pub fell_at : (M : Machine) (old mid new : State) (e : RunError) (a : ℕ) (got put more put' : List ℕ) → MadeTurns M old mid a got put → ((n : ℕ) (given out : List ℕ) → Stands M n given out mid → Fell M n given more (out ++ put') new e) →
-    (n : ℕ) (given out : List ℕ) → Stands M n given out old → Fell M (a + n) (given ++ got) more (out ++ (put ++ put')) new e
-fell_at M old mid new e a got put more put' made fell n given out h =
-    subst (λ l. Fell M (a + n) (given ++ got) more l new e) (append_assoc out put put') (fell (a + n) (given ++ got) (out ++ put) (made n given out h))
+pub fell_at : (M : Machine) (old mid new : State) (e : RunError) (a : ℕ) (got put more put' : List ℕ) → MadeTurns M old mid a got put → ((n : ℕ) (given out : List ℕ) → TurnInvariant M n given out mid → AfterRefusal M n given more (out ++ put') new e) →
+    (n : ℕ) (given out : List ℕ) → TurnInvariant M n given out old → AfterRefusal M (a + n) (given ++ got) more (out ++ (put ++ put')) new e
+fell_at M old mid new e a got put more put' made refusal n given out h =
+    subst (λ l. AfterRefusal M (a + n) (given ++ got) more l new e) (append_assoc out put put') (refusal (a + n) (given ++ got) (out ++ put) (made n given out h))
 
-pub fell_after : (M : Machine) (old mid new : State) (e : RunError) (a b : ℕ) (got put had more put' : List ℕ) → MadeTurns M old mid a got put → ((n : ℕ) (given out : List ℕ) → Stands M n given out mid → Fell M (b + n) (given ++ had) more (out ++ put') new e) →
-    (n : ℕ) (given out : List ℕ) → Stands M n given out old → Fell M ((b + a) + n) (given ++ (got ++ had)) more (out ++ (put ++ put')) new e
-fell_after M old mid new e a b got put had more put' made fell n given out h =
-    let k = fell (a + n) (given ++ got) (out ++ put) (made n given out h) in
+pub fell_after : (M : Machine) (old mid new : State) (e : RunError) (a b : ℕ) (got put had more put' : List ℕ) → MadeTurns M old mid a got put → ((n : ℕ) (given out : List ℕ) → TurnInvariant M n given out mid → AfterRefusal M (b + n) (given ++ had) more (out ++ put') new e) →
+    (n : ℕ) (given out : List ℕ) → TurnInvariant M n given out old → AfterRefusal M ((b + a) + n) (given ++ (got ++ had)) more (out ++ (put ++ put')) new e
+fell_after M old mid new e a b got put had more put' made refusal n given out h =
+    let k = refusal (a + n) (given ++ got) (out ++ put) (made n given out h) in
     let same : b + (a + n) ≡ (b + a) + n = omega arith in
-    subst (λ t. Fell M t (given ++ (got ++ had)) more (out ++ (put ++ put')) new e) same
-    (subst (λ l. Fell M (b + (a + n)) l more (out ++ (put ++ put')) new e) (append_assoc given got had)
-    (subst (λ l. Fell M (b + (a + n)) ((given ++ got) ++ had) more l new e) (append_assoc out put put') k))
+    subst (λ t. AfterRefusal M t (given ++ (got ++ had)) more (out ++ (put ++ put')) new e) same
+    (subst (λ l. AfterRefusal M (b + (a + n)) l more (out ++ (put ++ put')) new e) (append_assoc given got had)
+    (subst (λ l. AfterRefusal M (b + (a + n)) ((given ++ got) ++ had) more l new e) (append_assoc out put put') k))
 
 -- The bytes that wait, and those of them that the source gave.
 module _ (M : Machine) (old new : State) (waiting left : List ℕ) (ends ends' : ℕ) (got : List ℕ) (gave : GivesWaiting waiting ends left ends' got) (counted : ends' ≡ ends + end_step false new.reading.at_end) (most : new.reading.max_reads ≡ old.reading.max_reads) where
@@ -194,7 +194,7 @@ module _ (M : Machine) (old new : State) (waiting left : List ℕ) (ends ends' :
           omega (arith, limit, taken, most, sizes, ap length none, one, new.reading.few_reads)
 
 -- the end of what was fed, if all of it was given
-pub consistent_end : (g rest : List ℕ) (b : Bool) → (b ≡ true → rest ≡ []) → GoesOnFrom g b (g ++ rest)
+pub consistent_end : (g rest : List ℕ) (b : Bool) → (b ≡ true → rest ≡ []) → ExtendsGiven g b (g ++ rest)
 consistent_end g rest true none = ap (λ l. g ++ l) (none refl) ∙ append-nil g
 consistent_end g rest false none = (rest, refl)
 
@@ -214,20 +214,20 @@ module _ (M : Machine) (old new : State) (waiting : List ℕ) (fed out : List �
   pub fed_on : {S : Type 0} (gave : S → List ℕ → S → Type 0) (mid s' : S) (got put left rest : List ℕ) (e e' e'' : ℕ) (kept : List ℕ) → (p : Pauses M gave mid s' old new got put) → GivesWaiting waiting e left e' got → GivesWaiting left e' rest e'' p.more →
       old.reading.max_reads ≡ old.reading.taken + length waiting → kept ≡ drop (new.reading.taken - old.reading.taken) waiting → AfterFeed M fed (out ++ put) new kept (Ok Turn.Went)
   fed_on gave mid s' got put left rest e e' e'' kept p first second limit dropped =
-      let asks = p.asks h.turns h.given out h.stands in
-      let stands = p.made h.turns h.given out h.stands in
+      let asks = p.asks h.turns h.given out h.invariant in
+      let invariant = p.made h.turns h.given out h.invariant in
       let sizes : length waiting ≡ length got + length left = ap length first.taken ∙ length-append got left in
       let sizes' : length left ≡ length p.more + length rest = ap length second.taken ∙ length-append p.more rest in
       let sizes'' : length ((h.given ++ got) ++ p.more) ≡ length (h.given ++ got) + length p.more = length-append (h.given ++ got) p.more in
       let given_size : length (h.given ++ got) ≡ length h.given + length got = length-append h.given got in
-      let none : rest ≡ [] = nil_from_length rest (omega (arith, limit, asks.1, sizes, sizes', sizes'', given_size, h.stands.taken)) in
+      let none : rest ≡ [] = nil_from_length rest (omega (arith, limit, asks.1, sizes, sizes', sizes'', given_size, h.invariant.taken)) in
       let all : left ≡ p.more = second.taken ∙ ap (λ l. p.more ++ l) none ∙ append-nil p.more in
-      let size : new.reading.taken - old.reading.taken ≡ length got = omega (arith, stands.taken, given_size, h.stands.taken) in (
+      let size : new.reading.taken - old.reading.taken ≡ length got = omega (arith, invariant.taken, given_size, h.invariant.taken) in (
         record {
           turns = p.turns + h.turns;
           given = h.given ++ got;
           left = left;
-          stands = stands;
+          invariant = invariant;
           reading = p.at_end;
           all = fed_is got left first.taken;
           waits = λ _. sym (dropped ∙ ap (λ k. drop k waiting) size ∙ ap (drop (length got)) first.taken ∙ drop-append_seam got left);
@@ -238,17 +238,17 @@ module _ (M : Machine) (old new : State) (waiting : List ℕ) (fed out : List �
 
   -- the taken bytes, by what was given
   pub taken_of : (turns : ℕ) (got put : List ℕ) → MadeTurns M old new turns got put → new.reading.taken ≡ old.reading.taken + length got
-  taken_of turns got put made = let k = made h.turns h.given out h.stands in omega (arith, k.taken, h.stands.taken, length-append h.given got)
+  taken_of turns got put made = let k = made h.turns h.given out h.invariant in omega (arith, k.taken, h.invariant.taken, length-append h.given got)
 
-  pub fallen_of : (turns : ℕ) (got put had more : List ℕ) (e : RunError) → got ≡ had ++ more → Fell M (turns + h.turns) (h.given ++ had) more (out ++ put) new e → new.reading.taken ≡ old.reading.taken + length got
-  fallen_of turns got put had more e is fell = omega (arith, fell.taken, h.stands.taken, length-append (h.given ++ had) more, length-append h.given had, length-append had more, ap length is)
+  pub fallen_of : (turns : ℕ) (got put had more : List ℕ) (e : RunError) → got ≡ had ++ more → AfterRefusal M (turns + h.turns) (h.given ++ had) more (out ++ put) new e → new.reading.taken ≡ old.reading.taken + length got
+  fallen_of turns got put had more e is refusal = omega (arith, refusal.taken, h.invariant.taken, length-append (h.given ++ had) more, length-append h.given had, length-append had more, ap length is)
 
   -- where the run goes on from all that was given
-  run_of : (turns status : ℕ) (got put : List ℕ) (b : Bool) (x : List ℕ) → MadeTurns M old new turns got put → new.ended ≡ Some status → new.reading.at_end ≡ b → IsText x → GoesOnFrom (h.given ++ got) b x → Run R x (out ++ put) (Status status)
+  run_of : (turns status : ℕ) (got put : List ℕ) (b : Bool) (x : List ℕ) → MadeTurns M old new turns got put → new.ended ≡ Some status → new.reading.at_end ≡ b → IsText x → ExtendsGiven (h.given ++ got) b x → Run R x (out ++ put) (Status status)
   run_of turns status got put b x made ended reading text goes =
-      let stands = made h.turns h.given out h.stands in
-      let last : Scan.State = state_of (out ++ put) stands.start new in
-      run_by R x (out ++ put) (Status status) (turns + h.turns) last (stands.scanned x (text, subst (λ e. GoesOnFrom (h.given ++ got) e x) (sym reading) goes)).turns refl (ap ending_of ended)
+      let invariant = made h.turns h.given out h.invariant in
+      let last : Scan.State = state_of (out ++ put) invariant.start new in
+      run_by R x (out ++ put) (Status status) (turns + h.turns) last (invariant.scanned x (text, subst (λ e. ExtendsGiven (h.given ++ got) e x) (sym reading) goes)).turns refl (ap ending_of ended)
 
   pub fed_ended : (turns status : ℕ) (got put left kept : List ℕ) → MadeTurns M old new turns got put → new.ended ≡ Some status → new.reading.at_end ≡ false → waiting ≡ got ++ left → AfterFeed M fed (out ++ put) new kept (Ok (Turn.Ended status))
   fed_ended turns status got put left kept made ended reading is = (
@@ -256,7 +256,7 @@ module _ (M : Machine) (old new : State) (waiting : List ℕ) (fed out : List �
       turns = turns + h.turns;
       given = h.given ++ got;
       left = left;
-      stands = made h.turns h.given out h.stands;
+      invariant = made h.turns h.given out h.invariant;
       reading = reading;
       all = fed_is got left is;
       waits = λ none. absurd (over (sym none ∙ ended));
@@ -272,45 +272,45 @@ module _ (M : Machine) (old new : State) (waiting : List ℕ) (fed out : List �
   all_fed : (got had more left : List ℕ) → got ≡ had ++ more → waiting ≡ got ++ left → fed ≡ ((h.given ++ had) ++ more) ++ left
   all_fed got had more left is waits = fed_is got left waits ∙ ap (λ l. (h.given ++ l) ++ left) is ∙ ap (λ l. l ++ left) (sym (append_assoc h.given had more))
 
-  module _ (turns : ℕ) (got put had more left : List ℕ) (e : RunError) (is : got ≡ had ++ more) (waits : waiting ≡ got ++ left) (fell : Fell M (turns + h.turns) (h.given ++ had) more (out ++ put) new e) where
+  module _ (turns : ℕ) (got put had more left : List ℕ) (e : RunError) (is : got ≡ had ++ more) (waits : waiting ≡ got ++ left) (refusal : AfterRefusal M (turns + h.turns) (h.given ++ had) more (out ++ put) new e) where
     pub fed_refused : (kept : List ℕ) → new.reading.at_end ≡ false → AfterFeed M fed (out ++ put) new kept (Err e)
     fed_refused kept reading = (
-      λ x text begins. fell.gave_up.front x (goes x text begins),
-      λ fault x text begins. (let ran = fell.fault fault in (ran.turns, ran.place, (ran.scanned x (goes x text begins)).turns)),
+      λ x text begins. refusal.refused_turn.front x (goes x text begins),
+      λ fault x text begins. (let ran = refusal.fault fault in (ran.turns, ran.place, (ran.scanned x (goes x text begins)).turns)),
     )
       where
         goes : (x : List ℕ) → IsText x → BeginsWith x fed → Consistent ((h.given ++ had) ++ more) new.reading.at_end x
-        goes x text begins = (text, subst (λ b. GoesOnFrom ((h.given ++ had) ++ more) b x) (sym reading) (begins_less x ((h.given ++ had) ++ more) left (subst (BeginsWith x) (all_fed got had more left is waits) begins)))
+        goes x text begins = (text, subst (λ b. ExtendsGiven ((h.given ++ had) ++ more) b x) (sym reading) (begins_less x ((h.given ++ had) ++ more) left (subst (BeginsWith x) (all_fed got had more left is waits) begins)))
 
     pub end_refused : (new.reading.at_end ≡ true → left ≡ []) → AfterFinish R fed (out ++ put) (Err e)
-    end_refused none text = (fell.gave_up.front fed goes, λ fault. (let ran = fell.fault fault in (ran.turns, ran.place, (ran.scanned fed goes).turns)))
+    end_refused none text = (refusal.refused_turn.front fed goes, λ fault. (let ran = refusal.fault fault in (ran.turns, ran.place, (ran.scanned fed goes).turns)))
       where
         goes : Consistent ((h.given ++ had) ++ more) new.reading.at_end fed
-        goes = (text, subst (GoesOnFrom ((h.given ++ had) ++ more) new.reading.at_end) (sym (all_fed got had more left is waits)) (consistent_end ((h.given ++ had) ++ more) left new.reading.at_end none))
+        goes = (text, subst (ExtendsGiven ((h.given ++ had) ++ more) new.reading.at_end) (sym (all_fed got had more left is waits)) (consistent_end ((h.given ++ had) ++ more) left new.reading.at_end none))
 
   pub end_reached : (turns status : ℕ) (got put left : List ℕ) → MadeTurns M old new turns got put → new.ended ≡ Some status → (new.reading.at_end ≡ true → left ≡ []) → waiting ≡ got ++ left → AfterFinish R fed (out ++ put) (Ok status)
   end_reached turns status got put left made ended none is text =
-      run_of turns status got put new.reading.at_end fed made ended refl text (subst (GoesOnFrom (h.given ++ got) new.reading.at_end) (sym (fed_is got left is)) (consistent_end (h.given ++ got) left new.reading.at_end none))
+      run_of turns status got put new.reading.at_end fed made ended refl text (subst (ExtendsGiven (h.given ++ got) new.reading.at_end) (sym (fed_is got left is)) (consistent_end (h.given ++ got) left new.reading.at_end none))
 
 -- As many reads are allowed as there are bytes and an end: no turn asks for more.
-pub never_open : {S : Type 0} (M : Machine) (gave : S → List ℕ → S → Type 0) (mid s' : S) (old new : State) (waiting got put left rest : List ℕ) (e e' e'' : ℕ) → Standing M old → (p : Pauses M gave mid s' old new got put) → GivesWaiting waiting e left e' got → GivesWaiting left e' rest e'' p.more →
+pub never_open : {S : Type 0} (M : Machine) (gave : S → List ℕ → S → Type 0) (mid s' : S) (old new : State) (waiting got put left rest : List ℕ) (e e' e'' : ℕ) → IsReachable M old → (p : Pauses M gave mid s' old new got put) → GivesWaiting waiting e left e' got → GivesWaiting left e' rest e'' p.more →
     old.reading.max_reads ≡ old.reading.taken + length waiting + 1 → ⊥
-never_open M gave mid s' old new waiting got put left rest e e' e'' stood p first second limit = stood over
+never_open M gave mid s' old new waiting got put left rest e e' e'' reachable p first second limit = reachable over
   where
-    over : (n : ℕ) (given out : List ℕ) → Stands M n given out old → ⊥
+    over : (n : ℕ) (given out : List ℕ) → TurnInvariant M n given out old → ⊥
     over n given out h =
         let asks = p.asks n given out h in
         omega (arith, limit, asks.1, h.taken, ap length first.taken, length-append got left, ap length second.taken, length-append p.more rest, length-append (given ++ got) p.more, length-append given got)
 
 -- a state with another limit
-pub stands_limit : (M : Machine) (n : ℕ) (given out : List ℕ) (s : State) (most : ℕ) (few : s.reading.taken + bit_of s.reading.at_end ≤ most) → Stands M n given out s → Stands M n given out (record s { reading = record s.reading { max_reads = most; few_reads = few } })
+pub stands_limit : (M : Machine) (n : ℕ) (given out : List ℕ) (s : State) (most : ℕ) (few : s.reading.taken + bit_of s.reading.at_end ≤ most) → TurnInvariant M n given out s → TurnInvariant M n given out (record s { reading = record s.reading { max_reads = most; few_reads = few } })
 stands_limit M n given out s most few h = record { works = h.works; start = h.start; scanned = h.scanned; text = h.text; covered = h.covered; held = h.held; line = h.line; taken = h.taken }
 
-pub standing_limit : (M : Machine) (s : State) (most : ℕ) (few : s.reading.taken + bit_of s.reading.at_end ≤ most) → Standing M s → Standing M (record s { reading = record s.reading { max_reads = most; few_reads = few } })
-standing_limit M s most few stood denied = stood (λ n given out h. denied n given out (stands_limit M n given out s most few h))
+pub standing_limit : (M : Machine) (s : State) (most : ℕ) (few : s.reading.taken + bit_of s.reading.at_end ≤ most) → IsReachable M s → IsReachable M (record s { reading = record s.reading { max_reads = most; few_reads = few } })
+standing_limit M s most few reachable denied = reachable (λ n given out h. denied n given out (stands_limit M n given out s most few h))
 
 pub fed_limit : (M : Machine) (fed out : List ℕ) (s : State) (waiting : List ℕ) (most : ℕ) (few : s.reading.taken + bit_of s.reading.at_end ≤ most) → Fed M fed out s waiting → Fed M fed out (record s { reading = record s.reading { max_reads = most; few_reads = few } }) waiting
-fed_limit M fed out s waiting most few h = record { turns = h.turns; given = h.given; left = h.left; stands = stands_limit M h.turns h.given out s most few h.stands; reading = h.reading; all = h.all; waits = h.waits }
+fed_limit M fed out s waiting most few h = record { turns = h.turns; given = h.given; left = h.left; invariant = stands_limit M h.turns h.given out s most few h.invariant; reading = h.reading; all = h.all; waits = h.waits }
 
 -- Some bytes more are fed, and wait.
 pub fed_more : (M : Machine) (fed out : List ℕ) (s : State) (waiting piece waiting' : List ℕ) → Fed M fed out s waiting → waiting' ≡ waiting ++ piece → Fed M (fed ++ piece) out s waiting'
@@ -318,7 +318,7 @@ fed_more M fed out s waiting piece waiting' h is = record {
   turns = h.turns;
   given = h.given;
   left = h.left ++ piece;
-  stands = h.stands;
+  invariant = h.invariant;
   reading = h.reading;
   all = ap (λ l. l ++ piece) h.all ∙ append_assoc h.given h.left piece;
   waits = λ none. ap (λ l. l ++ piece) (h.waits none) ∙ sym is;
@@ -329,14 +329,14 @@ module _ (M : Machine) (fed out : List ℕ) (s : State) (waiting : List ℕ) (h 
   goes_on : (piece x : List ℕ) → IsText x → BeginsWith x (fed ++ piece) → Consistent h.given s.reading.at_end x
   goes_on piece x text begins =
       let all : fed ++ piece ≡ h.given ++ (h.left ++ piece) = ap (λ l. l ++ piece) h.all ∙ append_assoc h.given h.left piece in
-      (text, subst (λ b. GoesOnFrom h.given b x) (sym h.reading) (begins_less x h.given (h.left ++ piece) (subst (BeginsWith x) all begins)))
+      (text, subst (λ b. ExtendsGiven h.given b x) (sym h.reading) (begins_less x h.given (h.left ++ piece) (subst (BeginsWith x) all begins)))
 
   pub fed_first : (piece : List ℕ) → WritesFirst (rules_of_machine M) (fed ++ piece) (out ++ [])
-  fed_first piece x text begins w ending run = subst (BeginsWith w) (sym (append-nil out)) (run_begins (rules_of_machine M) x h.turns (state_of out h.stands.start s) w ending (h.stands.scanned x (goes_on piece x text begins)).turns run)
+  fed_first piece x text begins w ending run = subst (BeginsWith w) (sym (append-nil out)) (run_begins (rules_of_machine M) x h.turns (state_of out h.invariant.start s) w ending (h.invariant.scanned x (goes_on piece x text begins)).turns run)
 
   pub fed_runs : (piece : List ℕ) (status : ℕ) → s.ended ≡ Some status → RunsTo (rules_of_machine M) (fed ++ piece) (out ++ []) (Status status)
   fed_runs piece status ended x text begins =
-      run_by (rules_of_machine M) x (out ++ []) (Status status) h.turns (state_of out h.stands.start s) (h.stands.scanned x (goes_on piece x text begins)).turns (sym (append-nil out)) (ap ending_of ended)
+      run_by (rules_of_machine M) x (out ++ []) (Status status) h.turns (state_of out h.invariant.start s) (h.invariant.scanned x (goes_on piece x text begins)).turns (sym (append-nil out)) (ap ending_of ended)
 
   pub fed_over : (piece : List ℕ) (status : ℕ) → s.ended ≡ Some status → AfterFeed M (fed ++ piece) (out ++ []) s waiting (Ok (Turn.Ended status))
   fed_over piece status ended = (
@@ -344,7 +344,7 @@ module _ (M : Machine) (fed out : List ℕ) (s : State) (waiting : List ℕ) (h 
       turns = h.turns;
       given = h.given;
       left = h.left ++ piece;
-      stands = subst (λ l. Stands M h.turns h.given l s) (sym (append-nil out)) h.stands;
+      invariant = subst (λ l. TurnInvariant M h.turns h.given l s) (sym (append-nil out)) h.invariant;
       reading = h.reading;
       all = ap (λ l. l ++ piece) h.all ∙ append_assoc h.given h.left piece;
       waits = λ none. absurd (over (sym none ∙ ended));
@@ -363,7 +363,7 @@ module _ (M : Machine) (fed out : List ℕ) (s : State) (waiting : List ℕ) (h 
   end_runs status ended text = fed_runs [] status ended fed text ([], sym (append-nil (fed ++ []) ∙ append-nil fed))
 
 -- a walk over bytes, and then over others
-pub goes_further : (M : Machine) (first mid last : ℕ) (v w : List ℕ) → GoesOnOver M first v mid → GoesOnOver M mid w last → GoesOnOver M first (v ++ w) last
+pub goes_further : (M : Machine) (first mid last : ℕ) (v w : List ℕ) → WalkStaysLive M first v mid → WalkStaysLive M mid w last → WalkStaysLive M first (v ++ w) last
 goes_further M first mid last v w (at, goes) (at', goes') = (at' ∙ ap (λ s. walk M s w) at ∙ sym (walk-append M first v w), over)
   where
     over : (i : ℕ) → 1 ≤ i → i ≤ length (v ++ w) → M.goes_on (walk M first (take i (v ++ w))) ≡ true
@@ -377,19 +377,19 @@ goes_further M first mid last v w (at, goes) (at', goes') = (at' ∙ ap (λ s. w
 
 -- The match that asks for all the bytes asks for a piece more.
 pub asking_more : (M : Machine) (s : State) (waiting piece waiting' : List ℕ) (first last : ℕ) → s.place.at ≤ length s.reading.window.bytes → waiting' ≡ waiting ++ piece →
-    GoesOnOver M (M.start s.place.condition s.place.line_start) (drop s.place.at (s.reading.window.bytes ++ waiting)) first → GoesOnOver M first piece last →
-    GoesOnOver M (M.start s.place.condition s.place.line_start) (drop s.place.at (s.reading.window.bytes ++ waiting')) last
+    WalkStaysLive M (M.start s.place.condition s.place.line_start) (drop s.place.at (s.reading.window.bytes ++ waiting)) first → WalkStaysLive M first piece last →
+    WalkStaysLive M (M.start s.place.condition s.place.line_start) (drop s.place.at (s.reading.window.bytes ++ waiting')) last
 asking_more M s waiting piece waiting' first last inside is h k =
     let w : List ℕ = s.reading.window.bytes in
     let size : length (w ++ waiting) ≡ length w + length waiting = length-append w waiting in
     let all : drop s.place.at (w ++ waiting') ≡ drop s.place.at (w ++ waiting) ++ piece = ap (λ l. drop s.place.at (w ++ l)) is ∙ ap (drop s.place.at) (sym (append_assoc w waiting piece)) ∙ drop-append-le s.place.at (w ++ waiting) piece (omega (arith, inside, size)) in
-    subst (λ l. GoesOnOver M (M.start s.place.condition s.place.line_start) l last) (sym all) (goes_further M (M.start s.place.condition s.place.line_start) first last (drop s.place.at (w ++ waiting)) piece h k)
+    subst (λ l. WalkStaysLive M (M.start s.place.condition s.place.line_start) l last) (sym all) (goes_further M (M.start s.place.condition s.place.line_start) first last (drop s.place.at (w ++ waiting)) piece h k)
 
 -- Where the match goes on over all the bytes, the next turn asks for more.
 pub asks_still : (M : Machine) → MachineLaws M → (fed out : List ℕ) (s : State) (waiting : List ℕ) (last : ℕ) (h : Fed M fed out s waiting) → s.ended ≡ None → s.place.at ≤ length s.reading.window.bytes →
-    GoesOnOver M (M.start s.place.condition s.place.line_start) (drop s.place.at (s.reading.window.bytes ++ waiting)) last → IsText fed → AsksForMore (rules_of_machine M) h.turns fed
+    WalkStaysLive M (M.start s.place.condition s.place.line_start) (drop s.place.at (s.reading.window.bytes ++ waiting)) last → IsText fed → AsksForMore (rules_of_machine M) h.turns fed
 asks_still M laws fed out s waiting last h going inside goes text t far asked after =
-    let k = h.stands in
+    let k = h.invariant in
     let w : List ℕ = s.reading.window.bytes ++ waiting in
     let size : length w ≡ length s.reading.window.bytes + length waiting = length-append s.reading.window.bytes waiting in
     let all : fed ≡ h.given ++ waiting = h.all ∙ ap (λ l. h.given ++ l) (h.waits going) in
@@ -399,16 +399,16 @@ asks_still M laws fed out s waiting last h going inside goes text t far asked af
     let wants : Wants M s.place reading = record { inside = omega (arith, inside, size); asked = λ i some le. goes.1 i some (omega (arith, left, le)); reading = h.reading } in
     let more : WantsMore (rules_of_machine M) (h.given ++ waiting) (record { start = k.start; at = k.start + s.place.at; condition = s.place.condition; stack = s.acting.stack }) =
     wants_here M laws h.given waiting k.start s.place s.acting.stack w k.covered win k.line reading refl wants in
-    let turns = (k.scanned fed (text, subst (λ b. GoesOnFrom h.given b fed) (sym h.reading) (waiting, all))).turns in
+    let turns = (k.scanned fed (text, subst (λ b. ExtendsGiven h.given b fed) (sym h.reading) (waiting, all))).turns in
     wanted_end (rules_of_machine M) fed h.turns (state_of out k.start s) t far asked turns (ap ending_of going) (subst (λ l. WantsMore (rules_of_machine M) l (record { start = k.start; at = k.start + s.place.at; condition = s.place.condition; stack = s.acting.stack })) (sym all) more) after
 
 -- what two walks tell, and one more
-pub asking_all : (M : Machine) (states : ℕ) (s : State) (waiting : List ℕ) (held : ℕ) (o : Option ℕ) → s.place.at ≤ length s.reading.window.bytes → GoesOnOver M (M.start s.place.condition s.place.line_start) (drop s.place.at s.reading.window.bytes) held →
-    IfSome o (λ last. last < states) → IfSome o (GoesOnOver M held waiting) → IsAsking M states s waiting o
+pub asking_all : (M : Machine) (states : ℕ) (s : State) (waiting : List ℕ) (held : ℕ) (o : Option ℕ) → s.place.at ≤ length s.reading.window.bytes → WalkStaysLive M (M.start s.place.condition s.place.line_start) (drop s.place.at s.reading.window.bytes) held →
+    IfSome o (λ last. last < states) → IfSome o (WalkStaysLive M held waiting) → IsAsking M states s waiting o
 asking_all M states s waiting held None inside h known k = tt
 asking_all M states s waiting held (Some last) inside h known k = (
   known,
-  subst (λ l. GoesOnOver M (M.start s.place.condition s.place.line_start) l last) (sym (drop-append-le s.place.at s.reading.window.bytes waiting inside)) (goes_further M (M.start s.place.condition s.place.line_start) held last (drop s.place.at s.reading.window.bytes) waiting h k),
+  subst (λ l. WalkStaysLive M (M.start s.place.condition s.place.line_start) l last) (sym (drop-append-le s.place.at s.reading.window.bytes waiting inside)) (goes_further M (M.start s.place.condition s.place.line_start) held last (drop s.place.at s.reading.window.bytes) waiting h k),
 )
 
 pub asking_on : (M : Machine) (states : ℕ) (s : State) (waiting piece waiting' : List ℕ) (asking : Option ℕ) (last : ℕ) → s.place.at ≤ length s.reading.window.bytes → waiting' ≡ waiting ++ piece → IsAsking M states s waiting asking → last < states → WalksOn M asking piece last → IsAsking M states s waiting' (Some last)

@@ -7,12 +7,12 @@ use Rattle.lexscan_window.specs.declared.state.State.{State}
 use Rattle.lexscan.specs.declared.turn.Turn.{Turn}
 use Rattle.lexscan_window.specs.Acts.{acting_of}
 use Rattle.lexscan_matching.specs.Descends.{matches_of, ending_of}
-use Rattle.lexscan.specs.Moves.{Moved}
+use Rattle.lexscan.specs.TurnSteps.{TurnStep}
 use Rattle.lexscan.proofs.Outcomes.{perform_below}
 use Rattle.std.proofs.Common.{take, drop}
 
 pub conditions_below : {S K : Type 0} (M : Machine) (laws : MachineLaws M) (gave : S → List ℕ → S → Type 0) (wrote : K → List ℕ → K → Type 0) (s s' : S) (t t' : K) (old new : State) (turn : Turn) →
-    Moved M gave wrote s s' t t' old new (Ok turn) → Below M.conditions old.place.condition old.acting.stack → Below M.conditions new.place.condition new.acting.stack
+    TurnStep M gave wrote s s' t t' old new (Ok turn) → Below M.conditions old.place.condition old.acting.stack → Below M.conditions new.place.condition new.acting.stack
 conditions_below M laws gave wrote s s' t t' old new turn (inl m) lt =
     subst (λ cs. Below M.conditions new.place.condition cs) (sym m.acted.left.stack)
     (subst (λ c. Below M.conditions c m.acted.acting.stack) (sym m.acted.left.condition)

@@ -7,7 +7,7 @@ use Rattle.lex_semantics.specs.Acting as Scan
 use Rattle.lex_semantics.specs.Acting.{Ending, Status, StackFault}
 use Rattle.lex_semantics.specs.Run as Run
 use Rattle.lex_semantics.specs.Run.{Place, Turns}
-use Rattle.lex_semantics.specs.Demand.{AsksAt, FarFrom, Far, Consistent, GoesOnFrom}
+use Rattle.lex_semantics.specs.Demand.{AsksAt, FarFrom, Far, Consistent, ExtendsGiven}
 use Rattle.lex_semantics.specs.Scanned.{AfterTurns, seen_turn}
 use Rattle.lex_semantics.specs.Machine.{Machine, rules_of_machine}
 use Rattle.lex_semantics.specs.MachineLaws.{MachineLaws}
@@ -25,13 +25,13 @@ use Rattle.lexscan_window.specs.declared.error.RunError.TheVariants.{TooManyRead
 use Rattle.lexscan_matching.specs.Looks.{Looked, LookedAtEnd, Wants, Unmet}
 use Rattle.lexscan_matching.specs.Descends.{conditions_at, outcome, matches_of, CutAll, ending_of}
 use Rattle.lexscan_window.specs.Ends.{IsEarly}
-use Rattle.lexscan.specs.Moves.{Refused}
-use Rattle.lexscan.specs.Stands.{state_of, Stands, Fell, RanTo}
+use Rattle.lexscan.specs.TurnSteps.{RefusedStep}
+use Rattle.lexscan.specs.TurnInvariants.{state_of, TurnInvariant, AfterRefusal, RunCompleted}
 use Rattle.lexscan.proofs.Outcomes.{good, seen_outcome}
 use Rattle.lexscan.proofs.Lifting.{seen_here, dead_here, live_here, asks_here, inside_here, wants_here}
 
 -- an input that goes on from more goes on from less
-pub earlier : (given got : List ℕ) (a b : Bool) (x : List ℕ) → (a ≡ true → got ≡ []) → (a ≡ true → b ≡ true) → GoesOnFrom (given ++ got) b x → GoesOnFrom given a x
+pub earlier : (given got : List ℕ) (a b : Bool) (x : List ℕ) → (a ≡ true → got ≡ []) → (a ≡ true → b ≡ true) → ExtendsGiven (given ++ got) b x → ExtendsGiven given a x
 earlier given got true true x none ends h = h ∙ ap (λ z. given ++ z) (none refl) ∙ append-nil given
 earlier given got true false x none ends h = absurd (no (ends refl))
   where
@@ -40,11 +40,11 @@ earlier given got true false x none ends h = absurd (no (ends refl))
 earlier given got false true x none ends h = (got, h)
 earlier given got false false x none ends h = (got ++ h.0, h.1 ∙ append_assoc given got h.0)
 
-pub with_rest : (given : List ℕ) (b : Bool) (x : List ℕ) → GoesOnFrom given b x → (rest : List ℕ) × (x ≡ given ++ rest)
+pub with_rest : (given : List ℕ) (b : Bool) (x : List ℕ) → ExtendsGiven given b x → (rest : List ℕ) × (x ≡ given ++ rest)
 with_rest given true x h = ([], h ∙ sym (append-nil given))
 with_rest given false x h = h
 
-pub just_these : (given : List ℕ) (b : Bool) → GoesOnFrom given b given
+pub just_these : (given : List ℕ) (b : Bool) → ExtendsGiven given b given
 just_these given true = refl
 just_these given false = ([], sym (append-nil given))
 
@@ -77,7 +77,7 @@ module _ (R : Rules) (x : List ℕ) (n : ℕ) (s : Run.State) (f : ℕ) (turns :
           omega (arith, is, less)
 
 module _ {S K : Type 0} (M : Machine) (laws : MachineLaws M) (gave : S → List ℕ → S → Type 0) (wrote : K → List ℕ → K → Type 0) (s s' : S) (t t' : K) (n : ℕ) (given out : List ℕ) (old new : State) (error : RunError)
-    (going : old.ended ≡ None) (h : Stands M n given out old) (m : Refused M gave wrote s s' t t' (record old { failed = true }) new error) where
+    (going : old.ended ≡ None) (h : TurnInvariant M n given out old) (m : RefusedStep M gave wrote s s' t t' (record old { failed = true }) new error) where
   after_before : (x : List ℕ) → Consistent (given ++ m.took.got) new.reading.at_end x → AfterTurns (rules_of_machine M) x n (state_of out h.start old) (length given) old.reading.at_end
   after_before x k = h.scanned x (k.0, earlier given m.took.got old.reading.at_end new.reading.at_end x m.took.nothing m.took.end_stays k.1)
 
@@ -175,7 +175,7 @@ module _ {S K : Type 0} (M : Machine) (laws : MachineLaws M) (gave : S → List 
 
   pub end_front : LookedAtEnd old.place old.reading new.reading → (w : List ℕ) → BeginsWith (M.ending old.place.condition).print w → Fronts w
   end_front looked w is = (λ x k v e run.
-      let whole : x ≡ given ++ m.took.got = subst (λ b. GoesOnFrom (given ++ m.took.got) b x) looked.at_end k.1 in
+      let whole : x ≡ given ++ m.took.got = subst (λ b. ExtendsGiven (given ++ m.took.got) b x) looked.at_end k.1 in
       let last : Run.State = record {
         written = (M.ending old.place.condition).print;
         place = record { start = h.start + old.place.at; at = h.start + old.place.at; condition = old.place.condition; stack = old.acting.stack };
@@ -221,17 +221,17 @@ module _ {S K : Type 0} (M : Machine) (laws : MachineLaws M) (gave : S → List 
       enough x k rest e (inl q) = inr (dead_here M laws given m.took.got h.start old.place old.acting.stack new.reading.window.bytes h.covered win h.line looked.reach looked.state path looked.some looked.so_far q.0)
       enough x k rest e (inr q) =
           let g : List ℕ = given ++ m.took.got in
-          let same : x ≡ g = subst (λ b. GoesOnFrom g b x) q.2 k.1 in
+          let same : x ≡ g = subst (λ b. ExtendsGiven g b x) q.2 k.1 in
           let more : length (g ++ rest) ≡ length g + length rest = length-append g rest in
           let none : rest ≡ [] = nil_from_length rest (omega (arith, ap length (sym e ∙ same), more)) in
           let left : length (drop (h.start + old.place.at) g) ≡ length g - (h.start + old.place.at) = length-drop (h.start + old.place.at) g in
           inl (ap (λ z. drop looked.reach (drop (h.start + old.place.at) g) ++ z) none ∙ append-nil (drop looked.reach (drop (h.start + old.place.at) g)) ∙ drop_all looked.reach (drop (h.start + old.place.at) g) (omega (arith, size, left, q.1)))
 
-  pub fell : new.failed ≡ true → (error ≡ TooManyReads → Wants M old.place new.reading) → (w : List ℕ) → Fronts w → Within → (new.reading.at_end ≡ true → AsksEnd) →
-      (error ≡ Stack → (r : RanTo (rules_of_machine M) (given ++ m.took.got) (out ++ w) new.reading.at_end StackFault) × (r.turns ≡ suc n)) → (IsEarly error → w ≡ []) → Fell M n given m.took.got (out ++ w) new error
-  fell failed wants w front within ended fault quiet = record {
+  pub refusal : new.failed ≡ true → (error ≡ TooManyReads → Wants M old.place new.reading) → (w : List ℕ) → Fronts w → Within → (new.reading.at_end ≡ true → AsksEnd) →
+      (error ≡ Stack → (r : RunCompleted (rules_of_machine M) (given ++ m.took.got) (out ++ w) new.reading.at_end StackFault) × (r.turns ≡ suc n)) → (IsEarly error → w ≡ []) → AfterRefusal M n given m.took.got (out ++ w) new error
+  refusal failed wants w front within ended fault quiet = record {
     failed = failed;
-    gave_up = record {
+    refused_turn = record {
       text = is_text_append given m.took.got h.text m.took.text;
       before = state_of out h.start old;
       end_before = old.reading.at_end;

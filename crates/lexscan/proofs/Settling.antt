@@ -13,21 +13,21 @@ use Rattle.lexscan.specs.declared.turn.Turn.{Turn}
 use Rattle.lexscan_window.specs.declared.error.RunError.{RunError}
 use Rattle.lexscan_matching.specs.Picks.{path_of, state_at}
 use Rattle.lexscan_matching.specs.Descends.{Conditions, conditions_at, matches_of, ending_of, Performed, CutAll, Faulted, Takes}
-use Rattle.lexscan.specs.Moves.{MatchLeft, Acted, Moved, left_bytes, stays, is_over}
+use Rattle.lexscan.specs.TurnSteps.{MatchLeft, Acted, TurnStep, next_bytes, stays, is_over}
 use Rattle.lexscan_window.specs.Memos.{Barren, IsTrueMark, AreTrue}
 use Rattle.lexscan_matching.specs.Backs.{IsSettled}
 use Rattle.lexscan_matching.proofs.Growing.{took_none}
 use Rattle.lexscan_matching.proofs.Barrens.{true_dropped, true_grown, Further, further}
 use Rattle.lexscan.proofs.Leaving.{matched_moved}
 
-true_left : (M : Machine) (old new : Reading) (b : Bool) (n : ℕ) (m : Mark) → n ≤ length old.window.bytes → new.window.bytes ≡ left_bytes b n old.window.bytes → new.taken ≡ old.taken → new.at_end ≡ old.at_end →
+true_left : (M : Machine) (old new : Reading) (b : Bool) (n : ℕ) (m : Mark) → n ≤ length old.window.bytes → new.window.bytes ≡ next_bytes b n old.window.bytes → new.taken ≡ old.taken → new.at_end ≡ old.at_end →
     IsTrueMark M old m → IsTrueMark M new m
 true_left M old new true n m le held taken at_end h = true_dropped M old new 0 m (omega arith) held taken at_end h
 true_left M old new false n m le held taken at_end h = true_dropped M old new n m le held taken at_end h
 
 -- a turn keeps marks true
 pub true_moved : {S K : Type 0} (M : Machine) (gave : S → List ℕ → S → Type 0) (wrote : K → List ℕ → K → Type 0) (s s' : S) (t t' : K) (old new : State) (ms : List Mark) (result : Result Turn RunError) →
-    Moved M gave wrote s s' t t' old new result → AreTrue M old.reading ms → OnOk result (AreTrue M new.reading ms)
+    TurnStep M gave wrote s s' t t' old new result → AreTrue M old.reading ms → OnOk result (AreTrue M new.reading ms)
 true_moved M gave wrote s s' t t' old new ms (Ok turn) (inl m) h = λ x a.
     true_left M m.mid new.reading (stays m.acted.acting.more (is_over m.acted.ended)) m.acted.acting.end x m.acted.inside m.acted.left.held m.acted.same.taken m.acted.same.at_end
     (true_grown M gave s s' old.reading m.mid x m.took (h x a))
@@ -62,7 +62,7 @@ module _ {K : Type 0} (M : Machine) (wrote : K → List ℕ → K → Type 0) (t
 
 -- a match whose longest text is known from the bytes held
 pub settled_moved : {S K : Type 0} (M : Machine) (states : ℕ) (gave : S → List ℕ → S → Type 0) (wrote : K → List ℕ → K → Type 0) (fails : K → ℕ) (s : S) (t t' : K) (live : Bool) (old new : State) (a : Settled) (result : Result Turn RunError) →
-    gave s [] s → IsSettled M states old.place old.reading a → MatchLeft M wrote fails t t' live old new (path_of M old.place old.reading.window.bytes a.keep) result → Moved M gave wrote s s t t' old new result
+    gave s [] s → IsSettled M states old.place old.reading a → MatchLeft M wrote fails t t' live old new (path_of M old.place old.reading.window.bytes a.keep) result → TurnStep M gave wrote s s t t' old new result
 settled_moved M states gave wrote fails s t t' live old new a result none h left =
     let short : List ℕ = path_of M old.place old.reading.window.bytes a.keep in
     let long : List ℕ = path_of M old.place old.reading.window.bytes far.reach in

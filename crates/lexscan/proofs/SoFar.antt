@@ -3,7 +3,7 @@ use Rattle.std.proofs.Common.{◌≡◌, ℕ, suc, ◌+◌, ◌≤◌, ◌<◌, 
 use Rattle.std.specs.Io.KnownBytes.{Consumes}
 use Rattle.lex_semantics.specs.Text.{IsText, part}
 use Rattle.lex_semantics.specs.Acting.{Status, StackFault}
-use Rattle.lex_semantics.specs.Demand.{Consistent, GoesOnFrom}
+use Rattle.lex_semantics.specs.Demand.{Consistent, ExtendsGiven}
 use Rattle.lex_semantics.specs.Machine.{Machine, rules_of_machine}
 use Rattle.lex_semantics.specs.MachineLaws.{MachineLaws}
 use Rattle.lex_semantics.specs.Run as Scan
@@ -20,29 +20,29 @@ use Rattle.lexscan_window.specs.declared.state.State.{State}
 use Rattle.lexscan.specs.declared.turn.Turn.{Turn}
 use Rattle.lexscan_window.specs.declared.error.RunError.{RunError}
 use Rattle.lexscan_window.specs.declared.error.RunError.TheVariants.{Read, TooManyReads, Write, OutOfMemory, Stack, Failed}
-use Rattle.lexscan.specs.Descends.{ending_of}
+use Rattle.lexscan_matching.specs.Descends.{ending_of}
 use Rattle.lexscan.specs.Matches.{match_in, text_of, TellsMatch}
-use Rattle.lexscan.specs.Reads.{end_step, read_fault_count, write_fault_count}
-use Rattle.lexscan.specs.Stands.{Stands, Fell, RanTo, state_of, GoesOn}
-use Rattle.lexscan.specs.declared.tokens.listing.Token.{Token}
+use Rattle.lexscan_window.specs.Reads.{end_step, read_fault_count, write_fault_count}
+use Rattle.lexscan.specs.TurnInvariants.{TurnInvariant, AfterRefusal, RunCompleted, state_of, TurnPreserves}
+use Rattle.lexscan.specs.declared.token.Token.{Token}
 use Rattle.lexscan.specs.Tokens.{token_by, tokens_by, Appends, TokensOf, Tokenised, Stopped, LieIn}
 
-front : (x given : List ℕ) (known : Option (List ℕ)) → Consumes (Some x) known given → GoesOnFrom given false x
+front : (x given : List ℕ) (known : Option (List ℕ)) → Consumes (Some x) known given → ExtendsGiven given false x
 front x given None h = elim h [ ]
 front x given (Some rest) h = (rest, h)
 
 -- the whole input goes on from what was given
-goes : (x given : List ℕ) (known : Option (List ℕ)) (ends ends' : ℕ) (b : Bool) → ends' ≡ ends + end_step false b → Gives (Some x) known ends ends' given → GoesOnFrom given b x
+goes : (x given : List ℕ) (known : Option (List ℕ)) (ends ends' : ℕ) (b : Bool) → ends' ≡ ends + end_step false b → Gives (Some x) known ends ends' given → ExtendsGiven given b x
 goes x given known ends ends' true e h = h.whole (omega (arith, e))
 goes x given known ends ends' false e h = front x given known h.taken
 
 -- and is no shorter
-no_shorter : (x given : List ℕ) (b : Bool) → GoesOnFrom given b x → length given ≤ length x
+no_shorter : (x given : List ℕ) (b : Bool) → ExtendsGiven given b x → length given ≤ length x
 no_shorter x given true h = omega (arith, ap length h)
 no_shorter x given false h = omega (arith, ap length h.1, length-append given h.0)
 
 -- and has the same parts among them
-same_part : (x given : List ℕ) (b : Bool) (i j : ℕ) → GoesOnFrom given b x → j ≤ length given → part x i j ≡ part given i j
+same_part : (x given : List ℕ) (b : Bool) (i j : ℕ) → ExtendsGiven given b x → j ≤ length given → part x i j ≡ part given i j
 same_part x given true i j h le = ap (λ z. part z i j) h
 same_part x given false i j h le = ap (λ z. part z i j) h.1 ∙ part_front given h.0 i j le
 
@@ -65,12 +65,12 @@ pub record Listed (M : Machine) (x : List ℕ) (known : Option (List ℕ)) (ends
   pub given : List ℕ
   pub out : List ℕ
   pub gives : Gives (Some x) known ends ends' given
-  pub stands : Stands M turns given out s
+  pub invariant : TurnInvariant M turns given out s
   pub tokens : List Token
   pub tokens_are : TokensOf (rules_of_machine M) x turns tokens
   pub appended : list' ≡ list ++ tokens
   pub lie : LieIn (length x) 0 tokens
-  pub last : s.ended ≡ None → last_start 0 tokens ≤ stands.start
+  pub last : s.ended ≡ None → last_start 0 tokens ≤ invariant.start
 
 no_earlier : (p q : Place) → Grows p q → p.start ≤ q.start
 no_earlier p q (inl less) = omega (arith, less)
@@ -78,46 +78,46 @@ no_earlier p q (inr same) = omega (arith, same.0)
 
 module _ (M : Machine) (laws : MachineLaws M) (x : List ℕ) (text : IsText x) (known known' : Option (List ℕ)) (ends ends' ends'' : ℕ) (list list' : List Token) (old new : State)
     (h : Listed M x known ends ends' list list' old) (going : old.ended ≡ None) (before : ends' ≡ ends + end_step false old.reading.at_end) (after : ends'' ≡ ends + end_step false new.reading.at_end) where
-  reached : Turns (rules_of_machine M) x h.turns (state_of h.out h.stands.start old)
-  reached = (h.stands.scanned x (text, goes x h.given known ends ends' old.reading.at_end before h.gives)).turns
+  reached : Turns (rules_of_machine M) x h.turns (state_of h.out h.invariant.start old)
+  reached = (h.invariant.scanned x (text, goes x h.given known ends ends' old.reading.at_end before h.gives)).turns
 
   -- one turn more
-  pub listed_more : (turn : Turn) (got wrote : List ℕ) → Gives known known' ends' ends'' got → GoesOn M old new got wrote (Ok turn) → Listed M x known' ends ends'' list (list' ++ tokens_by (match_in new) old.place.condition) new
+  pub listed_more : (turn : Turn) (got wrote : List ℕ) → Gives known known' ends' ends'' got → TurnPreserves M old new got wrote (Ok turn) → Listed M x known' ends ends'' list (list' ++ tokens_by (match_in new) old.place.condition) new
   listed_more turn got wrote gave k = record {
     turns = suc h.turns;
     given = h.given ++ got;
     out = h.out ++ wrote;
     gives = all;
-    stands = stands;
+    invariant = invariant;
     tokens = h.tokens ++ tokens_by (match_in new) old.place.condition;
-    tokens_are = (state_of h.out h.stands.start old, h.tokens, reached, ap ending_of going, h.tokens_are, appends (match_in new) told);
+    tokens_are = (state_of h.out h.invariant.start old, h.tokens, reached, ap ending_of going, h.tokens_are, appends (match_in new) told);
     appended = ap (λ l. l ++ tokens_by (match_in new) old.place.condition) h.appended ∙ append_assoc list h.tokens (tokens_by (match_in new) old.place.condition);
     lie = (lies (match_in new) told).0;
-    last = λ goes. (let a = (lies (match_in new) told).1 in let b = no_earlier (state_of h.out h.stands.start old).place (state_of (h.out ++ wrote) stands.start new).place (grows goes) in omega (arith, a, b));
+    last = λ goes. (let a = (lies (match_in new) told).1 in let b = no_earlier (state_of h.out h.invariant.start old).place (state_of (h.out ++ wrote) invariant.start new).place (grows goes) in omega (arith, a, b));
   }
     where
       all : Gives (Some x) known' ends ends'' (h.given ++ got)
       all = Gives-trans (Some x) known known' ends ends' ends'' h.given got h.gives gave
 
-      stands : Stands M (suc h.turns) (h.given ++ got) (h.out ++ wrote) new
-      stands = k.1 h.turns h.given h.out h.stands
+      invariant : TurnInvariant M (suc h.turns) (h.given ++ got) (h.out ++ wrote) new
+      invariant = k.1 h.turns h.given h.out h.invariant
 
-      told : TellsMatch (rules_of_machine M) (h.given ++ got) new.reading.at_end (state_of h.out h.stands.start old).place (match_in new) (text_of (match_in new) new)
-      told = k.2 going h.turns h.given h.out h.stands
+      told : TellsMatch (rules_of_machine M) (h.given ++ got) new.reading.at_end (state_of h.out h.invariant.start old).place (match_in new) (text_of (match_in new) new)
+      told = k.2 going h.turns h.given h.out h.invariant
 
-      goes_on : GoesOnFrom (h.given ++ got) new.reading.at_end x
+      goes_on : ExtendsGiven (h.given ++ got) new.reading.at_end x
       goes_on = goes x (h.given ++ got) known' ends ends'' new.reading.at_end after all
 
       consistent : Consistent (h.given ++ got) new.reading.at_end x
       consistent = (text, goes_on)
 
-      grows : new.ended ≡ None → Grows (state_of h.out h.stands.start old).place (state_of (h.out ++ wrote) stands.start new).place
+      grows : new.ended ≡ None → Grows (state_of h.out h.invariant.start old).place (state_of (h.out ++ wrote) invariant.start new).place
       grows goes =
           turns_grow (rules_of_machine M) (machine_laws M laws) laws.legal (λ c line_start y. machine_candidates_exist M laws c line_start y) x h.turns
-          (state_of h.out h.stands.start old) (state_of (h.out ++ wrote) stands.start new) reached (stands.scanned x consistent).turns (ap ending_of goes)
+          (state_of h.out h.invariant.start old) (state_of (h.out ++ wrote) invariant.start new) reached (invariant.scanned x consistent).turns (ap ending_of goes)
 
-      appends : (m : Option Match) → TellsMatch (rules_of_machine M) (h.given ++ got) new.reading.at_end (state_of h.out h.stands.start old).place m (text_of m new) →
-          Appends (rules_of_machine M) x (state_of h.out h.stands.start old).place h.tokens (h.tokens ++ tokens_by m old.place.condition)
+      appends : (m : Option Match) → TellsMatch (rules_of_machine M) (h.given ++ got) new.reading.at_end (state_of h.out h.invariant.start old).place m (text_of m new) →
+          Appends (rules_of_machine M) x (state_of h.out h.invariant.start old).place h.tokens (h.tokens ++ tokens_by m old.place.condition)
       appends None t = inr (t x consistent, append-nil h.tokens)
       appends (Some m) t = inl (
         token_by m old.place.condition,
@@ -127,16 +127,16 @@ module _ (M : Machine) (laws : MachineLaws M) (x : List ℕ) (text : IsText x) (
           carries = t.carries x consistent;
           rule_is = t.rule_is;
           start_is = t.start_is;
-          end_is = ap (λ a. a + m.length) t.start_is ∙ ap (λ b. h.stands.start + b) t.length_is;
+          end_is = ap (λ a. a + m.length) t.start_is ∙ ap (λ b. h.invariant.start + b) t.length_is;
           condition_is = refl;
           text_is = same_part x (h.given ++ got) new.reading.at_end m.start (m.start + m.length) goes_on t.inside ∙ t.part_is;
         },
         refl,
       )
 
-      lies : (m : Option Match) → TellsMatch (rules_of_machine M) (h.given ++ got) new.reading.at_end (state_of h.out h.stands.start old).place m (text_of m new) →
-          LieIn (length x) 0 (h.tokens ++ tokens_by m old.place.condition) × (last_start 0 (h.tokens ++ tokens_by m old.place.condition) ≤ h.stands.start)
-      lies None t = (subst (LieIn (length x) 0) (sym (append-nil h.tokens)) h.lie, subst (λ l. last_start 0 l ≤ h.stands.start) (sym (append-nil h.tokens)) (h.last going))
+      lies : (m : Option Match) → TellsMatch (rules_of_machine M) (h.given ++ got) new.reading.at_end (state_of h.out h.invariant.start old).place m (text_of m new) →
+          LieIn (length x) 0 (h.tokens ++ tokens_by m old.place.condition) × (last_start 0 (h.tokens ++ tokens_by m old.place.condition) ≤ h.invariant.start)
+      lies None t = (subst (LieIn (length x) 0) (sym (append-nil h.tokens)) h.lie, subst (λ l. last_start 0 l ≤ h.invariant.start) (sym (append-nil h.tokens)) (h.last going))
       lies (Some m) t =
           let u : Token = token_by m old.place.condition in
           let begins : last_start 0 h.tokens ≤ u.start = omega (arith, h.last going, t.start_is) in
@@ -148,7 +148,7 @@ module _ (M : Machine) (laws : MachineLaws M) (x : List ℕ) (text : IsText x) (
   pub stopped_by_memory : Stopped (rules_of_machine M) x h.tokens OutOfMemory
   stopped_by_memory = record {
     turns = h.turns;
-    last = state_of h.out h.stands.start old;
+    last = state_of h.out h.invariant.start old;
     reached = reached;
     going = ap ending_of going;
     tokens = h.tokens_are;
@@ -156,35 +156,35 @@ module _ (M : Machine) (laws : MachineLaws M) (x : List ℕ) (text : IsText x) (
   }
 
   -- a refused turn
-  pub stopped_at : (e : RunError) (got wrote : List ℕ) → Gives known known' ends' ends'' got → GoesOn M old new got wrote (Err e) → 0 ≡ 0 + read_fault_count {T = Turn} (Err e) → 0 ≡ 0 + write_fault_count {T = Turn} (Err e) →
+  pub stopped_at : (e : RunError) (got wrote : List ℕ) → Gives known known' ends' ends'' got → TurnPreserves M old new got wrote (Err e) → 0 ≡ 0 + read_fault_count {T = Turn} (Err e) → 0 ≡ 0 + write_fault_count {T = Turn} (Err e) →
       (e ≡ TooManyReads → length x < new.reading.taken) → (e ≡ Failed → old.failed ≡ true) → Stopped (rules_of_machine M) x h.tokens e
-  stopped_at e got wrote gave k reads writes many failed = by e reads writes many failed fell
+  stopped_at e got wrote gave k reads writes many failed = by e reads writes many failed refusal
     where
       all : Gives (Some x) known' ends ends'' (h.given ++ got)
       all = Gives-trans (Some x) known known' ends ends' ends'' h.given got h.gives gave
 
-      goes_on : GoesOnFrom (h.given ++ got) new.reading.at_end x
+      goes_on : ExtendsGiven (h.given ++ got) new.reading.at_end x
       goes_on = goes x (h.given ++ got) known' ends ends'' new.reading.at_end after all
 
-      fell : Fell M h.turns h.given got (h.out ++ wrote) new e
-      fell = k.1 h.turns h.given h.out h.stands
+      refusal : AfterRefusal M h.turns h.given got (h.out ++ wrote) new e
+      refusal = k.1 h.turns h.given h.out h.invariant
 
       no : true ≡ false → ⊥
       no p = cc
 
       by : (e : RunError) → 0 ≡ 0 + read_fault_count {T = Turn} (Err e) → 0 ≡ 0 + write_fault_count {T = Turn} (Err e) →
-          (e ≡ TooManyReads → length x < new.reading.taken) → (e ≡ Failed → old.failed ≡ true) → Fell M h.turns h.given got (h.out ++ wrote) new e → Stopped (rules_of_machine M) x h.tokens e
+          (e ≡ TooManyReads → length x < new.reading.taken) → (e ≡ Failed → old.failed ≡ true) → AfterRefusal M h.turns h.given got (h.out ++ wrote) new e → Stopped (rules_of_machine M) x h.tokens e
       by Read reads writes many failed f = absurd (omega (arith, reads))
       by Write reads writes many failed f = absurd (omega (arith, writes))
       by TooManyReads reads writes many failed f = absurd (omega (arith, many refl, f.taken, no_shorter x (h.given ++ got) new.reading.at_end goes_on))
-      by Failed reads writes many failed f = absurd (no (sym (failed refl) ∙ h.stands.works))
+      by Failed reads writes many failed f = absurd (no (sym (failed refl) ∙ h.invariant.works))
       by OutOfMemory reads writes many failed f = stopped_by_memory
       by Stack reads writes many failed f =
-          let ran : RanTo (rules_of_machine M) (h.given ++ got) (h.out ++ wrote) new.reading.at_end StackFault = f.fault refl in
+          let ran : RunCompleted (rules_of_machine M) (h.given ++ got) (h.out ++ wrote) new.reading.at_end StackFault = f.fault refl in
           let last : Scan.State = record { written = h.out ++ wrote; place = ran.place; ended = Some StackFault } in
           record {
             turns = h.turns;
-            last = state_of h.out h.stands.start old;
+            last = state_of h.out h.invariant.start old;
             reached = reached;
             going = ap ending_of going;
             tokens = h.tokens_are;
@@ -196,8 +196,8 @@ pub listed_all : (M : Machine) (x : List ℕ) (known : Option (List ℕ)) (ends 
     (h : Listed M x known ends ends' list list' s) → Tokenised (rules_of_machine M) x h.tokens (Status status)
 listed_all M x known ends ends' status list list' s text after over h = record {
   turns = h.turns;
-  last = state_of h.out h.stands.start s;
-  reached = (h.stands.scanned x (text, goes x h.given known ends ends' s.reading.at_end after h.gives)).turns;
+  last = state_of h.out h.invariant.start s;
+  reached = (h.invariant.scanned x (text, goes x h.given known ends ends' s.reading.at_end after h.gives)).turns;
   ends = ap ending_of over;
   tokens = h.tokens_are;
 }

@@ -18,14 +18,14 @@ use Rattle.lexscan_window.specs.declared.state.State.{State}
 use Rattle.lexscan.specs.declared.turn.Turn.{Turn}
 use Rattle.lexscan_window.specs.Acts.{acting_of}
 use Rattle.lexscan_matching.specs.Descends.{conditions_at, ending_of, matches_of, Faulted}
-use Rattle.lexscan.specs.Moves.{is_over, stays, left_at, left_bytes, Says, Matched, Finished}
+use Rattle.lexscan.specs.TurnSteps.{is_over, stays, next_at, next_bytes, TellsEnd, MatchStep, EndStep}
 use Rattle.lexscan_window.specs.Reads.{Took}
 use Rattle.lexscan_matching.specs.Looks.{Looked}
-use Rattle.lexscan.specs.Stands.{state_of, Stands, RanTo}
+use Rattle.lexscan.specs.TurnInvariants.{state_of, TurnInvariant, RunCompleted}
 use Rattle.lexscan.proofs.Outcomes.{some_text}
 use Rattle.lexscan.proofs.Lifting.{seen_here, dead_here, live_here}
 
-left_place : (ended : Option ℕ) (more : Bool) (start len end at : ℕ) → len ≡ end → at ≡ left_at (stays more (is_over ended)) end → next_start (ending_of ended) more start (start + len) + at ≡ start + len
+left_place : (ended : Option ℕ) (more : Bool) (start len end at : ℕ) → len ≡ end → at ≡ next_at (stays more (is_over ended)) end → next_start (ending_of ended) more start (start + len) + at ≡ start + len
 left_place None true start len end at e f = omega arith
 left_place None false start len end at e f = omega arith
 left_place (Some s) true start len end at e f = omega arith
@@ -34,7 +34,7 @@ left_place (Some s) false start len end at e f = omega arith
 dropped : (start len end : ℕ) (g w v : List ℕ) → len ≡ end → drop start g ≡ w → v ≡ drop end w → v ≡ drop (start + len) g
 dropped start len end g w v e win f = f ∙ ap (drop end) (sym win) ∙ drop-drop end start g ∙ ap (λ k. drop (start + k) g) (sym e)
 
-left_held : (ended : Option ℕ) (more : Bool) (start len end : ℕ) (g w v : List ℕ) → len ≡ end → drop start g ≡ w → v ≡ left_bytes (stays more (is_over ended)) end w → v ≡ drop (next_start (ending_of ended) more start (start + len)) g
+left_held : (ended : Option ℕ) (more : Bool) (start len end : ℕ) (g w v : List ℕ) → len ≡ end → drop start g ≡ w → v ≡ next_bytes (stays more (is_over ended)) end w → v ≡ drop (next_start (ending_of ended) more start (start + len)) g
 left_held None true start len end g w v e win f = f ∙ sym win
 left_held None false start len end g w v e win f = dropped start len end g w v e win f
 left_held (Some s) true start len end g w v e win f = dropped start len end g w v e win f
@@ -57,15 +57,15 @@ state_same : (v : List ℕ) (st a b c d : ℕ) (k l : List ℕ) (e f : Option En
 state_same v st a b c d k l e f p q s r = λ i. record { written = v; place = record { start = st; at = p i; condition = q i; stack = s i }; ended = r i }
 
 -- what the turn says
-pub ended_is : (by : Option ℕ) (turn : Turn) (ended : Option ℕ) → Says turn by → ((e : ℕ) → by ≡ Some e → ended ≡ Some e) → (turn ≡ Turn.Went → ended ≡ None) → ended ≡ by
+pub ended_is : (by : Option ℕ) (turn : Turn) (ended : Option ℕ) → TellsEnd turn by → ((e : ℕ) → by ≡ Some e → ended ≡ Some e) → (turn ≡ Turn.Went → ended ≡ None) → ended ≡ by
 ended_is by Turn.Went ended says over went = went refl ∙ sym says
 ended_is by (Turn.Ended s) ended says over went = over s says ∙ sym says
 
 module _ {S K : Type 0} (M : Machine) (laws : MachineLaws M) (gave : S → List ℕ → S → Type 0) (wrote : K → List ℕ → K → Type 0) (s s' : S) (t t' : K) (n : ℕ) (given out : List ℕ) (old new : State) (turn : Turn)
-    (going : old.ended ≡ None) (h : Stands M n given out old) where
+    (going : old.ended ≡ None) (h : TurnInvariant M n given out old) where
   -- a match
-  pub matched_stands : (m : Matched M gave wrote s s' t t' (record old { failed = true }) new turn) → new.ended ≡ m.acted.ended →
-      Stands M (suc n) (given ++ m.took.got) (out ++ m.acted.performed.out) (record new { failed = false })
+  pub matched_stands : (m : MatchStep M gave wrote s s' t t' (record old { failed = true }) new turn) → new.ended ≡ m.acted.ended →
+      TurnInvariant M (suc n) (given ++ m.took.got) (out ++ m.acted.performed.out) (record new { failed = false })
   matched_stands m ended =
       let p : TextPlace = old.place in
       let g : List ℕ = given ++ m.took.got in
@@ -115,8 +115,8 @@ module _ {S K : Type 0} (M : Machine) (laws : MachineLaws M) (gave : S → List 
           (omega (arith, size, longer, k.1, h.covered)))
 
   -- the end action
-  pub finished_stands : (m : Finished M gave wrote s s' t t' (record old { failed = true }) new turn) →
-      Stands M (suc n) (given ++ m.took.got) (out ++ (M.ending old.place.condition).print) (record new { failed = false })
+  pub finished_stands : (m : EndStep M gave wrote s s' t t' (record old { failed = true }) new turn) →
+      TurnInvariant M (suc n) (given ++ m.took.got) (out ++ (M.ending old.place.condition).print) (record new { failed = false })
   finished_stands m =
       let size : length m.mid.window.bytes ≡ length old.reading.window.bytes + length m.took.got = ap length m.took.held ∙ length-append old.reading.window.bytes m.took.got in
       let before : length old.reading.window.bytes ≡ length given - h.start = ap length h.held ∙ length-drop h.start given in
@@ -130,7 +130,7 @@ module _ {S K : Type 0} (M : Machine) (laws : MachineLaws M) (gave : S → List 
         ended = Some (Status (M.ending old.place.condition).status);
       } in
       let zero : h.start + old.place.at + new.place.at ≡ h.start + old.place.at = omega (arith, m.left.at) in
-      subst (λ g. Stands M (suc n) g (out ++ (M.ending old.place.condition).print) (record new { failed = false })) (sym same) (record {
+      subst (λ g. TurnInvariant M (suc n) g (out ++ (M.ending old.place.condition).print) (record new { failed = false })) (sym same) (record {
         works = refl;
         start = h.start + old.place.at;
         scanned = subst (λ e. Scanned (rules_of_machine M) given e (suc n) (state_of (out ++ (M.ending old.place.condition).print) (h.start + old.place.at) new)) (sym (m.left.same.at_end ∙ m.looked.at_end))
@@ -146,7 +146,7 @@ module _ {S K : Type 0} (M : Machine) (laws : MachineLaws M) (gave : S → List 
 
 -- a fault of the stack
 module _ {S K : Type 0} (M : Machine) (laws : MachineLaws M) (gave : S → List ℕ → S → Type 0) (wrote : K → List ℕ → K → Type 0) (s s' : S) (t t' : K) (n : ℕ) (given out : List ℕ) (old new : State)
-    (going : old.ended ≡ None) (h : Stands M n given out old) (took : Took gave s s' old.reading new.reading) where
+    (going : old.ended ≡ None) (h : TurnInvariant M n given out old) (took : Took gave s s' old.reading new.reading) where
   over_fault : drop h.start (given ++ took.got) ≡ new.reading.window.bytes → (path : List ℕ) (looked : Looked M old.place old.reading new.reading path) →
       (ahead : Seen (rules_of_machine M) (given ++ took.got) (record { start = h.start; at = h.start + old.place.at; condition = old.place.condition; stack = old.acting.stack }) looked.reach) →
       ((M.goes_on looked.state ≡ false) × (new.reading.at_end ≡ old.reading.at_end)) ⊎ ((M.goes_on looked.state ≡ true) × (old.place.at + looked.reach ≡ length new.reading.window.bytes) × (new.reading.at_end ≡ true)) →
@@ -169,7 +169,7 @@ module _ {S K : Type 0} (M : Machine) (laws : MachineLaws M) (gave : S → List 
 
   pub faulted_ran : (path : List ℕ) (looked : Looked M old.place old.reading new.reading path) →
       (fault : Faulted M wrote t t' new.reading.window.bytes old.place.at (matches_of M new.reading.window.bytes old.place.at path) (conditions_at old)) →
-      (r : RanTo (rules_of_machine M) (given ++ took.got) (out ++ fault.performed.out) new.reading.at_end StackFault) × (r.turns ≡ suc n)
+      (r : RunCompleted (rules_of_machine M) (given ++ took.got) (out ++ fault.performed.out) new.reading.at_end StackFault) × (r.turns ≡ suc n)
   faulted_ran path looked fault =
       let w : List ℕ = new.reading.window.bytes in
       let win : drop h.start (given ++ took.got) ≡ w = drop-append-le h.start given took.got (omega (arith, h.covered)) ∙ ap (λ z. z ++ took.got) (sym h.held) ∙ sym took.held in
@@ -189,7 +189,7 @@ module _ {S K : Type 0} (M : Machine) (laws : MachineLaws M) (gave : S → List 
       )
 
 -- a turn after the end
-pub stays_ended : (M : Machine) (n status : ℕ) (given out : List ℕ) (s : State) → s.ended ≡ Some status → Stands M n given out s → Stands M (suc n) (given ++ []) (out ++ []) s
+pub stays_ended : (M : Machine) (n status : ℕ) (given out : List ℕ) (s : State) → s.ended ≡ Some status → TurnInvariant M n given out s → TurnInvariant M (suc n) (given ++ []) (out ++ []) s
 stays_ended M n status given out s is h = rw (append-nil given, append-nil out) (record {
   works = h.works;
   start = h.start;
@@ -202,7 +202,7 @@ stays_ended M n status given out s is h = rw (append-nil given, append-nil out) 
 })
 
 -- a scanner that has made no turn
-pub stands_first : (M : Machine) (s : State) → s.failed ≡ false → s.reading.window.bytes ≡ [] → s.reading.taken ≡ 0 → s.reading.at_end ≡ false → s.place.at ≡ 0 → s.place.line_start ≡ true → s.place.condition ≡ 0 → s.acting.stack ≡ [] → s.ended ≡ None → Stands M 0 [] [] s
+pub stands_first : (M : Machine) (s : State) → s.failed ≡ false → s.reading.window.bytes ≡ [] → s.reading.taken ≡ 0 → s.reading.at_end ≡ false → s.place.at ≡ 0 → s.place.line_start ≡ true → s.place.condition ≡ 0 → s.acting.stack ≡ [] → s.ended ≡ None → TurnInvariant M 0 [] [] s
 stands_first M s works held taken reading at line condition stack going =
     let zero : 0 ≡ 0 + s.place.at = omega arith in
     let nil : List ℕ = [] in

@@ -19,10 +19,10 @@ use Rattle.lex_semantics.proofs.Once.{same_order, same_heads}
 use Rattle.lex_semantics.proofs.Local.{settle_same}
 use Rattle.lex_semantics.proofs.Table.{Alike, same_statements, candidate_to, turns_to, table_alike}
 use Rattle.lexscan_window.specs.declared.matched.MatchedRule.{MatchedRule}
-use Rattle.lexscan.specs.Descends.{IsRule}
+use Rattle.lexscan_matching.specs.Descends.{IsRule}
 use Rattle.lexscan.specs.Matches.{CarriesOut}
 use Rattle.lexscan_matching.proofs.Picking.{never_rejects}
-use Rattle.lexscan.specs.declared.tokens.listing.Token.{Token}
+use Rattle.lexscan.specs.declared.token.Token.{Token}
 use Rattle.lexscan.specs.Tokens.{IsToken, Appends, TokensOf, Tokenised}
 
 same_perform : (all : Bool) (R Q : Rules) (alike : Alike all R Q) (kept y : List ℕ) (ms : List Candidate) (out : List ℕ) (d : ℕ) (cs : List ℕ) → perform_results R kept y ms out d cs ≡ perform_results Q kept y ms out d cs

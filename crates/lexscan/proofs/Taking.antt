@@ -8,7 +8,7 @@ use Rattle.lex_semantics.specs.Rules.{Rules}
 use Rattle.lex_semantics.specs.Candidates.{Candidate, Candidates}
 use Rattle.lex_semantics.specs.Acting.{Acting as Outcome}
 use Rattle.lex_semantics.specs.ActionResults.{perform_results}
-use Rattle.lex_semantics.specs.Demand.{Consistent, GoesOnFrom}
+use Rattle.lex_semantics.specs.Demand.{Consistent, ExtendsGiven}
 use Rattle.lex_semantics.specs.Run.{Place}
 use Rattle.lex_semantics.specs.Machine.{Machine, rules_of_machine, state_after}
 use Rattle.lex_semantics.specs.MachineLaws.{MachineLaws}
@@ -24,13 +24,13 @@ use Rattle.lexscan.specs.declared.turn.Turn.{Turn}
 use Rattle.lexscan_window.specs.Acts.{acting_of}
 use Rattle.lexscan_matching.specs.Descends.{conditions_at, outcome, matches_of, ending_of, IsRule, Takes}
 use Rattle.lexscan.specs.Matches.{text_start, match_by, match_in, text_of, kept_before, CarriesOut, TellsMatch}
-use Rattle.lexscan.specs.Moves.{stays, left_bytes, left_at, is_over, Matched, Finished}
-use Rattle.lexscan.specs.Stands.{Stands, state_of}
+use Rattle.lexscan.specs.TurnSteps.{stays, next_bytes, next_at, is_over, MatchStep, EndStep}
+use Rattle.lexscan.specs.TurnInvariants.{TurnInvariant, state_of}
 use Rattle.lexscan_window.specs.Window.{last_of}
 use Rattle.lexscan.proofs.Outcomes.{seen_matches, matches_are, all_seen}
 
 -- an input is the bytes given and a rest
-with_rest : (given : List ℕ) (at_end : Bool) (x : List ℕ) → GoesOnFrom given at_end x → (rest : List ℕ) × (x ≡ given ++ rest) × (at_end ≡ true → rest ≡ [])
+with_rest : (given : List ℕ) (at_end : Bool) (x : List ℕ) → ExtendsGiven given at_end x → (rest : List ℕ) × (x ≡ given ++ rest) × (at_end ≡ true → rest ≡ [])
 with_rest given true x h = ([], h ∙ sym (append-nil given), λ e. refl)
 with_rest given false x h = (h.0, h.1, λ e. absurd (no e))
   where
@@ -46,12 +46,12 @@ tells_by R given at_end p (Some rule) new m o is start long text inside here car
     record { taken = m; outcome = o; carries = carries; rule_is = is; start_is = start; length_is = long; text_is = text; inside = inside; part_is = here }
 
 -- where the text begins, by the bytes that are held after it
-begins_at : (over : Bool) (w held : List ℕ) (n start end at : ℕ) → held ≡ left_bytes over end w → at ≡ left_at over end → start ≤ n → length w ≡ n - start → end ≤ length w → n - length held + at - end ≡ start
+begins_at : (over : Bool) (w held : List ℕ) (n start end at : ℕ) → held ≡ next_bytes over end w → at ≡ next_at over end → start ≤ n → length w ≡ n - start → end ≤ length w → n - length held + at - end ≡ start
 begins_at true w held n start end at is place le size inside = omega (arith, ap length is, place, le, size, inside)
 begins_at false w held n start end at is place le size inside = omega (arith, ap length is, place, le, size, inside, length-drop end w)
 
-module _ {S K : Type 0} (M : Machine) (laws : MachineLaws M) (gave : S → List ℕ → S → Type 0) (wrote : K → List ℕ → K → Type 0) (s s' : S) (t t' : K) (n : ℕ) (given out : List ℕ) (old new : State) (turn : Turn) (h : Stands M n given out old) where
-  pub match_tells : (m : Matched M gave wrote s s' t t' (record old { failed = true }) new turn) →
+module _ {S K : Type 0} (M : Machine) (laws : MachineLaws M) (gave : S → List ℕ → S → Type 0) (wrote : K → List ℕ → K → Type 0) (s s' : S) (t t' : K) (n : ℕ) (given out : List ℕ) (old new : State) (turn : Turn) (h : TurnInvariant M n given out old) where
+  pub match_tells : (m : MatchStep M gave wrote s s' t t' (record old { failed = true }) new turn) →
       TellsMatch (rules_of_machine M) (given ++ m.took.got) new.reading.at_end (state_of out h.start old).place (match_by new.matched new) (text_of (match_by new.matched new) new)
   match_tells m = tells_by R g new.reading.at_end q new.matched new k.taken o k.rule_is start (m.acted.left.end ∙ sym same)
       (ap (λ e. last_of e (kept_before new)) m.acted.left.end ∙ m.acted.left.text) (omega (arith, start, m.acted.left.end, m.acted.inside, ap length win, length-drop h.start g, inside))
@@ -99,8 +99,8 @@ module _ {S K : Type 0} (M : Machine) (laws : MachineLaws M) (gave : S → List 
       start : text_start new ≡ h.start
       start =
           begins_at (stays m.acted.acting.more (is_over m.acted.ended)) w new.reading.window.bytes new.reading.taken h.start new.acting.end new.place.at
-          (m.acted.left.held ∙ ap (λ e. left_bytes (stays m.acted.acting.more (is_over m.acted.ended)) e w) (sym m.acted.left.end))
-          (m.acted.left.at ∙ ap (left_at (stays m.acted.acting.more (is_over m.acted.ended))) (sym m.acted.left.end))
+          (m.acted.left.held ∙ ap (λ e. next_bytes (stays m.acted.acting.more (is_over m.acted.ended)) e w) (sym m.acted.left.end))
+          (m.acted.left.at ∙ ap (next_at (stays m.acted.acting.more (is_over m.acted.ended))) (sym m.acted.left.end))
           (omega (arith, taken_all, longer, h.covered)) (ap length (sym win) ∙ length-drop h.start g ∙ ap (λ z. z - h.start) (sym taken_all)) (omega (arith, m.acted.left.end, m.acted.inside))
 
       here : part g (text_start new) (text_start new + new.acting.end) ≡ o.text
@@ -188,7 +188,7 @@ module _ {S K : Type 0} (M : Machine) (laws : MachineLaws M) (gave : S → List 
               ∙ sym (same_performed R (take p.at w) (drop p.at w) (drop p.at w ++ rest) l [] q.condition q.stack (λ i a. sym (take-append-le i.keep (drop p.at w) rest (keeps i (front i a)))))
 
   -- at the end of the input there is none
-  pub end_tells : (m : Finished M gave wrote s s' t t' (record old { failed = true }) new turn) →
+  pub end_tells : (m : EndStep M gave wrote s s' t t' (record old { failed = true }) new turn) →
       TellsMatch (rules_of_machine M) (given ++ m.took.got) new.reading.at_end (state_of out h.start old).place (match_by new.matched new) (text_of (match_by new.matched new) new)
   end_tells m = subst (λ r. TellsMatch (rules_of_machine M) (given ++ m.took.got) new.reading.at_end (state_of out h.start old).place (match_by r new) (text_of (match_by r new) new)) (sym m.left.matched) here
     where

@@ -12,9 +12,9 @@ use Rattle.lexscan_window.specs.declared.error.RunError.{RunError}
 use Rattle.lexscan.specs.declared.scan.Ends.{Ends}
 use Rattle.lexscan.specs.declared.scan.Scan.{Scan}
 use Rattle.lexscan.specs.declared.turn.Turn.{Turn}
-use Rattle.lexscan.specs.Moves.{Moved}
+use Rattle.lexscan.specs.TurnSteps.{TurnStep}
 use Rattle.lexscan.specs.Ties.{HandedOn}
-use Rattle.lexscan.specs.Turns.{MoveLeft, TurnCounts}
+use Rattle.lexscan.specs.Turns.{StepLeft, TurnCounts}
 use Rattle.lexscan.specs.Scans.{IsGoing, SameEnds, MayTurn, MatchMade, TurnMade}
 use Rattle.lexscan.proofs.Making.{turn_made, turn_refused}
 use Rattle.lexscan.proofs.Ranging as Range
@@ -22,16 +22,16 @@ use Rattle.lexscan.proofs.Settling.{true_moved}
 
 module _ {S K : Type 0} {of_source : Source.Ghosts S} {of_sink : Sink.Ghosts K} (M : Machine) (e e' : Ends S K of_source of_sink) (old new : Scan) where
   -- a match was made, and the marks are true after it
-  pub match_made : (result : Result Turn RunError) → SameEnds e e' → HandedOn (of_sink.flushed (sink_of e'.outlet)) result → Moved M of_source.gave of_sink.wrote (source_of e.intake) (source_of e'.intake) (sink_of e.outlet) (sink_of e'.outlet) old.state new.state result →
-      MoveLeft M (can_read e'.intake) (can_write e'.outlet) old.state new.state result → TurnCounts of_source.ends of_source.failures of_sink.failures (source_of e.intake) (source_of e'.intake) (sink_of e.outlet) (sink_of e'.outlet) old.state.reading new.state.reading result →
+  pub match_made : (result : Result Turn RunError) → SameEnds e e' → HandedOn (of_sink.flushed (sink_of e'.outlet)) result → TurnStep M of_source.gave of_sink.wrote (source_of e.intake) (source_of e'.intake) (sink_of e.outlet) (sink_of e'.outlet) old.state new.state result →
+      StepLeft M (can_read e'.intake) (can_write e'.outlet) old.state new.state result → TurnCounts of_source.ends of_source.failures of_sink.failures (source_of e.intake) (source_of e'.intake) (sink_of e.outlet) (sink_of e'.outlet) old.state.reading new.state.reading result →
       AreTrue M old.state.reading new.memo → MatchMade M e e' old new result
-  match_made result same handed moved left counts marks = record {
+  match_made result same handed turn_step left counts marks = record {
     same = same;
     handed_on = handed;
-    moved = moved;
+    turn_step = turn_step;
     left = left;
     counts = counts;
-    marks = true_moved M of_source.gave of_sink.wrote _ _ _ _ old.state new.state new.memo result moved marks;
+    marks = true_moved M of_source.gave of_sink.wrote _ _ _ _ old.state new.state new.memo result turn_step marks;
   }
 
   -- a turn was made
@@ -39,7 +39,7 @@ module _ {S K : Type 0} {of_source : Source.Ghosts S} {of_sink : Sink.Ghosts K} 
   made laws turn going ready h = record {
     same = h.same;
     handed_on = h.handed_on;
-    goes_on = turn_made M laws of_source.gave of_sink.wrote _ _ _ _ _ _ old.state new.state turn going.working going.going h.moved h.left;
+    goes_on = turn_made M laws of_source.gave of_sink.wrote _ _ _ _ _ _ old.state new.state turn going.working going.going h.turn_step h.left;
     counts = h.counts;
     refused = h.left.refused;
     too_many = λ is. absurd (no is);
@@ -51,7 +51,7 @@ module _ {S K : Type 0} {of_source : Source.Ghosts S} {of_sink : Sink.Ghosts K} 
   }
     where
       below : (new.state.place.condition < M.conditions) × AllBelow M.conditions new.state.acting.stack
-      below = Range.conditions_below M laws of_source.gave of_sink.wrote _ _ _ _ old.state new.state turn h.moved (ready.kept.condition, ready.kept.stack going.working)
+      below = Range.conditions_below M laws of_source.gave of_sink.wrote _ _ _ _ old.state new.state turn h.turn_step (ready.kept.condition, ready.kept.stack going.working)
 
       no : {e : RunError} → ◌≡◌ {A = Result Turn RunError} (Ok turn) (Err e) → ⊥
       no p = cc
@@ -61,7 +61,7 @@ module _ {S K : Type 0} {of_source : Source.Ghosts S} {of_sink : Sink.Ghosts K} 
   refused laws error going ready h = record {
     same = h.same;
     handed_on = h.handed_on;
-    goes_on = turn_refused M laws of_source.gave of_sink.wrote _ _ _ _ _ _ old.state new.state error going.going h.moved h.left;
+    goes_on = turn_refused M laws of_source.gave of_sink.wrote _ _ _ _ _ _ old.state new.state error going.going h.turn_step h.left;
     counts = h.counts;
     refused = h.left.refused;
     too_many = grind (arith, common_steps);

@@ -9,14 +9,14 @@ use Rattle.lexscan_window.specs.declared.error.RunError.TheVariants.{Read, TooMa
 use Rattle.lexscan_window.specs.Reads.{Took}
 use Rattle.lexscan_matching.specs.Looks.{Unmet}
 use Rattle.lexscan.specs.Ties.{HandedOnAfter}
-use Rattle.lexscan.specs.Moves.{Why, StackFaulted, Moved}
+use Rattle.lexscan.specs.TurnSteps.{RefusalCause, StackFaulted, TurnStep}
 
 module _ {S K : Type 0} (M : Machine) (gave : S → List ℕ → S → Type 0) (wrote : K → List ℕ → K → Type 0) (s s' : S) (t u t' : K) (old new : State)
     (more : (a b c : K) (xs ys : List ℕ) → wrote a xs b → wrote b ys c → wrote a (xs ++ ys) c) (flushed : wrote t [] u) where
   on : (ys : List ℕ) → wrote u ys t' → wrote t ys t'
   on ys w = more t u t' [] ys flushed w
 
-  why_on : Why M wrote u t' old new → Why M wrote t t' old new
+  why_on : RefusalCause M wrote u t' old new → RefusalCause M wrote t t' old new
   why_on (inl h) = inl (h.0, on [] h.1)
   why_on (inr (inl h)) = inr (inl (h.0, h.1, record { out = h.2.out; sink = on h.2.out h.2.sink; front = h.2.front }))
   why_on (inr (inr h)) = inr (inr (h.0, h.1, h.2, on h.1 h.3))
@@ -29,7 +29,7 @@ module _ {S K : Type 0} (M : Machine) (gave : S → List ℕ → S → Type 0) (
         record { acting = f.acting; performed = record { out = f.performed.out; sink = on f.performed.out f.performed.sink; acts = f.performed.acts }; inside = f.inside },
       )
 
-  pub tied_moved : (r : Result Turn RunError) → Moved M gave wrote s s' u t' old new r → Moved M gave wrote s s' t t' old new r
+  pub tied_moved : (r : Result Turn RunError) → TurnStep M gave wrote s s' u t' old new r → TurnStep M gave wrote s s' t t' old new r
   tied_moved (Ok turn) (inl m) =
       let a = m.acted in
       let p = a.performed in
@@ -61,7 +61,7 @@ module _ {S K : Type 0} (M : Machine) (gave : S → List ℕ → S → Type 0) (
 
 -- no byte was had, or no memory, or what was written could not be handed on: nothing was put
 pub stopped : {S K : Type 0} (M : Machine) (gave : S → List ℕ → S → Type 0) (wrote : K → List ℕ → K → Type 0) (s s' : S) (t t' : K) (old new : State) → Took gave s s' old.reading new.reading → new.place ≡ old.place →
-    Unmet M old.place old.reading new.reading → wrote t [] t' → (e : RunError) → (e ≡ Stack → ⊥) → Moved M gave wrote s s' t t' old new (Err e)
+    Unmet M old.place old.reading new.reading → wrote t [] t' → (e : RunError) → (e ≡ Stack → ⊥) → TurnStep M gave wrote s s' t t' old new (Err e)
 stopped M gave wrote s s' t t' old new took place unmet none e other = record {
   took = took;
   place = place;

@@ -11,15 +11,15 @@ use Rattle.lexscan_window.specs.declared.error.RunError.TheVariants.{Read, TooMa
 use Rattle.lexscan.specs.declared.scan.Ends.{Ends}
 use Rattle.lexscan.specs.declared.scan.Scan.{Scan}
 use Rattle.lexscan.specs.declared.turn.Turn.{Turn}
-use Rattle.lexscan.specs.Pushes.{Attempts, HandedOnIfMade, Standing, IsAsking}
-use Rattle.lexscan.specs.Scans.{IsGoing, Invariant, SameEnds, MayTurn}
+use Rattle.lexscan.specs.Pushes.{Attempts, HandedOnIfMade, IsReachable, IsAsking}
+use Rattle.lexscan.specs.Scans.{IsGoing, ScanInvariant, SameEnds, MayTurn}
 
 -- Some turns led here, the scan has neither failed nor ended, and its source has not answered its end.
 pub record IsPaused (M : Machine) (s : Scan) : Type 0 where
   pub going : IsGoing s
   pub reading : s.state.reading.at_end ≡ false
-  pub kept : Invariant M s
-  pub stood : Standing M s.state
+  pub kept : ScanInvariant M s
+  pub reachable : IsReachable M s.state
 
 -- The counts of both ends have room for one more.
 pub record FewCounts {S K : Type 0} (ends_of reads_of : S → ℕ) (writes_of : K → ℕ) (s : S) (t : K) : Type 0 where
@@ -46,7 +46,7 @@ module _ {S K : Type 0} {of_source : Source.Ghosts S} {of_sink : Sink.Ghosts K} 
     pub too_many : IsErrOf result TooManyReads → ⊥
     pub refused : IsErrOf result Failed → ⊥
     pub next : MayGoOn M e' new result
-    pub kept : Invariant M new
+    pub kept : ScanInvariant M new
 
 -- What several turns add to the counts of the two ends, where the source had not answered its end.
 pub record TurnsCount {S K : Type 0} (ends_of reads_of : S → ℕ) (writes_of : K → ℕ) (s s' : S) (t t' : K) (new : State) (result : Result Turn RunError) : Type 0 where
@@ -60,7 +60,7 @@ pub record TurnsLeft (M : Machine) (old new : Scan) (result : Result Turn RunErr
   pub too_many : IsErrOf result TooManyReads → ⊥
   pub refused : IsErrOf result Failed → ⊥
   pub failed : OnErr result (new.state.failed ≡ true)
-  pub kept : Invariant M new
+  pub kept : ScanInvariant M new
 
 -- What turns over a piece, or over all that waited, leave of the sink; no source can be at fault there.
 pub record SinkCounts {K A : Type 0} (writes_of : K → ℕ) (t t' : K) (result : Result A RunError) : Type 0 where
@@ -72,8 +72,8 @@ pub record SinkCounts {K A : Type 0} (writes_of : K → ℕ) (t t' : K) (result 
 -- The scan is kept so that the next piece may be fed, or it has failed.
 pub record MayBeFed {A : Type 0} (M : Machine) (s : Scan) (result : Result A RunError) : Type 0 where
   pub failed : OnErr result (s.state.failed ≡ true)
-  pub kept : Invariant M s
-  pub stood : s.state.failed ≡ false → Standing M s.state
+  pub kept : ScanInvariant M s
+  pub reachable : s.state.failed ≡ false → IsReachable M s.state
 
 -- The same after a piece, with the bytes that wait and the state after all of them, where the next match asks for more.
 pub record PieceLeft (M : Machine) (states : ℕ) (s : Scan) (waiting : List ℕ) (asking : Option ℕ) (result : Result Turn RunError) : Type 0 where

@@ -9,13 +9,13 @@ use Rattle.lexscan_window.specs.declared.state.State.{State}
 use Rattle.lexscan_window.specs.declared.error.RunError.{RunError}
 use Rattle.lexscan_window.specs.declared.error.RunError.TheVariants.{Write}
 use Rattle.lexscan.specs.declared.burst.Burst.{Burst}
-use Rattle.lexscan.specs.Stands.{Stands, Fell}
+use Rattle.lexscan.specs.TurnInvariants.{TurnInvariant, AfterRefusal}
 
 -- whether a line starts after so many bytes of a text, where one starts at its front or not (flex, Patterns: `^`)
 abbrev pub starts_line : Bool → List ℕ → ℕ → Bool
 starts_line line text count = if count == 0 then line else get_or text (count - 1) 0 == 10
 
--- A state that stands between two turns, with these bytes held and so many taken.
+-- A state between two turns, with these bytes held and so many taken.
 pub record Between (v : State) (bytes : List ℕ) (taken condition : ℕ) (line : Bool) (stack : List ℕ) : Type 0 where
   pub bytes_are : v.reading.window.bytes ≡ bytes
   pub taken_is : v.reading.taken ≡ taken
@@ -26,9 +26,9 @@ pub record Between (v : State) (bytes : List ℕ) (taken condition : ℕ) (line 
   pub stack_is : v.acting.stack ≡ stack
   pub going : v.ended ≡ None
 
--- Each such state that has not failed stands so after n turns.
-abbrev pub AllStand : Machine → ℕ → List ℕ → List ℕ → List ℕ → ℕ → ℕ → Bool → List ℕ → Type 0
-AllStand M n given out bytes taken condition line stack = (v : State) → Between v bytes taken condition line stack → v.failed ≡ false → Stands M n given out v
+-- The invariant after n turns holds of each such state that has not failed.
+abbrev pub AllInvariant : Machine → ℕ → List ℕ → List ℕ → List ℕ → ℕ → ℕ → Bool → List ℕ → Type 0
+AllInvariant M n given out bytes taken condition line stack = (v : State) → Between v bytes taken condition line stack → v.failed ≡ false → TurnInvariant M n given out v
 
 -- Some turns over a text, of which the first bytes are held: they were told from its first byte up to that at `done`, and asked for those
 -- up to `asked`.
@@ -36,24 +36,24 @@ pub record TurnsMade {K : Type 0} (M : Machine) (wrote : K → List ℕ → K �
   pub turns : ℕ
   pub out : List ℕ
   pub sink : wrote t out u
-  pub stand : (n : ℕ) (given before : List ℕ) (taken : ℕ) (stack : List ℕ) → AllStand M n given before (take held text) taken condition line stack →
-      AllStand M (turns + n) (given ++ drop held (take asked text)) (before ++ out) (drop done (take asked text)) (taken + (asked - held)) condition' line' stack
+  pub stand : (n : ℕ) (given before : List ℕ) (taken : ℕ) (stack : List ℕ) → AllInvariant M n given before (take held text) taken condition line stack →
+      AllInvariant M (turns + n) (given ++ drop held (take asked text)) (before ++ out) (drop done (take asked text)) (taken + (asked - held)) condition' line' stack
 
--- The turn after some others was refused, since the sink failed.
-pub record Broke {K : Type 0} (M : Machine) (wrote : K → List ℕ → K → Type 0) (t u : K) (text : List ℕ) (held condition : ℕ) (line : Bool) (done asked condition' : ℕ) (line' : Bool) : Type 0 where
+-- The burst was stopped: the turn after some others was refused, since the sink failed.
+pub record BurstStopped {K : Type 0} (M : Machine) (wrote : K → List ℕ → K → Type 0) (t u : K) (text : List ℕ) (held condition : ℕ) (line : Bool) (done asked condition' : ℕ) (line' : Bool) : Type 0 where
   pub turns : ℕ
   pub out : List ℕ
   pub sink : wrote t out u
   pub before : ℕ
   pub few : held ≤ before
   pub more : before ≤ asked
-  pub fell : (n : ℕ) (given had : List ℕ) (taken : ℕ) (stack : List ℕ) → AllStand M n given had (take held text) taken condition line stack →
+  pub refusal : (n : ℕ) (given had : List ℕ) (taken : ℕ) (stack : List ℕ) → AllInvariant M n given had (take held text) taken condition line stack →
       (v : State) → Between v (drop done (take asked text)) (taken + (asked - held)) condition' line' stack → v.failed ≡ true →
-      Fell M (turns + n) (given ++ drop held (take before text)) (drop before (take asked text)) (had ++ out) v Write
+      AfterRefusal M (turns + n) (given ++ drop held (take before text)) (drop before (take asked text)) (had ++ out) v Write
 
 abbrev pub BurstsBy : {K : Type 0} → Bool → Machine → (K → List ℕ → K → Type 0) → K → K → List ℕ → ℕ → ℕ → Bool → Burst → Type 0
 BurstsBy false M wrote t u text held condition line b = TurnsMade M wrote t u text held condition line b.done b.asked b.condition b.line_start
-BurstsBy true M wrote t u text held condition line b = Broke M wrote t u text held condition line b.done b.asked b.condition b.line_start
+BurstsBy true M wrote t u text held condition line b = BurstStopped M wrote t u text held condition line b.done b.asked b.condition b.line_start
 
 abbrev pub fault_of : Bool → ℕ
 fault_of true = 1
@@ -84,11 +84,11 @@ pub record Advanced (b : Burst) (got : ℕ) (old new : State) : Type 0 where
   pub ended : new.ended ≡ old.ended
   pub failed : new.failed ≡ old.failed
 
--- What several turns do: where the facts hold for n turns and two lists, they hold for some more and the lists with their bytes
--- appended; or the next turn after some was refused.
-abbrev pub GoesFurther : Machine → State → State → List ℕ → List ℕ → Result ℕ RunError → Type 0
-GoesFurther M old new got wrote (Ok count) = (turns : ℕ) × ((n : ℕ) (given out : List ℕ) → Stands M n given out old → Stands M (turns + n) (given ++ got) (out ++ wrote) new)
-GoesFurther M old new got wrote (Err e) = (turns : ℕ) × (had more : List ℕ) × (got ≡ had ++ more) × ((n : ℕ) (given out : List ℕ) → Stands M n given out old → Fell M (turns + n) (given ++ had) more (out ++ wrote) new e)
+-- Several turns preserve the invariant: where it holds after n turns, it holds after some more, with their bytes appended; or the
+-- turn after some of them was refused.
+abbrev pub BurstPreserves : Machine → State → State → List ℕ → List ℕ → Result ℕ RunError → Type 0
+BurstPreserves M old new got wrote (Ok count) = (turns : ℕ) × ((n : ℕ) (given out : List ℕ) → TurnInvariant M n given out old → TurnInvariant M (turns + n) (given ++ got) (out ++ wrote) new)
+BurstPreserves M old new got wrote (Err e) = (turns : ℕ) × (had more : List ℕ) × (got ≡ had ++ more) × ((n : ℕ) (given out : List ℕ) → TurnInvariant M n given out old → AfterRefusal M (turns + n) (given ++ had) more (out ++ wrote) new e)
 
 -- The text starts no earlier, nor does the match.
 pub record NoEarlier (old new : State) : Type 0 where

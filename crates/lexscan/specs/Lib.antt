@@ -8,9 +8,9 @@ pub use Rattle.lexscan_window.specs.Memos
 pub use Rattle.lexscan_matching.specs.Descends
 pub use Rattle.lexscan_matching.specs.Fronts
 pub mod Matches
-pub mod Moves
+pub mod TurnSteps
 pub mod Stacks
-pub mod Stands
+pub mod TurnInvariants
 pub mod Runs
 pub mod Bursts
 pub mod Turns
@@ -21,5 +21,3 @@ pub mod Attempts
 pub mod Steps
 pub mod Scans
 pub mod Tokens
-pub mod Discards
-pub mod Inputs

@@ -14,21 +14,21 @@ use Rattle.lexscan_window.specs.declared.state.TextPlace.{TextPlace}
 use Rattle.lexscan.specs.declared.turn.Turn.{Turn}
 use Rattle.lexscan_window.specs.declared.error.RunError.{RunError}
 use Rattle.lexscan_window.specs.declared.error.RunError.TheVariants.{Stack}
-use Rattle.lexscan.specs.Stands.{Stands, Fell, GoesOn, NoneAfterEnd}
+use Rattle.lexscan.specs.TurnInvariants.{TurnInvariant, AfterRefusal, TurnPreserves, NoneAfterEnd}
 use Rattle.lexscan.specs.Ties.{HandedOn}
 
 -- Over these bytes the turn after n asks for the end: they do not decide it.
 abbrev pub AsksForMore : Rules → ℕ → List ℕ → Type 0
 AsksForMore R n x = (t : Scan.State) (far : ℕ) (asked : Bool) → AfterTurns R x (suc n) t far asked → asked ≡ true
 
--- The next turn asks for more than these bytes, which are all that may be read; and the scan stands as before it.
+-- The next turn asks for more than these bytes, which are all that may be read; and the invariant holds as before it.
 abbrev pub StaysBefore : Machine → State → State → List ℕ → Type 0
-StaysBefore M old new got = (n : ℕ) (given out : List ℕ) → Stands M n given out old → Stands M n given out new × AsksForMore (rules_of_machine M) n (given ++ got) × (length (given ++ got) ≡ old.reading.max_reads)
+StaysBefore M old new got = (n : ℕ) (given out : List ℕ) → TurnInvariant M n given out old → TurnInvariant M n given out new × AsksForMore (rules_of_machine M) n (given ++ got) × (length (given ++ got) ≡ old.reading.max_reads)
 
 abbrev pub AttemptsTo : Machine → State → State → List ℕ → List ℕ → Result (Option Turn) RunError → Type 0
-AttemptsTo M old new got put (Ok (Some turn)) = GoesOn M old new got put (Ok turn)
+AttemptsTo M old new got put (Ok (Some turn)) = TurnPreserves M old new got put (Ok turn)
 AttemptsTo M old new got put (Ok None) = (put ≡ []) × (new.ended ≡ None) × (new.reading.at_end ≡ false) × (new.reading.taken ≡ old.reading.taken) × StaysBefore M old new got
-AttemptsTo M old new got put (Err e) = GoesOn M old new got put (Err e)
+AttemptsTo M old new got put (Err e) = TurnPreserves M old new got put (Err e)
 
 -- The source gave some bytes in a turn, or before it was given up, and the sink was given some.
 abbrev pub Attempts : {S K : Type 0} → Machine → (S → List ℕ → S → Type 0) → (K → List ℕ → K → Type 0) → S → S → K → K → State → State → Result (Option Turn) RunError → Type 0
@@ -51,13 +51,13 @@ HandedOnIfMade flushed (Ok (Some turn)) = HandedOn flushed (Ok turn)
 HandedOnIfMade flushed (Ok None) = ⊤
 HandedOnIfMade flushed (Err e) = HandedOn flushed (Err e)
 
--- Some turns led here. It is said as a denial, so that a type may keep it.
-abbrev pub Standing : Machine → State → Type 0
-Standing M s = ((n : ℕ) (given out : List ℕ) → Stands M n given out s → ⊥) → ⊥
+-- The state is reachable: some turns led here. It is said as a denial, so that a type may keep it.
+abbrev pub IsReachable : Machine → State → Type 0
+IsReachable M s = ((n : ℕ) (given out : List ℕ) → TurnInvariant M n given out s → ⊥) → ⊥
 
 -- Some turns were made over the bytes that the source gave.
 abbrev pub MadeTurns : Machine → State → State → ℕ → List ℕ → List ℕ → Type 0
-MadeTurns M old new turns got put = (n : ℕ) (given out : List ℕ) → Stands M n given out old → Stands M (turns + n) (given ++ got) (out ++ put) new
+MadeTurns M old new turns got put = (n : ℕ) (given out : List ℕ) → TurnInvariant M n given out old → TurnInvariant M (turns + n) (given ++ got) (out ++ put) new
 
 -- Some turns were made, and the next one asks for more than the source has.
 pub record Pauses {S : Type 0} (M : Machine) (gave : S → List ℕ → S → Type 0) (mid s' : S) (old new : State) (got put : List ℕ) : Type 0 where
@@ -67,13 +67,13 @@ pub record Pauses {S : Type 0} (M : Machine) (gave : S → List ℕ → S → Ty
   pub going : new.ended ≡ None
   pub at_end : new.reading.at_end ≡ false
   pub made : MadeTurns M old new turns got put
-  pub asks : (n : ℕ) (given out : List ℕ) → Stands M n given out old → AsksForMore (rules_of_machine M) (turns + n) ((given ++ got) ++ more) × (length ((given ++ got) ++ more) ≡ old.reading.max_reads)
+  pub asks : (n : ℕ) (given out : List ℕ) → TurnInvariant M n given out old → AsksForMore (rules_of_machine M) (turns + n) ((given ++ got) ++ more) × (length ((given ++ got) ++ more) ≡ old.reading.max_reads)
 
 -- What several turns do: they end the scan, or one asks for more than the source has, or one is refused.
 abbrev pub TurnsTo : {S : Type 0} → Machine → (S → List ℕ → S → Type 0) → S → S → State → State → List ℕ → List ℕ → Result Turn RunError → Type 0
 TurnsTo M gave mid s' old new got put (Ok Turn.Went) = Pauses M gave mid s' old new got put
 TurnsTo M gave mid s' old new got put (Ok (Turn.Ended status)) = (turns : ℕ) × (mid ≡ s') × (new.ended ≡ Some status) × MadeTurns M old new turns got put
-TurnsTo M gave mid s' old new got put (Err e) = (turns : ℕ) × (mid ≡ s') × (had more : List ℕ) × (got ≡ had ++ more) × ((n : ℕ) (given out : List ℕ) → Stands M n given out old → Fell M (turns + n) (given ++ had) more (out ++ put) new e)
+TurnsTo M gave mid s' old new got put (Err e) = (turns : ℕ) × (mid ≡ s') × (had more : List ℕ) × (got ≡ had ++ more) × ((n : ℕ) (given out : List ℕ) → TurnInvariant M n given out old → AfterRefusal M (turns + n) (given ++ had) more (out ++ put) new e)
 
 abbrev pub TurnsOver : {S K : Type 0} → Machine → (S → List ℕ → S → Type 0) → (K → List ℕ → K → Type 0) → S → S → K → K → State → State → Result Turn RunError → Type 0
 TurnsOver {S} M gave wrote s s' t t' old new result =
@@ -84,7 +84,7 @@ pub record Fed (M : Machine) (fed out : List ℕ) (s : State) (waiting : List �
   pub turns : ℕ
   pub given : List ℕ
   pub left : List ℕ
-  pub stands : Stands M turns given out s
+  pub invariant : TurnInvariant M turns given out s
   pub reading : s.reading.at_end ≡ false
   pub all : fed ≡ given ++ left
   pub waits : s.ended ≡ None → left ≡ waiting
@@ -109,21 +109,21 @@ AfterFinish R fed out (Ok status) = IsText fed → Run R fed out (Status status)
 AfterFinish R fed out (Err e) = IsText fed → ((w : List ℕ) (ending : Ending) → Run R fed w ending → BeginsWith w out) × (e ≡ Stack → Run R fed out StackFault)
 
 -- There is one proof at most of a denial.
-pub Standing-prop : (M : Machine) (s : State) → IsProp (Standing M s)
-Standing-prop M s = λ x y. λ k. λ h. (let p : IsProp ⊥ = Prim.hlevel props in p) (x h) (y h) k
+pub IsReachable-prop : (M : Machine) (s : State) → IsProp (IsReachable M s)
+IsReachable-prop M s = λ x y. λ k. λ h. (let p : IsProp ⊥ = Prim.hlevel props in p) (x h) (y h) k
 
 -- The machine goes on after each of these bytes, and is in this state after them.
-abbrev pub GoesOnOver : Machine → ℕ → List ℕ → ℕ → Type 0
-GoesOnOver M first bytes last = (last ≡ walk M first bytes) × ((i : ℕ) → 1 ≤ i → i ≤ length bytes → M.goes_on (walk M first (take i bytes)) ≡ true)
+abbrev pub WalkStaysLive : Machine → ℕ → List ℕ → ℕ → Type 0
+WalkStaysLive M first bytes last = (last ≡ walk M first bytes) × ((i : ℕ) → 1 ≤ i → i ≤ length bytes → M.goes_on (walk M first (take i bytes)) ≡ true)
 
 abbrev pub WalksOn : Machine → Option ℕ → List ℕ → ℕ → Type 0
 WalksOn M None bytes last = ⊥
-WalksOn M (Some first) bytes last = GoesOnOver M first bytes last
+WalksOn M (Some first) bytes last = WalkStaysLive M first bytes last
 
 -- The next match asks for all the bytes that are held and all that wait, and for one more: the state after them, if it is told.
 abbrev pub IsAsking : Machine → ℕ → State → List ℕ → Option ℕ → Type 0
 IsAsking M states s waiting None = ⊤
-IsAsking M states s waiting (Some last) = (last < states) × GoesOnOver M (M.start s.place.condition s.place.line_start) (drop s.place.at (s.reading.window.bytes ++ waiting)) last
+IsAsking M states s waiting (Some last) = (last < states) × WalkStaysLive M (M.start s.place.condition s.place.line_start) (drop s.place.at (s.reading.window.bytes ++ waiting)) last
 
 -- There is one proof of it at most.
 pub IsAsking-prop : (M : Machine) (states : ℕ) (s : State) (waiting : List ℕ) (asking : Option ℕ) → IsProp (IsAsking M states s waiting asking)

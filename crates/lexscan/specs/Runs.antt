@@ -7,7 +7,7 @@ use Rattle.lexscan_window.specs.declared.state.State.{State}
 use Rattle.lexscan_window.specs.declared.error.RunError.{RunError}
 use Rattle.lexscan_window.specs.declared.error.RunError.TheVariants.{TooManyReads, Stack, Failed}
 use Rattle.lexscan_window.specs.Reads.{read_fault_count, write_fault_count}
-use Rattle.lexscan.specs.Stands.{Stands, GaveUp, RanTo}
+use Rattle.lexscan.specs.TurnInvariants.{TurnInvariant, RefusedTurn, RunCompleted}
 
 -- After some turns these bytes were given and written.
 pub record Running {S K : Type 0} (M : Machine) (gave : S → List ℕ → S → Type 0) (wrote : K → List ℕ → K → Type 0) (s s' : S) (t t' : K) (now : State) : Type 0 where
@@ -16,22 +16,22 @@ pub record Running {S K : Type 0} (M : Machine) (gave : S → List ℕ → S →
   pub out : List ℕ
   pub source : gave s given s'
   pub sink : wrote t out t'
-  pub stands : Stands M turns given out now
+  pub invariant : TurnInvariant M turns given out now
 
--- A turn was refused: what was written is a front of what the run of each consistent input writes; where the stack was at
+-- The run was stopped by a refused turn: what was written is a front of what the run of each consistent input writes; where the stack was at
 -- fault, it is all of it, and the run ends so.
-pub record RanInto (R : Rules) (given out : List ℕ) (at_end : Bool) (max_reads : ℕ) (e : RunError) : Type 0 where
+pub record RunStopped (R : Rules) (given out : List ℕ) (at_end : Bool) (max_reads : ℕ) (e : RunError) : Type 0 where
   pub turns : ℕ
   pub had : List ℕ
   pub got : List ℕ
   pub all : given ≡ had ++ got
-  pub gave_up : GaveUp R turns had got out at_end e
+  pub refused_turn : RefusedTurn R turns had got out at_end e
   pub too_many : e ≡ TooManyReads → (length given ≡ max_reads) × (at_end ≡ false)
-  pub fault : e ≡ Stack → RanTo R given out at_end StackFault
+  pub fault : e ≡ Stack → RunCompleted R given out at_end StackFault
 
 abbrev pub Ran : Rules → List ℕ → List ℕ → Bool → ℕ → Result ℕ RunError → Type 0
-Ran R given out at_end max_reads (Ok status) = RanTo R given out at_end (Status status)
-Ran R given out at_end max_reads (Err e) = RanInto R given out at_end max_reads e
+Ran R given out at_end max_reads (Ok status) = RunCompleted R given out at_end (Status status)
+Ran R given out at_end max_reads (Err e) = RunStopped R given out at_end max_reads e
 
 -- The bytes given, the answers of the end and the failed reads are together no more than this.
 abbrev pub FewReads : {S : Type 0} → (S → ℕ) → (S → ℕ) → S → S → List ℕ → ℕ → Type 0

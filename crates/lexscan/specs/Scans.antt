@@ -12,11 +12,11 @@ use Rattle.lexscan_window.specs.Memos.{AreTrue}
 use Rattle.lexscan_window.specs.Reads.{write_fault_count}
 use Rattle.lexscan_window.specs.declared.error.RunError.TheVariants.{TooManyReads, Write, Failed}
 use Rattle.lexscan_window.specs.declared.error.RunError.{RunError}
-use Rattle.lexscan.specs.Moves.{Moved}
-use Rattle.lexscan.specs.Stands.{Stands, MakesTurn, NoneAfterEnd}
+use Rattle.lexscan.specs.TurnSteps.{TurnStep}
+use Rattle.lexscan.specs.TurnInvariants.{TurnInvariant, MakesTurn, NoneAfterEnd}
 use Rattle.lexscan.specs.Runs.{Ran, FewReads, RunCounts}
-use Rattle.lexscan.specs.Bursts.{GoesFurther, NoEarlier}
-use Rattle.lexscan.specs.Turns.{MoveLeft, TurnCounts}
+use Rattle.lexscan.specs.Bursts.{BurstPreserves, NoEarlier}
+use Rattle.lexscan.specs.Turns.{StepLeft, TurnCounts}
 use Rattle.lexscan.specs.Ties.{HandedOn, RunHandedOn}
 
 -- The scan has neither failed nor ended.
@@ -24,8 +24,8 @@ pub record IsGoing (s : Scan) : Type 0 where
   pub working : s.state.failed ≡ false
   pub going : s.state.ended ≡ None
 
--- What holds between two turns: the conditions are in range, the place of the next match is among the bytes held, and the marks are true.
-pub record Invariant (M : Machine) (s : Scan) : Type 0 where
+-- What a scan keeps between two turns, whatever was read: the conditions are in range, the place of the next match is among the bytes held, and the marks are true.
+pub record ScanInvariant (M : Machine) (s : Scan) : Type 0 where
   pub condition : s.state.place.condition < M.conditions
   pub inside : s.state.place.at ≤ length s.state.reading.window.bytes
   pub stack : s.state.failed ≡ false → AllBelow M.conditions s.state.acting.stack
@@ -41,15 +41,15 @@ module _ {S K : Type 0} {of_source : Source.Ghosts S} {of_sink : Sink.Ghosts K} 
   pub record MayTurn (M : Machine) (e : Ends S K of_source of_sink) (s : Scan) : Type 0 where
     pub may_read : s.state.failed ≡ false → s.state.ended ≡ None → s.state.reading.at_end ≡ false → can_read e.intake ≡ true
     pub may_write : s.state.failed ≡ false → can_write e.outlet ≡ true
-    pub kept : Invariant M s
+    pub kept : ScanInvariant M s
 
   -- A match was looked for and carried out, or the end action was, or the turn is refused: what it did to the scan, to its ends
   -- and to their counts.
   pub record MatchMade (M : Machine) (e e' : Ends S K of_source of_sink) (old new : Scan) (result : Result Turn RunError) : Type 0 where
     pub same : SameEnds e e'
     pub handed_on : HandedOn (of_sink.flushed (sink_of e'.outlet)) result
-    pub moved : Moved M of_source.gave of_sink.wrote (source_of e.intake) (source_of e'.intake) (sink_of e.outlet) (sink_of e'.outlet) old.state new.state result
-    pub left : MoveLeft M (can_read e'.intake) (can_write e'.outlet) old.state new.state result
+    pub turn_step : TurnStep M of_source.gave of_sink.wrote (source_of e.intake) (source_of e'.intake) (sink_of e.outlet) (sink_of e'.outlet) old.state new.state result
+    pub left : StepLeft M (can_read e'.intake) (can_write e'.outlet) old.state new.state result
     pub counts : TurnCounts of_source.ends of_source.failures of_sink.failures (source_of e.intake) (source_of e'.intake) (sink_of e.outlet) (sink_of e'.outlet) old.state.reading new.state.reading result
     pub marks : OnOk result (AreTrue M new.state.reading new.memo)
 
@@ -80,7 +80,7 @@ module _ {S K : Type 0} {of_source : Source.Ghosts S} {of_sink : Sink.Ghosts K} 
   pub record WentFurther (M : Machine) (e e' : Ends S K of_source of_sink) (old new : Scan) (result : Result ℕ RunError) : Type 0 where
     pub same : SameEnds e e'
     pub goes_on : (got : List ℕ) × (wrote : List ℕ) × of_source.gave (source_of e.intake) got (source_of e'.intake) × of_sink.wrote (sink_of e.outlet) wrote (sink_of e'.outlet)
-        × NoneAfterEnd old.state new.state got × GoesFurther M old.state new.state got wrote result
+        × NoneAfterEnd old.state new.state got × BurstPreserves M old.state new.state got wrote result
     pub ends : of_source.ends (source_of e'.intake) ≡ of_source.ends (source_of e.intake)
     pub read_faults : of_source.failures (source_of e'.intake) ≡ of_source.failures (source_of e.intake)
     pub write_faults : of_sink.failures (sink_of e'.outlet) ≡ of_sink.failures (sink_of e.outlet) + write_fault_count result
@@ -94,7 +94,7 @@ module _ {S K : Type 0} {of_source : Source.Ghosts S} {of_sink : Sink.Ghosts K} 
 
   -- A scan that has made no turn.
   pub record IsFresh (M : Machine) (e : Ends S K of_source of_sink) (s : Scan) : Type 0 where
-    pub start : Stands M 0 [] [] s.state
+    pub start : TurnInvariant M 0 [] [] s.state
     pub going : s.state.ended ≡ None
     pub reading : s.state.reading.at_end ≡ false
     pub next : MayTurn M e s

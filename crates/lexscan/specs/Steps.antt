@@ -11,7 +11,7 @@ use Rattle.lexscan_window.specs.Ends.{SinkLeft}
 use Rattle.lexscan_window.specs.Intakes.{sink_of, sink_name, can_write}
 use Rattle.lexscan_matching.specs.Descends.{conditions_at}
 use Rattle.lexscan.specs.declared.turn.Turn.{Turn}
-use Rattle.lexscan.specs.Moves.{EndLeft, EndsTurn, MatchLeft}
+use Rattle.lexscan.specs.TurnSteps.{EndLeft, EndsTurn, MatchLeft}
 use Rattle.lexscan.specs.Ties.{HandedOn}
 
 module _ {K : Type 0} {of_sink : Sink.Ghosts K} where

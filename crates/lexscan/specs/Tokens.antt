@@ -9,9 +9,9 @@ use Rattle.lex_semantics.specs.Run.{Place, State, Turns}
 use Rattle.lexscan_window.specs.declared.matched.Match.{Match}
 use Rattle.lexscan_window.specs.declared.error.RunError.{RunError}
 use Rattle.lexscan_window.specs.declared.error.RunError.TheVariants.{OutOfMemory, Stack}
-use Rattle.lexscan.specs.Descends.{IsRule}
+use Rattle.lexscan_matching.specs.Descends.{IsRule}
 use Rattle.lexscan.specs.Matches.{CarriesOut}
-use Rattle.lexscan.specs.declared.tokens.listing.Token.{Token}
+use Rattle.lexscan.specs.declared.token.Token.{Token}
 
 -- the token that a match is
 abbrev pub token_by : Match → ℕ → Token

@@ -20,8 +20,8 @@ pub record TurnCounts {S K : Type 0} (ends_of reads_of : S → ℕ) (writes_of :
   pub max_reads : new.max_reads ≡ old.max_reads
   pub few_reads : new.taken + bit_of new.at_end + read_fault_count result ≤ new.max_reads
 
--- What one match or the end action leaves, before a refusal is told.
-pub record MoveLeft (M : Machine) (source_live sink_live : Bool) (old new : State) (result : Result Turn RunError) : Type 0 where
+-- What one step, by a match or by the end action, leaves before a refusal is told.
+pub record StepLeft (M : Machine) (source_live sink_live : Bool) (old new : State) (result : Result Turn RunError) : Type 0 where
   pub may_read : OnOk result (new.reading.at_end ≡ false → source_live ≡ true)
   pub may_write : OnOk result (sink_live ≡ true)
   pub failed : new.failed ≡ old.failed

@@ -2,7 +2,7 @@
 //! walk.
 ghost use Rattle.std.specs.Prelude.{◌≡◌, ℕ, ◌+◌, ◌<◌, ◌≤◌, length, take, true, Some, IfSome};
 ghost use Rattle.lex_semantics.specs.Machine.{walk};
-ghost use Rattle.lexscan.specs.Pushes.{GoesOnOver, WalksOn, IsAsking};
+ghost use Rattle.lexscan.specs.Pushes.{WalkStaysLive, WalksOn, IsAsking};
 
 use lex_machine::Machine;
 use lexscan_window::State;
@@ -11,7 +11,7 @@ use lexscan_window::State;
 fn walk_over<M: Machine>(machine: &M, first: u32, bytes: &[u8]) -> Option<u32>
     requires known { first < M.states machine.now }
     ensures known { IfSome result (λ last. last < M.states machine.now) }
-    ensures walked { IfSome result (GoesOnOver (M.machine machine.now) first bytes.now) }
+    ensures walked { IfSome result (WalkStaysLive (M.machine machine.now) first bytes.now) }
 {
     let mut state = first;
     for byte in bytes {

@@ -3,7 +3,7 @@ ghost use Rattle.std.specs.Prelude.{◌≡◌, ◌≤◌, false};
 ghost use Rattle.lexscan_window.specs.Intakes.{source_of, sink_of};
 ghost use Rattle.lexscan.specs.Ties.{HandedOn};
 ghost use Rattle.lexscan.specs.Scans.{IsGoing, MayTurn, SameEnds};
-ghost use Rattle.lexscan.specs.Pushes.{Standing, WentBack, TurnsOver};
+ghost use Rattle.lexscan.specs.Pushes.{IsReachable, WentBack, TurnsOver};
 ghost use Rattle.lexscan.specs.Attempts.{Attempted, IsPaused, FewCounts, TurnsCount, TurnsLeft};
 
 use crate::further::MOST_SHOWN;
@@ -38,7 +38,7 @@ impl Scan {
     ) -> Result<Option<Turn>, RunError>
         requires going { IsGoing self.old }
         requires ready { MayTurn (M.machine machine.now) ends.old self.old }
-        requires stood { Standing (M.machine machine.now) self.old.state }
+        requires reachable { IsReachable (M.machine machine.now) self.old.state }
         ensures { Attempted (M.machine machine.now) ends.old ends.new self.old self.new result }
     {
         let place = self.state.place;
@@ -49,7 +49,8 @@ impl Scan {
             Ok(turn) => Ok(Some(turn)),
             Err(e) => match e {
                 RunError::TooManyReads => {
-                    // The turn has noted marks over bytes that are given back.
+                    // The turn has noted marks over bytes that are given back. Each such match is in another state at a
+                    // place, so they are lost no more often than there are states.
                     self.memo.clear();
                     go_back_to(&mut self.state, place, stack, held, taken);
                     Ok(None)

@@ -3,7 +3,7 @@ ghost use Rattle.std.specs.Prelude.{◌≡◌, ℕ, ◌+◌, ◌<◌, ◌≤◌,
 ghost use Rattle.lex_semantics.specs.Text.{Among};
 ghost use Rattle.lex_semantics.specs.MachineLaws.{NoReject};
 ghost use Rattle.lexscan_window.specs.Intakes.{can_write};
-ghost use Rattle.lexscan_matching.specs.Picks.{IsLongest, Tells, path_of, rule_in};
+ghost use Rattle.lexscan_matching.specs.Picks.{IsLongestPick, HasLastStates, path_of, rule_in};
 ghost use Rattle.lexscan.specs.Steps.{MatchCarried, EndCarried};
 
 use crate::leave::leave_match;
@@ -24,7 +24,7 @@ pub fn carry_longest<M: Machine, K: Sink>(
     requires live { can_write outlet.old ≡ true }
     requires no_reject { NoReject (M.machine machine.now) }
     requires condition { state.old.place.condition < (M.machine machine.now).conditions }
-    requires tells { Tells (M.machine machine.now) (M.states machine.now) state.old.place
+    requires tells { HasLastStates (M.machine machine.now) (M.states machine.now) state.old.place
         state.old.reading.window.bytes ahead }
 
     ensures { MatchCarried (M.machine machine.now) outlet.old outlet.new state.old state.new
@@ -75,11 +75,12 @@ fn carry_match<M: Machine, K: Sink>(
     requires no_reject { NoReject (M.machine machine.now) }
     requires place { state.old.place.at + reach ≤ length state.old.reading.window.bytes }
     requires some { 1 ≤ reach }
-    requires longest { IsLongest (M.machine machine.now) state.old.place state.old.reading.window.bytes reach pick }
+    requires longest { IsLongestPick (M.machine machine.now) state.old.place state.old.reading.window.bytes reach pick }
 
     ensures { MatchCarried (M.machine machine.now) outlet.old outlet.new state.old state.new
         (path_of (M.machine machine.now) state.old.place state.old.reading.window.bytes reach) result }
 {
+    // The end of the text and yymore are set where the match is carried out; of what the last one left the stack stays.
     state.acting.condition = state.place.condition;
     state.matched = Some(rule_of(pick));
     let place = state.place;

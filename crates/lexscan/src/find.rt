@@ -47,6 +47,7 @@ impl Scan {
             place,
         ) {
             Err(e) => Err(e),
+            // Without a byte there is no match, and the end action is due.
             Ok(false) => carry_end(machine, &mut ends.outlet, &mut self.state),
             Ok(true) => carry_with_reject(machine, &mut ends.outlet, &mut self.state, &self.path),
         }
@@ -73,6 +74,7 @@ impl Scan {
             place,
         ) {
             Err(e) => Err(e),
+            // Without a byte there is no match, and the end action is due.
             Ok(None) => carry_end(machine, &mut ends.outlet, &mut self.state),
             Ok(Some(ahead)) => carry_longest(machine, &mut ends.outlet, &mut self.state, ahead),
         }
@@ -93,6 +95,7 @@ impl Scan {
         ensures { MatchMade (M.machine machine.now) ends.old ends.new self.old self.new result }
     {
         let place = self.state.place;
+        // The walk goes on from its last state, so no byte held is gone over again.
         match look_ahead_more(
             machine,
             &mut ends.intake,

@@ -30,9 +30,10 @@ fn advance(state: &mut State, burst: Burst, got: usize)
     };
 }
 
-/// How many bytes of the source are shown at once, at most and at least.
+/// How many bytes of the source are shown at once, at most.
 pub const MOST_SHOWN: usize = 8_192;
 
+/// How many bytes of the source are shown at once, at least.
 const LEAST_SHOWN: usize = 64;
 
 /// How many bytes are shown next, where so many were, and the turns over them were done with so many: what is shown

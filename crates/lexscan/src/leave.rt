@@ -1,7 +1,7 @@
 //! The end of a turn: the scan leaves the place of its match for that of the next one.
 ghost use Rattle.std.specs.Prelude.{◌≡◌, ◌≤◌, length, true, Some};
 ghost use Rattle.lexscan_window.specs.Intakes.{can_write};
-ghost use Rattle.lexscan.specs.Moves.{stays, left_bytes, left_at, Left};
+ghost use Rattle.lexscan.specs.TurnSteps.{stays, next_bytes, next_at, AtNextPlace};
 ghost use Rattle.lexscan.specs.Steps.{TurnFinished};
 
 use crate::turn::Turn;
@@ -41,6 +41,7 @@ fn finish_turn<K: Sink>(
 
     ensures { TurnFinished outlet.old outlet.new state.old state.new (Some finish) result }
 {
+    // The end is told only after all that was written has been handed on.
     match flush(outlet) {
         Err(e) => Err(e),
         Ok(()) => match finish {
@@ -58,7 +59,7 @@ fn finish_turn<K: Sink>(
 #[tactic(auto, using(lexscan_window::proofs::Keeping::text_stays, lexscan_window::proofs::Keeping::text_dropped))]
 fn leave(state: &mut State, over: bool)
     requires { state.old.acting.end ≤ length state.old.reading.window.bytes }
-    ensures left { Left state.old.reading.window.bytes state.old.acting over state.new }
+    ensures left { AtNextPlace state.old.reading.window.bytes state.old.acting over state.new }
     ensures taken { state.new.reading.taken ≡ state.old.reading.taken }
     ensures at_end { state.new.reading.at_end ≡ state.old.reading.at_end }
     ensures max_reads { state.new.reading.max_reads ≡ state.old.reading.max_reads }

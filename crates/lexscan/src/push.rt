@@ -9,7 +9,7 @@ ghost use Rattle.lexscan_window.specs.Reads.{write_fault_count};
 ghost use Rattle.lexscan.specs.Attempts.{IsPaused, SinkCounts, MayBeFed, PieceLeft};
 ghost use Rattle.lexscan.specs.Stacks.{AllBelow-prop};
 ghost use Rattle.lexscan.specs.Ties.{HandedOn, RunHandedOn};
-ghost use Rattle.lexscan.specs.Pushes.{Standing, Standing-prop, IsAsking, IsAsking-prop, Fed, AfterFeed, AfterFinish};
+ghost use Rattle.lexscan.specs.Pushes.{IsReachable, IsReachable-prop, IsAsking, IsAsking-prop, Fed, AfterFeed, AfterFinish};
 
 use crate::asking::{walk_all, walk_on};
 use crate::scan::Scan;
@@ -83,6 +83,7 @@ fn scan_waiting<M: Machine, K: Sink>(
     ensures left { PieceLeft (M.machine machine.now) (M.states machine.now) scan.new waiting.new.items asking.new
         result }
 {
+    // The state that was kept belongs to the place before these turns.
     *asking = None;
     let before = scan.state.reading.taken;
     let mut source = Waiting::new(waiting.as_slice(), piece);
@@ -144,8 +145,8 @@ pub struct PushScanner<M: Machine> {
             (AllBelow-prop (M.machine machine).conditions scan.state.acting.stack) },
     ghost marks: { scan.state.failed ≡ false → AreTrue (M.machine machine) scan.state.reading scan.memo } by { →_prop
         (AreTrue-prop (M.machine machine) scan.state.reading scan.memo) },
-    ghost stood: { scan.state.failed ≡ false → Standing (M.machine machine) scan.state } by { →_prop
-        (Standing-prop (M.machine machine) scan.state) },
+    ghost reachable: { scan.state.failed ≡ false → IsReachable (M.machine machine) scan.state } by { →_prop
+        (IsReachable-prop (M.machine machine) scan.state) },
     ghost asking_more: { IsAsking (M.machine machine) (M.states machine) scan.state waiting.items
         asking } by { IsAsking-prop
             (M.machine machine) (M.states machine) scan.state waiting.items asking },
@@ -270,6 +271,7 @@ impl<M: Machine> PushScanner<M> {
         let Some(count) = count_with(self.scan.state.reading.taken, self.waiting.len(), 0) else {
             return Err(RunError::TooManyReads);
         };
+        // The answer of the end takes a read too.
         self.scan.state.reading.max_reads = count + 1;
         self.asking = None;
         scan_to_end(&self.machine, &mut self.scan, &self.waiting, sink)

@@ -10,7 +10,7 @@ ghost use Rattle.lexscan_window.specs.Memos.{AreTrue, AreTrue-prop};
 ghost use Rattle.lexscan.specs.Stacks.{AllBelow-prop};
 ghost use Rattle.lexscan.specs.Ties.{HandedOn};
 ghost use Rattle.lexscan.specs.Matches.{match_in, text_of};
-ghost use Rattle.lexscan.specs.Stands.{NoneAfterEnd, GoesOn, Stands};
+ghost use Rattle.lexscan.specs.TurnInvariants.{NoneAfterEnd, TurnPreserves, TurnInvariant};
 
 use crate::scan::{Ends, Scan};
 use crate::turn::Turn;
@@ -61,7 +61,7 @@ impl<'a, M: Machine, S: Source, K: Sink> Scanner<'a, M, S, K> {
         ensures max_reads { (scanner_state result).reading.max_reads ≡ max_reads }
         ensures going { (scanner_state result).ended ≡ None }
         ensures reading { (scanner_state result).reading.at_end ≡ false }
-        ensures stands { Stands (M.machine machine.now) 0 [] [] (scanner_state result) }
+        ensures invariant { TurnInvariant (M.machine machine.now) 0 [] [] (scanner_state result) }
     {
         Scanner {
             machine,
@@ -86,7 +86,7 @@ impl<'a, M: Machine, S: Source, K: Sink> Scanner<'a, M, S, K> {
             × S.gave (scanner_source self.old) got (scanner_source self.new)
             × K.wrote (scanner_sink self.old) wrote (scanner_sink self.new)
             × NoneAfterEnd (scanner_state self.old) (scanner_state self.new) got
-            × GoesOn (M.machine (scanner_machine self.old)) (scanner_state self.old) (scanner_state self.new)
+            × TurnPreserves (M.machine (scanner_machine self.old)) (scanner_state self.old) (scanner_state self.new)
             got wrote result }
 
         ensures still { (scanner_state self.old).reading.at_end ≡ true
@@ -147,6 +147,7 @@ impl<'a, M: Machine, S: Source, K: Sink> Scanner<'a, M, S, K> {
         let rule = self.scan.state.matched?;
         let window = &self.scan.state.reading.window;
         let end = self.scan.state.acting.end;
+        // What is held was taken, and the text lies before the next match: turns keep to both, but no field says so.
         let before = self
             .scan
             .state

@@ -12,7 +12,9 @@ use lexscan_window::RunError;
 /// What a turn did.
 #[derive(Clone, Copy, Debug, PartialEq, Eq)]
 pub enum Turn {
+    /// It carried out a match, and the scan goes on.
     Went,
+    /// It ended the scan with this status, 0 to 63.
     Ended(u8),
 }
 

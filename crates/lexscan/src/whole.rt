@@ -104,6 +104,7 @@ fn run_without_reject<M: Machine, S: Source, K: Sink>(
 {
     let mut most = MOST_SHOWN;
     'turns: loop {
+        // A burst keeps no marks: over a long backlog its walks would take time in the square of it.
         if has_backlog(&scan.state) {
             match scan.turn_over_backlog(machine, ends)? {
                 Turn::Ended(status) => return Ok(status),

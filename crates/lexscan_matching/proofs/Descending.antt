@@ -18,7 +18,7 @@ use Rattle.lex_semantics.specs.Trail.{falling}
 use Rattle.lex_semantics.proofs.Falling.{settle_adds, perform_adds, acting_after, falling-snoc}
 use Rattle.lexscan_window.specs.declared.act.ActionState.{ActionState}
 use Rattle.lexscan_window.specs.declared.act.Finish.{Finish}
-use Rattle.lexscan_window.specs.declared.act.Step.{Step}
+use Rattle.lexscan_window.specs.declared.act.ActionFlow.{ActionFlow}
 use Rattle.lexscan_window.specs.Acts.{acting_of, after_step, written_of, Carried, CutShort}
 use Rattle.lexscan_window.specs.declared.matched.MatchedRule.{MatchedRule}
 use Rattle.lexscan_window.specs.declared.matched.MatchedRule.TheVariants.{Numbered, Default}
@@ -38,10 +38,10 @@ written_same (Done a) = refl
 written_same (Again a) = refl
 written_same (Over a e) = refl
 
-settle_stop : (step : Step) (a : Scan.Acting) (f g : Scan.Acting → Option Scan.Acting) → (step ≡ Step.Again → ⊥) → settle (after_step step [] a) f ≡ settle (after_step step [] a) g
-settle_stop Step.Next a f g never = refl
-settle_stop Step.Again a f g never = absurd (never refl)
-settle_stop (Step.Over s) a f g never = refl
+settle_stop : (step : ActionFlow) (a : Scan.Acting) (f g : Scan.Acting → Option Scan.Acting) → (step ≡ ActionFlow.Again → ⊥) → settle (after_step step [] a) f ≡ settle (after_step step [] a) g
+settle_stop ActionFlow.Next a f g never = refl
+settle_stop ActionFlow.Again a f g never = absurd (never refl)
+settle_stop (ActionFlow.Over s) a f g never = refl
 
 -- what the action of a match starts from
 abbrev pub start_of : (at keep : ℕ) → Conditions → ActionState
@@ -60,15 +60,15 @@ statements_are M i lt = cond-true (nat_lt i M.count) (M.statements i) (Echo ∷ 
 pub default_is : (M : Machine) → statements_of (rules_of_machine M) M.count ≡ Echo ∷ []
 default_is M = cond-false (nat_lt M.count M.count) (M.statements M.count) (Echo ∷ []) (le-ltb M.count M.count (omega arith))
 
-abbrev pub ended_by : Step → Option Finish
-ended_by Step.Next = None
-ended_by Step.Again = None
-ended_by (Step.Over f) = Some f
+abbrev pub ended_by : ActionFlow → Option Finish
+ended_by ActionFlow.Next = None
+ended_by ActionFlow.Again = None
+ended_by (ActionFlow.Over f) = Some f
 
-pub settled : (step : Step) (a : Scan.Acting) (f : Scan.Acting → Option Scan.Acting) → (step ≡ Step.Again → ⊥) → settle (after_step step [] a) f ≡ Some (record a { ended = finished_of (ended_by step) })
-settled Step.Next a f never = refl
-settled Step.Again a f never = absurd (never refl)
-settled (Step.Over s) a f never = refl
+pub settled : (step : ActionFlow) (a : Scan.Acting) (f : Scan.Acting → Option Scan.Acting) → (step ≡ ActionFlow.Again → ⊥) → settle (after_step step [] a) f ≡ Some (record a { ended = finished_of (ended_by step) })
+settled ActionFlow.Next a f never = refl
+settled ActionFlow.Again a f never = absurd (never refl)
+settled (ActionFlow.Over s) a f never = refl
 
 -- no match makes nothing of it
 pub no_outcome : (M : Machine) (w : List ℕ) (at : ℕ) (before : List ℕ) (c : Conditions) → outcome M w at [] before c ≡ None
@@ -124,7 +124,7 @@ module _ {K : Type 0} (M : Machine) (wrote : K → List ℕ → K → Type 0) (n
   left_match rules i len keep lt e = ap (filter_map (match_of M len)) (drop_more rules i 0 lt) ∙ one_match M len (get_or rules i 0) keep (drop (i + 1) rules) e
 
   -- what the first match does
-  pub did : (t u : K) (m : Candidate) (rest : List Candidate) (d : Conditions) (ss : List Statement) (new : ActionState) (step : Step) → ss ≡ statements_of (rules_of_machine M) m.rule →
+  pub did : (t u : K) (m : Candidate) (rest : List Candidate) (d : Conditions) (ss : List Statement) (new : ActionState) (step : ActionFlow) → ss ≡ statements_of (rules_of_machine M) m.rule →
       (k : Carried wrote t u w ss (start_of at m.keep d) new step) → (before : List ℕ) →
       outcome M w at (m ∷ rest) before d ≡ settle (after_step step [] (acting_of w new (before ++ k.out))) (λ a. outcome M w at rest a.written (conditions_in a))
   did t u m rest d ss new step same k before =
@@ -133,7 +133,7 @@ module _ {K : Type 0} (M : Machine) (wrote : K → List ℕ → K → Type 0) (n
       ∙ ap (λ z. settle z (λ a. outcome M w at rest a.written (conditions_in a))) (k.acts before)
 
   -- the first match was carried out
-  pub takes_first : (t u : K) (m : Candidate) (ms : List Candidate) (d : Conditions) (ss : List Statement) (new : ActionState) (step : Step) (rule : Option MatchedRule) → (step ≡ Step.Again → ⊥) → ss ≡ statements_of (rules_of_machine M) m.rule →
+  pub takes_first : (t u : K) (m : Candidate) (ms : List Candidate) (d : Conditions) (ss : List Statement) (new : ActionState) (step : ActionFlow) (rule : Option MatchedRule) → (step ≡ ActionFlow.Again → ⊥) → ss ≡ statements_of (rules_of_machine M) m.rule →
       Carried wrote t u w ss (start_of at m.keep d) new step → IsRule M.count rule m.rule → Takes M w at (m ∷ ms) d rule
   takes_first t u m ms d ss new step rule never same k is = record {
     passed = [];
@@ -149,7 +149,7 @@ module _ {K : Type 0} (M : Machine) (wrote : K → List ℕ → K → Type 0) (n
   }
 
   -- the next match, where its action was carried out
-  acted : (s t u : K) (all : List Candidate) (rules : List ℕ) (i len keep : ℕ) (c d : Conditions) (ss : List Statement) (new : ActionState) (step : Step) → i < length rules → get_or rules i 0 < M.count →
+  acted : (s t u : K) (all : List Candidate) (rules : List ℕ) (i len keep : ℕ) (c d : Conditions) (ss : List Statement) (new : ActionState) (step : ActionFlow) → i < length rules → get_or rules i 0 < M.count →
       kept_by (M.cut (get_or rules i 0)) len ≡ Some keep → ss ≡ M.statements (get_or rules i 0) → (h : Passed M wrote s t w at all (filter_map (match_of M len) (drop i rules)) c d) →
       (k : Carried wrote t u w ss (start_of at keep d) new step) → (before : List ℕ) (rest : List Candidate) →
       outcome M w at (all ++ rest) before c ≡ settle (after_step step [] (acting_of w new (before ++ (h.out ++ k.out)))) (λ a. outcome M w at (filter_map (match_of M len) (drop (i + 1) rules) ++ rest) a.written (conditions_in a))
@@ -160,7 +160,7 @@ module _ {K : Type 0} (M : Machine) (wrote : K → List ℕ → K → Type 0) (n
 
   pub passed_again : (s t u : K) (all : List Candidate) (rules : List ℕ) (i len keep : ℕ) (c d : Conditions) (ss : List Statement) (new : ActionState) → i < length rules → get_or rules i 0 < M.count →
       kept_by (M.cut (get_or rules i 0)) len ≡ Some keep → ss ≡ M.statements (get_or rules i 0) → Passed M wrote s t w at all (filter_map (match_of M len) (drop i rules)) c d →
-      Carried wrote t u w ss (start_of at keep d) new Step.Again → Passed M wrote s u w at all (filter_map (match_of M len) (drop (i + 1) rules)) c (conditions_of new)
+      Carried wrote t u w ss (start_of at keep d) new ActionFlow.Again → Passed M wrote s u w at all (filter_map (match_of M len) (drop (i + 1) rules)) c (conditions_of new)
   passed_again s t u all rules i len keep c d ss new lt below e same h k = record {
     out = h.out ++ k.out;
     sink = join s t u h.out k.out h.sink k.sink;
@@ -168,7 +168,7 @@ module _ {K : Type 0} (M : Machine) (wrote : K → List ℕ → K → Type 0) (n
     in_order = h.in_order ∙ ap (λ l. h.gone ++ l) (left_match rules i len keep lt e) ∙ sym (append_assoc h.gone (m ∷ []) (filter_map (match_of M len) (drop (i + 1) rules)));
     acts = λ before rest.
         ap (λ l. outcome M w at l before c) (append_assoc h.gone (m ∷ []) rest) ∙ h.acts before (m ∷ rest)
-        ∙ did t u m rest d ss new Step.Again (same ∙ sym (statements_are M (get_or rules i 0) below)) k (before ++ h.out)
+        ∙ did t u m rest d ss new ActionFlow.Again (same ∙ sym (statements_are M (get_or rules i 0) below)) k (before ++ h.out)
         ∙ ap (λ z. outcome M w at rest z (conditions_of new)) (append_assoc before h.out k.out);
   }
     where
@@ -176,7 +176,7 @@ module _ {K : Type 0} (M : Machine) (wrote : K → List ℕ → K → Type 0) (n
       m = record { len = len; rule = get_or rules i 0; keep = keep }
 
   -- it was the one that was carried out
-  pub takes_next : (s t u : K) (all : List Candidate) (rules : List ℕ) (i len keep : ℕ) (c d : Conditions) (ss : List Statement) (new : ActionState) (step : Step) → (step ≡ Step.Again → ⊥) → i < length rules → get_or rules i 0 < M.count →
+  pub takes_next : (s t u : K) (all : List Candidate) (rules : List ℕ) (i len keep : ℕ) (c d : Conditions) (ss : List Statement) (new : ActionState) (step : ActionFlow) → (step ≡ ActionFlow.Again → ⊥) → i < length rules → get_or rules i 0 < M.count →
       kept_by (M.cut (get_or rules i 0)) len ≡ Some keep → ss ≡ M.statements (get_or rules i 0) → Passed M wrote s t w at all (filter_map (match_of M len) (drop i rules)) c d →
       Carried wrote t u w ss (start_of at keep d) new step → (rule : ℕ) → rule ≡ get_or rules i 0 → Takes M w at all c (Some (Numbered rule))
   takes_next s t u all rules i len keep c d ss new step never lt below e same h k rule is =
@@ -184,7 +184,7 @@ module _ {K : Type 0} (M : Machine) (wrote : K → List ℕ → K → Type 0) (n
       (subst (λ l. Takes M w at l d (Some (Numbered rule))) (sym (left_match rules i len keep lt e))
       (takes_first t u (record { len = len; rule = get_or rules i 0; keep = keep }) (filter_map (match_of M len) (drop (i + 1) rules)) d ss new step (Some (Numbered rule)) never (same ∙ sym (statements_are M (get_or rules i 0) below)) k (is, below)))
 
-  pub tried_stop : (s t u : K) (all : List Candidate) (rules : List ℕ) (i len keep : ℕ) (c d : Conditions) (ss : List Statement) (new : ActionState) (step : Step) → (step ≡ Step.Again → ⊥) → i < length rules → get_or rules i 0 < M.count →
+  pub tried_stop : (s t u : K) (all : List Candidate) (rules : List ℕ) (i len keep : ℕ) (c d : Conditions) (ss : List Statement) (new : ActionState) (step : ActionFlow) → (step ≡ ActionFlow.Again → ⊥) → i < length rules → get_or rules i 0 < M.count →
       kept_by (M.cut (get_or rules i 0)) len ≡ Some keep → ss ≡ M.statements (get_or rules i 0) → Passed M wrote s t w at all (filter_map (match_of M len) (drop i rules)) c d →
       Carried wrote t u w ss (start_of at keep d) new step → Tried M wrote s u w at all c new step
   tried_stop s t u all rules i len keep c d ss new step never lt below e same h k = record {
@@ -258,7 +258,7 @@ module _ {K : Type 0} (M : Machine) (wrote : K → List ℕ → K → Type 0) (j
   abbrev pub here : ℕ → List Candidate
   here n = filter_map (match_of M (n + 1)) (M.accepts (get_or path n 0))
 
-  state_acts : (s t u : K) (n : ℕ) (c d : Conditions) (new : ActionState) (step : Step) → n < length path → (h : Passed M wrote s t w at (falling M 0 path) (falling M 0 (take (n + 1) path)) c d) → (k : Tried M wrote t u w at (here n) d new step) →
+  state_acts : (s t u : K) (n : ℕ) (c d : Conditions) (new : ActionState) (step : ActionFlow) → n < length path → (h : Passed M wrote s t w at (falling M 0 path) (falling M 0 (take (n + 1) path)) c d) → (k : Tried M wrote t u w at (here n) d new step) →
       (before : List ℕ) (rest : List Candidate) → outcome M w at (falling M 0 path ++ rest) before c
       ≡ settle (after_step step [] (acting_of w new (before ++ (h.out ++ k.out)))) (λ a. outcome M w at (falling M 0 (take n path) ++ rest) a.written (conditions_in a))
   state_acts s t u n c d new step lt h k before rest =
@@ -266,7 +266,7 @@ module _ {K : Type 0} (M : Machine) (wrote : K → List ℕ → K → Type 0) (j
       ∙ k.acts (before ++ h.out) (falling M 0 (take n path) ++ rest)
       ∙ ap (λ z. settle (after_step step [] (acting_of w new z)) (λ a. outcome M w at (falling M 0 (take n path) ++ rest) a.written (conditions_in a))) (append_assoc before h.out k.out)
 
-  pub state_passed : (s t u : K) (n : ℕ) (c d : Conditions) (new : ActionState) → n < length path → Passed M wrote s t w at (falling M 0 path) (falling M 0 (take (n + 1) path)) c d → Tried M wrote t u w at (here n) d new Step.Again →
+  pub state_passed : (s t u : K) (n : ℕ) (c d : Conditions) (new : ActionState) → n < length path → Passed M wrote s t w at (falling M 0 path) (falling M 0 (take (n + 1) path)) c d → Tried M wrote t u w at (here n) d new ActionFlow.Again →
       Passed M wrote s u w at (falling M 0 path) (falling M 0 (take n path)) c (conditions_of new)
   state_passed s t u n c d new lt h k = record {
     out = h.out ++ k.out;
@@ -278,7 +278,7 @@ module _ {K : Type 0} (M : Machine) (wrote : K → List ℕ → K → Type 0) (j
         ∙ ap (λ z. outcome M w at rest z (conditions_of new)) (append_assoc before h.out k.out);
   }
 
-  pub state_stop : (s t u : K) (n : ℕ) (c d : Conditions) (new : ActionState) (step : Step) → (step ≡ Step.Again → ⊥) → n < length path → Passed M wrote s t w at (falling M 0 path) (falling M 0 (take (n + 1) path)) c d → Tried M wrote t u w at (here n) d new step →
+  pub state_stop : (s t u : K) (n : ℕ) (c d : Conditions) (new : ActionState) (step : ActionFlow) → (step ≡ ActionFlow.Again → ⊥) → n < length path → Passed M wrote s t w at (falling M 0 path) (falling M 0 (take (n + 1) path)) c d → Tried M wrote t u w at (here n) d new step →
       Performed M wrote s u w at (matches_of M w at path) c new (finished_of (ended_by step))
   state_stop s t u n c d new step never lt h k = record {
     out = h.out ++ k.out;

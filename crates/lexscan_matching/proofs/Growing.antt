@@ -10,7 +10,7 @@ use Rattle.lex_semantics.proofs.Fronts.{among_append}
 use Rattle.lexscan_window.specs.declared.state.Reading.{Reading}
 use Rattle.lexscan_window.specs.declared.state.TextPlace.{TextPlace}
 use Rattle.lexscan_window.specs.Reads.{Took, end_step}
-use Rattle.lexscan_matching.specs.Looks.{SoFar, GoesOnAfter}
+use Rattle.lexscan_matching.specs.Looks.{SoFar, IsLiveAfter}
 use Rattle.lexscan_window.specs.Walks.{Walked, Grown}
 use Rattle.lexscan_window.specs.declared.walk.Walk.{Walk}
 use Rattle.lexscan_matching.specs.Picks.{path_of, state_at}
@@ -48,7 +48,7 @@ so_far_grown M p w w' more reach state path le e h =
     subst (λ z. SoFar M p z reach state path) (sym (ap (drop p.at) e ∙ drop-append-le p.at w more le)) (so_far_longer M p (drop p.at w) more reach state path h)
 
 pub next_asked : (M : Machine) (p : TextPlace) (w : List ℕ) (reach state : ℕ) (path : List ℕ) → SoFar M p w reach state path → (1 ≤ reach → M.goes_on state ≡ true) →
-    (i : ℕ) → 1 ≤ i → i < reach + 1 → (i < reach) ⊎ (reach ≤ i) → GoesOnAfter M p w i
+    (i : ℕ) → 1 ≤ i → i < reach + 1 → (i < reach) ⊎ (reach ≤ i) → IsLiveAfter M p w i
 next_asked M p w reach state path h live i some less (inl a) = h.asked i some a
 next_asked M p w reach state path h live i some less (inr b) =
     let same : i ≡ reach = omega arith in
@@ -151,7 +151,7 @@ module _ (M : Machine) (p : TextPlace) (w w' got : List ℕ) (n state : ℕ) (le
       ap (walk M s0) (front j) ∙ walk-append M s0 y (take j got) ∙ ap (λ s. walk M s (take j got)) (ap (walk M s0) (sym whole) ∙ sym h.state_is)
 
   asked_on : (path : List ℕ) → SoFar M p y n state path → (1 ≤ n → M.goes_on state ≡ true) → (s' before : ℕ) → Walked M state got s' before →
-      (i : ℕ) → 1 ≤ i → i < n + length got → (i < n) ⊎ (n ≤ i) → GoesOnAfter M p (y ++ got) i
+      (i : ℕ) → 1 ≤ i → i < n + length got → (i < n) ⊎ (n ≤ i) → IsLiveAfter M p (y ++ got) i
   asked_on path h live s' before k i some less (inl a) = ap (λ z. M.goes_on (walk M s0 z)) (take-append-le i y got (omega (arith, size, a))) ∙ h.asked i some a
   asked_on path h live s' before k i some less (inr b) =
       ap (λ j. M.goes_on (walk M s0 (take j (y ++ got)))) (sym there) ∙ ap M.goes_on (state_after_front path h (i - n)) ∙ here (i - n) (omega (arith, less, b)) refl
@@ -221,7 +221,7 @@ goes_after M n state reach [] s' before k stops live e some = ap M.goes_on k.sta
 goes_after M n state reach (b ∷ got) s' before k stops live e some = stops (omega arith)
 
 pub all_asked : (M : Machine) (p : TextPlace) (w : List ℕ) (n state : ℕ) (path : List ℕ) → SoFar M p (drop p.at w) n state path → p.at + n ≡ length w → (1 ≤ n → M.goes_on state ≡ true) →
-    (i : ℕ) → 1 ≤ i → p.at + i ≤ length w → GoesOnAfter M p (drop p.at w) i
+    (i : ℕ) → 1 ≤ i → p.at + i ≤ length w → IsLiveAfter M p (drop p.at w) i
 all_asked M p w n state path h place live i some inside =
     next_asked M p (drop p.at w) n state path h live i some (omega (arith, place, inside)) (elim (cases_lt i n) [ inl a ↦ inl a | inr b ↦ inr b ])
 

@@ -17,7 +17,7 @@ use Rattle.lex_semantics.proofs.Falling.{falling-snoc}
 use Rattle.lex_semantics.proofs.MachineLaws.{walk-append}
 use Rattle.lex_semantics.specs.MachineLaws.{NoReject}
 use Rattle.lexscan_window.specs.declared.act.ActionState.{ActionState}
-use Rattle.lexscan_window.specs.declared.act.Step.{Step}
+use Rattle.lexscan_window.specs.declared.act.ActionFlow.{ActionFlow}
 use Rattle.lexscan_window.specs.declared.state.TextPlace.{TextPlace}
 use Rattle.lexscan_matching.specs.declared.pick.Pick.{Pick}
 use Rattle.lexscan_window.specs.Acts.{acting_of, Carried, CutShort}
@@ -102,11 +102,11 @@ never_rejects (Pop ∷ ss) a b h e =
 
 module _ {K : Type 0} (M : Machine) (wrote : K → List ℕ → K → Type 0) (none : (s : K) → wrote s [] s) (join : (s t u : K) (xs ys : List ℕ) → wrote s xs t → wrote t ys u → wrote s (xs ++ ys) u) (w : List ℕ) (at : ℕ) where
   pub never_again : (s t : K) (p : Pick) (c : Conditions) (ss : List Statement) (new : ActionState) → NoReject M → p.rule < M.count → ss ≡ M.statements p.rule →
-      Carried wrote s t w ss (start_of at p.keep c) new Step.Again → ⊥
+      Carried wrote s t w ss (start_of at p.keep c) new ActionFlow.Again → ⊥
   never_again s t p c ss new no_reject below same k = never_rejects ss _ _ (ap has_reject same ∙ no_reject p.rule below) (k.acts [])
 
   -- its action was carried out
-  pub picked : (s t : K) (path : List ℕ) (p : Pick) (c : Conditions) (ss : List Statement) (new : ActionState) (step : Step) → (step ≡ Step.Again → ⊥) → IsFirst (falling M 0 path) (Some p) → p.rule < M.count → ss ≡ M.statements p.rule →
+  pub picked : (s t : K) (path : List ℕ) (p : Pick) (c : Conditions) (ss : List Statement) (new : ActionState) (step : ActionFlow) → (step ≡ ActionFlow.Again → ⊥) → IsFirst (falling M 0 path) (Some p) → p.rule < M.count → ss ≡ M.statements p.rule →
       Carried wrote s t w ss (start_of at p.keep c) new step → Performed M wrote s t w at (matches_of M w at path) c new (finished_of (ended_by step))
   picked s t path p c ss new step never (len, rest, e) below same k = record {
     out = k.out;

@@ -12,10 +12,10 @@ use Rattle.lex_machine.specs.declared.glance.Gist.{Gist}
 use Rattle.lex_machine.specs.declared.glance.Gist.TheVariants.{Any, NoRule, Silent, Echo, Print, Begin, Several}
 use Rattle.lex_machine.specs.Glances.{Gists, are_simple}
 use Rattle.lexscan_window.specs.declared.act.ActionState.{ActionState}
-use Rattle.lexscan_window.specs.declared.act.Step.{Step}
+use Rattle.lexscan_window.specs.declared.act.ActionFlow.{ActionFlow}
 use Rattle.lexscan_matching.specs.declared.glanced.GlancedMatch.{GlancedMatch}
 use Rattle.lexscan_window.specs.Acts.{acting_of, after_step, said}
-use Rattle.lexscan_matching.specs.Glanced.{all_begun, all_said, begun, names_rule, statements_in, NoneAfter, Tells}
+use Rattle.lexscan_matching.specs.Glanced.{all_begun, all_said, begun, names_rule, statements_in, NoneAfter, IsGlancedMatch}
 use Rattle.lexscan_matching.proofs.Growing.{take_one_more}
 
 -- the state after one byte more
@@ -29,20 +29,20 @@ none_more M first bytes few n none last i more le = elim (cases_lt i (n + 1)) [
 ]
 
 -- no rule is accepted after one byte more
-pub tells_none : (M : Machine) (first : ℕ) (bytes : List ℕ) (n : ℕ) (longest : GlancedMatch) → Tells M first bytes n longest → M.accepts (walk M first (take (n + 1) bytes)) ≡ [] → Tells M first bytes (n + 1) longest
+pub tells_none : (M : Machine) (first : ℕ) (bytes : List ℕ) (n : ℕ) (longest : GlancedMatch) → IsGlancedMatch M first bytes n longest → M.accepts (walk M first (take (n + 1) bytes)) ≡ [] → IsGlancedMatch M first bytes (n + 1) longest
 tells_none M first bytes n longest (inl (some, le, none, gist)) last = inl (some, omega (arith, le), none_more M first bytes longest.keep n none last, gist)
 tells_none M first bytes n longest (inr (inl (one, echo, none))) last = inr (inl (one, echo, none_more M first bytes 0 n none last))
 tells_none M first bytes n longest (inr (inr any)) last = inr (inr any)
 
 -- this is known of the first rule after the last byte
-pub tells_here : (M : Machine) (first : ℕ) (bytes : List ℕ) (n : ℕ) (gist : Gist) → 1 ≤ n → Gists M (walk M first (take n bytes)) gist → Tells M first bytes n (record { gist = gist; keep = n })
+pub tells_here : (M : Machine) (first : ℕ) (bytes : List ℕ) (n : ℕ) (gist : Gist) → 1 ≤ n → Gists M (walk M first (take n bytes)) gist → IsGlancedMatch M first bytes n (record { gist = gist; keep = n })
 tells_here M first bytes n gist some known = inl (some, omega arith, λ i more le. absurd (omega (arith, more, le)), known)
 
 none_front : (M : Machine) (first : ℕ) (bytes : List ℕ) (few n : ℕ) → NoneAfter M first (take n bytes) few n → NoneAfter M first bytes few n
 none_front M first bytes few n none i more le = subst (λ l. M.accepts (walk M first l) ≡ []) (take-take i n bytes le) (none i more le)
 
 -- what is told of the first bytes alone
-pub tells_front : (M : Machine) (first : ℕ) (bytes : List ℕ) (n : ℕ) (longest : GlancedMatch) → Tells M first (take n bytes) n longest → Tells M first bytes n longest
+pub tells_front : (M : Machine) (first : ℕ) (bytes : List ℕ) (n : ℕ) (longest : GlancedMatch) → IsGlancedMatch M first (take n bytes) n longest → IsGlancedMatch M first bytes n longest
 tells_front M first bytes n longest (inl (some, le, none, gist)) =
     inl (some, le, none_front M first bytes longest.keep n none, subst (λ l. Gists M (walk M first l) longest.gist) (take-take longest.keep n bytes le) gist)
 tells_front M first bytes n longest (inr (inl (one, echo, none))) = inr (inl (one, echo, none_front M first bytes 0 n none))
@@ -72,14 +72,14 @@ not_simple e = absurd (no e)
 
 -- simple statements, one after another
 pub act_all : (w : List ℕ) (ss : List S.Statement) (a : ActionState) (before : List ℕ) → are_simple ss ≡ true →
-    act_result ss (acting_of w a before) ≡ after_step Step.Next [] (acting_of w (record a { condition = all_begun ss a.condition }) (before ++ all_said ss (take a.end w)))
-act_all w [] a before simple = ap (λ b. after_step Step.Next [] (acting_of w a b)) (sym (append-nil before))
+    act_result ss (acting_of w a before) ≡ after_step ActionFlow.Next [] (acting_of w (record a { condition = all_begun ss a.condition }) (before ++ all_said ss (take a.end w)))
+act_all w [] a before simple = ap (λ b. after_step ActionFlow.Next [] (acting_of w a b)) (sym (append-nil before))
 act_all w (S.Echo ∷ ss) a before simple =
     act_all w ss a (before ++ take a.end w) simple
-    ∙ ap (λ b. after_step Step.Next [] (acting_of w (record a { condition = all_begun ss a.condition }) b)) (append_assoc before (take a.end w) (all_said ss (take a.end w)))
+    ∙ ap (λ b. after_step ActionFlow.Next [] (acting_of w (record a { condition = all_begun ss a.condition }) b)) (append_assoc before (take a.end w) (all_said ss (take a.end w)))
 act_all w (S.Print bytes ∷ ss) a before simple =
     act_all w ss a (before ++ bytes) simple
-    ∙ ap (λ b. after_step Step.Next [] (acting_of w (record a { condition = all_begun ss a.condition }) b)) (append_assoc before bytes (all_said ss (take a.end w)))
+    ∙ ap (λ b. after_step ActionFlow.Next [] (acting_of w (record a { condition = all_begun ss a.condition }) b)) (append_assoc before bytes (all_said ss (take a.end w)))
 act_all w (S.Begin d ∷ ss) a before simple = act_all w ss (record a { condition = d }) before simple
 act_all w (S.More ∷ ss) a before simple = not_simple simple
 act_all w (S.Less n ∷ ss) a before simple = not_simple simple

@@ -8,7 +8,7 @@ use Rattle.lex_semantics.specs.Text.{Among}
 use Rattle.lex_semantics.specs.Trail.{falling}
 use Rattle.lexscan_window.specs.declared.act.ActionState.{ActionState}
 use Rattle.lexscan_window.specs.declared.act.Finish.{Finish}
-use Rattle.lexscan_window.specs.declared.act.Step.{Step}
+use Rattle.lexscan_window.specs.declared.act.ActionFlow.{ActionFlow}
 use Rattle.lexscan_window.specs.declared.error.RunError.{RunError}
 use Rattle.lexscan_window.specs.declared.error.RunError.TheVariants.{TooManyReads}
 use Rattle.lexscan_window.specs.declared.intake.Intake.{Intake}
@@ -23,7 +23,7 @@ use Rattle.lexscan_matching.specs.declared.pick.LookAhead.{LookAhead}
 use Rattle.lexscan_matching.specs.declared.pick.Pick.{Pick}
 use Rattle.lexscan_matching.specs.Descends.{conditions_of, finished_of, Tried, CutOff, CutAll, Performed, Takes, TakesUnlessAgain}
 use Rattle.lexscan_matching.specs.Looks.{LookedOrAtEnd, Wants, Unmet}
-use Rattle.lexscan_matching.specs.Picks.{IsFirst, HasStatements, LookedSome, Tells, path_of}
+use Rattle.lexscan_matching.specs.Picks.{IsFirst, HasStatements, LookedSome, HasLastStates, path_of}
 
 module _ {S K : Type 0} {of_source : Source.Ghosts S} {of_sink : Sink.Ghosts K} where
   -- A match took the bytes that it asks for, and tells the last two states of those after them, or that there is no byte.
@@ -33,7 +33,7 @@ module _ {S K : Type 0} {of_source : Source.Ghosts S} {of_sink : Sink.Ghosts K} 
     pub put : NothingPut of_sink.wrote of_sink.failures (sink_of o) (sink_of o') (can_write o') result
     pub took : Took of_source.gave (source_of i) (source_of i') old new
     pub looked : IfOk result (λ ahead. LookedSome M p old new ahead)
-    pub tells : IfOk result (λ ahead. IfSome ahead (Tells M states p new.window.bytes))
+    pub tells : IfOk result (λ ahead. IfSome ahead (HasLastStates M states p new.window.bytes))
     pub unmet : OnErr result (Wants M p new)
     pub source : SourceLeft of_source.ends of_source.failures (source_of i) (source_of i') (can_read i') old new result
     pub too_many : IsErrOf result TooManyReads → new.taken ≡ new.max_reads
@@ -54,7 +54,7 @@ module _ {S K : Type 0} {of_source : Source.Ghosts S} {of_sink : Sink.Ghosts K} 
 
 module _ {K : Type 0} {of_sink : Sink.Ghosts K} where
   -- The matches of one length were tried, up to the first that is not rejected.
-  pub record RulesTried (M : Machine) (o o' : Outlet K of_sink) (w : List ℕ) (at : ℕ) (all : List Candidate) (old new : ActionState) (rule : Option MatchedRule) (result : Result Step RunError) : Type 0 where
+  pub record RulesTried (M : Machine) (o o' : Outlet K of_sink) (w : List ℕ) (at : ℕ) (all : List Candidate) (old new : ActionState) (rule : Option MatchedRule) (result : Result ActionFlow RunError) : Type 0 where
     pub same : sink_name o' ≡ sink_name o
     pub sink : SinkLeft of_sink.failures (sink_of o) (sink_of o') (can_write o') result
     pub inside : new.end ≤ length w

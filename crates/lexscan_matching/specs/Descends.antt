@@ -10,7 +10,7 @@ use Rattle.lex_semantics.specs.Plain.{default_match}
 use Rattle.lex_semantics.specs.Trail.{falling}
 use Rattle.lexscan_window.specs.declared.act.ActionState.{ActionState}
 use Rattle.lexscan_window.specs.declared.act.Finish.{Finish}
-use Rattle.lexscan_window.specs.declared.act.Step.{Step}
+use Rattle.lexscan_window.specs.declared.act.ActionFlow.{ActionFlow}
 use Rattle.lexscan_window.specs.declared.state.State.{State}
 use Rattle.lexscan_window.specs.declared.matched.MatchedRule.{MatchedRule}
 use Rattle.lexscan_window.specs.declared.matched.MatchedRule.TheVariants.{Numbered, Default}
@@ -48,7 +48,7 @@ pub record Passed {K : Type 0} (M : Machine) (wrote : K → List ℕ → K → T
   pub acts : (before : List ℕ) (rest : List Candidate) → outcome M w at (gone ++ rest) before old ≡ outcome M w at rest (before ++ out) new
 
 -- These matches were tried, and this is what follows.
-pub record Tried {K : Type 0} (M : Machine) (wrote : K → List ℕ → K → Type 0) (s t : K) (w : List ℕ) (at : ℕ) (all : List Candidate) (old : Conditions) (new : ActionState) (step : Step) : Type 0 where
+pub record Tried {K : Type 0} (M : Machine) (wrote : K → List ℕ → K → Type 0) (s t : K) (w : List ℕ) (at : ℕ) (all : List Candidate) (old : Conditions) (new : ActionState) (step : ActionFlow) : Type 0 where
   pub out : List ℕ
   pub sink : wrote s out t
   pub acts : (before : List ℕ) (rest : List Candidate) →
@@ -103,6 +103,6 @@ pub record Takes (M : Machine) (w : List ℕ) (at : ℕ) (all : List Candidate) 
   pub carried : (before : List ℕ) → (o : Scan.Acting) × ((rest : List Candidate) → outcome M w at (passed ++ taken ∷ rest) before old ≡ Some o)
 
 -- unless all were rejected
-abbrev pub TakesUnlessAgain : Machine → List ℕ → ℕ → List Candidate → Conditions → Option MatchedRule → Step → Type 0
-TakesUnlessAgain M w at all old rule Step.Again = ⊤
+abbrev pub TakesUnlessAgain : Machine → List ℕ → ℕ → List Candidate → Conditions → Option MatchedRule → ActionFlow → Type 0
+TakesUnlessAgain M w at all old rule ActionFlow.Again = ⊤
 TakesUnlessAgain M w at all old rule other = Takes M w at all old rule

@@ -5,15 +5,15 @@ use Rattle.lex_semantics.specs.Trail.{trail_from}
 use Rattle.lexscan_window.specs.declared.state.Reading.{Reading}
 use Rattle.lexscan_window.specs.declared.state.TextPlace.{TextPlace}
 
--- after the first i of these bytes a longer match might follow
-abbrev pub GoesOnAfter : Machine → TextPlace → List ℕ → ℕ → Type 0
-GoesOnAfter M p y i = M.goes_on (state_after M p.condition p.line_start (take i y)) ≡ true
+-- after the first i of these bytes the machine is live: a longer match might follow
+abbrev pub IsLiveAfter : Machine → TextPlace → List ℕ → ℕ → Type 0
+IsLiveAfter M p y i = M.goes_on (state_after M p.condition p.line_start (take i y)) ≡ true
 
 -- The bytes that a match has asked for so far, and the states after them.
 pub record SoFar (M : Machine) (p : TextPlace) (y : List ℕ) (reach state : ℕ) (path : List ℕ) : Type 0 where
   pub inside : reach ≤ length y
   pub state_is : state ≡ state_after M p.condition p.line_start (take reach y)
-  pub asked : (i : ℕ) → 1 ≤ i → i < reach → GoesOnAfter M p y i
+  pub asked : (i : ℕ) → 1 ≤ i → i < reach → IsLiveAfter M p y i
   pub path_is : path ≡ trail_from M (M.start p.condition p.line_start) (take reach y)
 
 -- The match has asked for the first `reach` bytes from its place on, and then for no more, or for the end.
@@ -38,7 +38,7 @@ LookedOrAtEnd M p old new path false = LookedAtEnd p old new
 -- The match has asked for all the bytes held from its place on, and asks for one more.
 pub record Wants (M : Machine) (p : TextPlace) (new : Reading) : Type 0 where
   pub inside : p.at ≤ length new.window.bytes
-  pub asked : (i : ℕ) → 1 ≤ i → p.at + i ≤ length new.window.bytes → GoesOnAfter M p (drop p.at new.window.bytes) i
+  pub asked : (i : ℕ) → 1 ≤ i → p.at + i ≤ length new.window.bytes → IsLiveAfter M p (drop p.at new.window.bytes) i
   pub reading : new.at_end ≡ false
 
 -- A byte was wanted and not had, or there was no memory for the state after one that was held.

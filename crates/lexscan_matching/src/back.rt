@@ -56,6 +56,7 @@ pub fn look<M: Machine>(machine: &M, reading: &Reading, memo: &Memo, place: Text
 {
     let held = reading.window.len() - place.at;
     let stride = memo.stride();
+    // Marks stand at multiples of the stride, counted over the whole source: the walk comes to the next one so soon.
     let mut due = memo.ahead(reading.taken.saturating_sub(held as u64));
     let mut state = machine.start(place.condition, place.line_start);
     let mut before = state;
@@ -78,6 +79,7 @@ pub fn look<M: Machine>(machine: &M, reading: &Reading, memo: &Memo, place: Text
         if due <= len {
             due = due.saturating_add(stride);
             let left = (held - len) as u64;
+            // The mark says that no match follows, whatever was walked before it.
             if left <= reading.taken && memo.has(reading.taken - left, state) {
                 return Ahead::Settled(settled);
             }
@@ -108,10 +110,12 @@ pub fn note<M: Machine>(
     ensures marks { AreTrue (M.machine machine.now) reading.now memo.new }
 {
     let stride = memo.stride();
+    // So short a walk has no more than one mark to set, and is quickly made again.
     if settled.len - settled.keep <= stride {
         return;
     }
     let held = reading.window.len() - place.at;
+    // Before this place a state may have accepted, so a mark there would not be true.
     let mut len = settled.keep;
     let first = (held - len) as u64;
     let mut due = len.saturating_add(memo.ahead(reading.taken.saturating_sub(first)));

@@ -10,7 +10,8 @@ ghost use Rattle.lexscan_matching.specs.Calls.{RulesTried, MatchesTried};
 use lex_io::Sink;
 use lex_machine::{Cut, Machine};
 use lexscan_window::{
-    ActionState, Finish, MatchedRule, Outlet, RunError, StatePath, Step, Window, carry_out, put,
+    ActionFlow, ActionState, Finish, MatchedRule, Outlet, RunError, StatePath, Window, carry_out,
+    put,
 };
 
 /// What a cut keeps of a match of this many bytes, if it fits.
@@ -30,6 +31,7 @@ pub fn kept_length(cut: Cut, len: usize) -> Option<usize>
         }
         Cut::Trail(count) => {
             let count = usize::from(count);
+            // A text is never empty, so the trailing context may not take all of the match.
             if count < len { Some(len - count) } else { None }
         }
     }
@@ -45,7 +47,7 @@ fn try_rules<M: Machine, K: Sink>(
     len: usize,
     acting: &mut ActionState,
     matched: &mut Option<MatchedRule>,
-) -> Result<Step, RunError>
+) -> Result<ActionFlow, RunError>
     requires live { can_write outlet.old ≡ true }
     requires place { at + len ≤ length window.now.bytes }
     requires known { (i : ℕ) → Among rules.now i → i < (M.machine machine.now).count }
@@ -59,16 +61,17 @@ fn try_rules<M: Machine, K: Sink>(
         let (cut, statements) = machine.rule(*rule);
         if let Some(keep) = kept_length(cut, len) {
             prove!(keep <= held - at);
+            // What a rejected rule has written, and the conditions that it set, stay; its text and yymore do not.
             acting.end = at + keep;
             acting.more = false;
             *matched = Some(MatchedRule::Numbered(*rule));
             match carry_out(outlet, window, statements, acting)? {
-                Step::Again => {}
+                ActionFlow::Again => {}
                 stop => return Ok(stop),
             }
         }
     }
-    Ok(Step::Again)
+    Ok(ActionFlow::Again)
 }
 
 /// Tries the matches at a place, the longest first, and carries out the first that is not rejected. Answers how the
@@ -96,12 +99,13 @@ pub fn descend<M: Machine, K: Sink>(
     'lengths: while 0 < len {
         let rules = machine.accepts(path.state(len - 1));
         match try_rules(machine, outlet, window, rules, at, len, acting, matched)? {
-            Step::Next => return Ok(None),
-            Step::Again => {}
-            Step::Over(finish) => return Ok(Some(finish)),
+            ActionFlow::Next => return Ok(None),
+            ActionFlow::Again => {}
+            ActionFlow::Over(finish) => return Ok(Some(finish)),
         }
         len -= 1;
     }
+    // Each rule was rejected, or none matched: the default rule copies one byte, after what yymore kept.
     let held = window.len();
     prove!(at < held);
     acting.end = at + 1;

@@ -41,6 +41,7 @@ pub fn longest<M: Machine>(
     'bytes: while length < text.len() {
         state = machine.step(state, text[length]);
         length += 1;
+        // A longer match takes the place of a shorter one.
         match first_candidate(machine, machine.accepts(state), length) {
             Some(pick) => {
                 best = Candidate {

@@ -7,7 +7,7 @@ ghost use Rattle.lexscan_window.specs.Ends.{SinkLeft};
 ghost use Rattle.lex_machine.specs.Views.{statement_of};
 ghost use Rattle.lexscan_window.specs.Acts.{said};
 ghost use Rattle.lexscan_matching.specs.Glanced.{names_rule, begun, all_said, all_begun, condition_after, written_by};
-ghost use Rattle.lexscan_matching.specs.Glanced.{Tells};
+ghost use Rattle.lexscan_matching.specs.Glanced.{IsGlancedMatch};
 
 use lex_io::Sink;
 use lex_machine::{Gist, Machine, Statement, Way};
@@ -28,7 +28,7 @@ const FEW: usize = 128;
 #[inline(never)]
 fn longest_match_again<'m, M: Machine>(machine: &'m M, first: u32, bytes: &[u8]) -> GlancedMatch<'m>
     requires first { first < M.states machine.now }
-    ensures { Tells (M.machine machine.now) first bytes.now (length bytes.now) result }
+    ensures { IsGlancedMatch (M.machine machine.now) first bytes.now (length bytes.now) result }
 {
     let mut state = first;
     let mut longest = GlancedMatch {
@@ -40,6 +40,7 @@ fn longest_match_again<'m, M: Machine>(machine: &'m M, first: u32, bytes: &[u8])
         state = machine.step(state, bytes[count]);
         count += 1;
         let gist = machine.gist(state);
+        // Where no rule is accepted a shorter match stays the longest.
         if !matches!(gist, Gist::NoRule) {
             longest = GlancedMatch { gist, keep: count };
         }
@@ -59,7 +60,7 @@ pub fn longest_match<'m, M: Machine>(
     requires first { first < M.states machine.now }
     requires known_before { way.before < M.states machine.now }
     requires leads { Leads (M.machine machine.now) first bytes.now way }
-    ensures { Tells (M.machine machine.now) first bytes.now way.entry.count result }
+    ensures { IsGlancedMatch (M.machine machine.now) first bytes.now way.entry.count result }
 {
     if !matches!(way.gist, Gist::NoRule) {
         return GlancedMatch {
@@ -75,6 +76,7 @@ pub fn longest_match<'m, M: Machine>(
                 keep: way.count - 1,
             };
         }
+        // A long walk is left to a turn, which marks what it has gone over.
         if FEW < way.count {
             return GlancedMatch {
                 gist: Gist::Any,
@@ -97,7 +99,7 @@ pub fn longest_match<'m, M: Machine>(
 pub fn silent_part<M: Machine>(machine: &M, way: Way<'_>) -> Option<usize>
     requires known_before { way.before < M.states machine.now }
     ensures { IfSome result (λ keep. (first : ℕ) (bytes : List ℕ) → Leads (M.machine machine.now) first bytes way.entry
-        → Tells (M.machine machine.now) first bytes way.entry.count (record { gist = Gist.Silent; keep = keep })) }
+        → IsGlancedMatch (M.machine machine.now) first bytes way.entry.count (record { gist = Gist.Silent; keep = keep })) }
 {
     if matches!(way.gist, Gist::Silent) {
         return Some(way.count);
@@ -166,6 +168,7 @@ fn do_one<K: Sink>(
             Ok(()) => Ok(condition),
         },
         Statement::Begin(after) => Ok(*after),
+        // No gist has these (`are_simple` of lex_machine).
         Statement::More
         | Statement::Less(_)
         | Statement::Reject
@@ -204,6 +207,7 @@ pub fn do_gist<K: Sink>(
             Err(e) => Err(e),
             Ok(after) => Ok(after),
         },
+        // Of the last two no rule is known: a burst ends before one of these.
         Gist::Silent | Gist::Any | Gist::NoRule => Ok(condition),
     }
 }

@@ -1,8 +1,7 @@
 //! One match, which takes bytes from the source as it asks for them, by its last two states.
-ghost use Rattle.std.specs.Prelude.{◌≡◌, ◌+◌, ◌-◌, ◌<◌, ◌≤◌, length, true, false, drop, ◌⊎◌};
+ghost use Rattle.std.specs.Prelude.{◌≡◌, ◌<◌, ◌≤◌, length, true, false, ◌⊎◌};
 ghost use Rattle.lexscan_window.specs.Intakes.{can_read, can_write};
-ghost use Rattle.lexscan_matching.specs.Looks.{SoFar};
-ghost use Rattle.lexscan_matching.specs.Picks.{path_of, state_at};
+ghost use Rattle.lexscan_matching.specs.Picks.{AsksPastHeld};
 ghost use Rattle.lexscan_matching.specs.Calls.{LookedLast};
 
 use crate::pick::LookAhead;
@@ -31,6 +30,7 @@ pub fn look_ahead_last<M: Machine, S: Source, K: Sink>(
     let mut state = machine.start(place.condition, place.line_start);
     let mut before = state;
     let mut reach = 0usize;
+    // Earlier matches have asked for these bytes: they take no read.
     'held: while reach < held - place.at {
         before = state;
         state = machine.step(state, reading.window.byte(place.at + reach));
@@ -80,14 +80,7 @@ pub fn look_ahead_more<M: Machine, S: Source, K: Sink>(
 ) -> Result<Option<LookAhead>, RunError>
     requires live { reading.old.at_end ≡ false → can_read intake.old ≡ true }
     requires sink { can_write outlet.old ≡ true }
-    requires inside { place.at + ahead.reach ≡ length reading.old.window.bytes }
-    requires so_far { SoFar (M.machine machine.now) place (drop place.at reading.old.window.bytes) ahead.reach
-        ahead.state (path_of (M.machine machine.now) place reading.old.window.bytes ahead.reach) }
-    requires goes_on { 1 ≤ ahead.reach → (M.machine machine.now).goes_on ahead.state ≡ true }
-    requires before_is { 1 ≤ ahead.reach → ahead.before ≡ state_at (M.machine machine.now) place
-        reading.old.window.bytes (ahead.reach - 1) }
-    requires known { ahead.state < M.states machine.now }
-    requires known_before { ahead.before < M.states machine.now }
+    requires asks { AsksPastHeld (M.machine machine.now) (M.states machine.now) place reading.old ahead }
 
     ensures { LookedLast (M.machine machine.now) (M.states machine.now) intake.old intake.new outlet.old outlet.new
         place reading.old reading.new result }
@@ -101,6 +94,7 @@ pub fn look_ahead_more<M: Machine, S: Source, K: Sink>(
             before: before_last(now.before, walk),
         };
         match walk.stop {
+            // Such a walk took a byte, so it knows the state before its last one.
             Stop::Done => {
                 return Ok(Some(LookAhead {
                     before: walk.before,
@@ -108,6 +102,7 @@ pub fn look_ahead_more<M: Machine, S: Source, K: Sink>(
                 }));
             }
             Stop::End => {}
+            // The machine asks for one more still.
             Stop::Full => {}
         }
     }

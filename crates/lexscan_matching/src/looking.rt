@@ -29,6 +29,7 @@ pub fn look_ahead<M: Machine, S: Source, K: Sink>(
     let mut next = place.at;
     let mut len = 0usize;
     'bytes: loop {
+        // Each match asks for a first byte, and for another where the machine goes on.
         if 0 < len && !machine.goes_on(state) {
             return Ok(true);
         }

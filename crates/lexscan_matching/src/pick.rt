@@ -5,14 +5,14 @@ ghost use Rattle.lex_semantics.specs.PlainMachine.{match_of};
 ghost use Rattle.lex_semantics.specs.MachineLaws.{NoReject};
 ghost use Rattle.lexscan_window.specs.Intakes.{can_write};
 ghost use Rattle.lexscan_matching.specs.Descends.{matches_of};
-ghost use Rattle.lexscan_matching.specs.Picks.{IsFirst, IsLongest, HasStatements, Tells, path_of};
+ghost use Rattle.lexscan_matching.specs.Picks.{IsFirst, IsLongestPick, HasStatements, HasLastStates, path_of};
 ghost use Rattle.lexscan_matching.specs.Calls.{PickedNear, PickCarried};
 
 use crate::descent::kept_length;
 use lex_io::Sink;
 use lex_machine::{Machine, Statement};
 use lexscan_window::{
-    ActionState, Finish, Outlet, RunError, Step, TextPlace, Window, carry_out, put,
+    ActionFlow, ActionState, Finish, Outlet, RunError, TextPlace, Window, carry_out, put,
 };
 
 /// How many bytes a match asked for, the state after them, and the one before the last of them.
@@ -47,6 +47,7 @@ pub fn first_candidate<'m, M: Machine>(
 {
     for rule in rules {
         let (cut, statements) = machine.rule(*rule);
+        // The rules ascend, so the first that fits is the earliest.
         if let Some(keep) = kept_length(cut, len) {
             return Some(Pick {
                 rule: *rule,
@@ -68,7 +69,7 @@ pub fn walk_again<'m, M: Machine>(
     requires condition { place.condition < (M.machine machine.now).conditions }
     requires inside { place.at + reach ≤ length window.now.bytes }
 
-    ensures { IsLongest (M.machine machine.now) place window.now.bytes reach result }
+    ensures { IsLongestPick (M.machine machine.now) place window.now.bytes reach result }
 {
     let held = window.len();
     let mut state = machine.start(place.condition, place.line_start);
@@ -78,6 +79,7 @@ pub fn walk_again<'m, M: Machine>(
         prove!(place.at <= held && len < held - place.at);
         state = machine.step(state, window.byte(place.at + len));
         len += 1;
+        // A longer match takes the place of a shorter one.
         match first_candidate(machine, machine.accepts(state), len) {
             Some(pick) => best = Some(pick),
             None => {}
@@ -95,7 +97,7 @@ pub fn near_end<'m, M: Machine>(
     ahead: LookAhead,
 ) -> Option<Pick<'m>>
     requires condition { place.condition < (M.machine machine.now).conditions }
-    requires tells { Tells (M.machine machine.now) (M.states machine.now) place window.now.bytes ahead }
+    requires tells { HasLastStates (M.machine machine.now) (M.states machine.now) place window.now.bytes ahead }
 
     ensures { PickedNear (M.machine machine.now) place window.now.bytes ahead.reach result }
 {
@@ -103,6 +105,7 @@ pub fn near_end<'m, M: Machine>(
     if let Some(pick) = first_candidate(machine, machine.accepts(ahead.state), len) {
         return Some(pick);
     }
+    // The state before the first byte is a start: no match ends there.
     if len == 1 {
         return None;
     }
@@ -127,12 +130,13 @@ pub fn carry_pick<M: Machine, K: Sink>(
     requires no_reject { NoReject (M.machine machine.now) }
     requires inside { place.at + reach ≤ length window.now.bytes }
     requires some { 1 ≤ reach }
-    requires longest { IsLongest (M.machine machine.now) place window.now.bytes reach pick }
+    requires longest { IsLongestPick (M.machine machine.now) place window.now.bytes reach pick }
 
     ensures { PickCarried (M.machine machine.now) outlet.old outlet.new window.now.bytes place.at
         (matches_of (M.machine machine.now) window.now.bytes place.at
         (path_of (M.machine machine.now) place window.now.bytes reach)) acting.old acting.new result }
 {
+    // The text begins at the front of the window, with what yymore kept, and the match at its place.
     let held = window.len();
     acting.more = false;
     match pick {
@@ -141,9 +145,10 @@ pub fn carry_pick<M: Machine, K: Sink>(
             acting.end = place.at + pick.keep;
             match carry_out(outlet, window, pick.statements, acting) {
                 Err(e) => Err(e),
-                Ok(Step::Next) => Ok(None),
-                Ok(Step::Again) => Ok(None),
-                Ok(Step::Over(finish)) => Ok(Some(finish)),
+                Ok(ActionFlow::Next) => Ok(None),
+                // A machine without REJECT never answers this.
+                Ok(ActionFlow::Again) => Ok(None),
+                Ok(ActionFlow::Over(finish)) => Ok(Some(finish)),
             }
         }
         None => {

@@ -8,10 +8,10 @@ use Rattle.lex_semantics.specs.Acting as Scan
 use Rattle.lex_semantics.specs.Acting.{StackFault}
 use Rattle.lex_semantics.specs.ActionResults.{ActionResult, Over, act_result, has_room, popped}
 use Rattle.lexscan_window.specs.declared.act.ActionState.{ActionState}
-use Rattle.lexscan_window.specs.declared.act.Step.{Step}
+use Rattle.lexscan_window.specs.declared.act.ActionFlow.{ActionFlow}
 use Rattle.lex_machine.specs.declared.action.Statement.{Statement as Item}
 use Rattle.lex_machine.specs.Views.{statement_of}
-use Rattle.lexscan_window.specs.Acts.{acting_of, said, after_step, Steps, written_of, Carried, CutShort, CarriedTo}
+use Rattle.lexscan_window.specs.Acts.{acting_of, said, after_step, StatementCarried, written_of, Carried, CutShort, CarriedTo}
 
 abbrev pub IsPrefixOf : List ℕ → List ℕ → Type 0
 IsPrefixOf u w = BeginsWith w u
@@ -72,19 +72,19 @@ module _ {K : Type 0} (wrote : K → List ℕ → K → Type 0) (none : (s : K) 
   carried_first s w ss old = record { out = []; sink = none s; acts = λ before. ap (act_result ss) (nothing_said w old before) }
 
   pub carried_next : (s t u : K) (w : List ℕ) (ss rest : List Statement) (st : Statement) (old mid new : ActionState) (left : List Statement) → left ≡ st ∷ rest → CarriedTo wrote s t w ss left old mid →
-      wrote t (said st (take mid.end w)) u → Steps w st mid new Step.Next → CarriedTo wrote s u w ss rest old new
+      wrote t (said st (take mid.end w)) u → StatementCarried w st mid new ActionFlow.Next → CarriedTo wrote s u w ss rest old new
   carried_next s t u w ss rest st old mid new left e h put steps = record {
     out = h.out ++ said st (take mid.end w);
     sink = join s t u h.out (said st (take mid.end w)) h.sink put;
     acts = λ before. h.acts before ∙ ap (λ z. act_result z (acting_of w mid (before ++ h.out))) e ∙ steps (before ++ h.out) rest ∙ ap (λ z. act_result rest (acting_of w new z)) (append_assoc before h.out (said st (take mid.end w)));
   }
 
-  pub carried_last : (s t : K) (w : List ℕ) (ss left : List Statement) (old new : ActionState) → left ≡ [] → CarriedTo wrote s t w ss left old new → Carried wrote s t w ss old new Step.Next
+  pub carried_last : (s t : K) (w : List ℕ) (ss left : List Statement) (old new : ActionState) → left ≡ [] → CarriedTo wrote s t w ss left old new → Carried wrote s t w ss old new ActionFlow.Next
   carried_last s t w ss left old new e h = record { out = h.out; sink = h.sink; acts = λ before. h.acts before ∙ ap (λ z. act_result z (acting_of w new (before ++ h.out))) e }
 
   -- a statement after which none follows
-  pub carried_stop : (s t u : K) (w : List ℕ) (ss rest : List Statement) (st : Statement) (old mid new : ActionState) (left : List Statement) (step : Step) → (step ≡ Step.Next → ⊥) → left ≡ st ∷ rest → CarriedTo wrote s t w ss left old mid →
-      wrote t (said st (take mid.end w)) u → Steps w st mid new step → Carried wrote s u w ss old new step
+  pub carried_stop : (s t u : K) (w : List ℕ) (ss rest : List Statement) (st : Statement) (old mid new : ActionState) (left : List Statement) (step : ActionFlow) → (step ≡ ActionFlow.Next → ⊥) → left ≡ st ∷ rest → CarriedTo wrote s t w ss left old mid →
+      wrote t (said st (take mid.end w)) u → StatementCarried w st mid new step → Carried wrote s u w ss old new step
   carried_stop s t u w ss rest st old mid new left step stops e h put steps = record {
     out = h.out ++ said st (take mid.end w);
     sink = join s t u h.out (said st (take mid.end w)) h.sink put;
@@ -92,10 +92,10 @@ module _ {K : Type 0} (wrote : K → List ℕ → K → Type 0) (none : (s : K) 
         ∙ ap (λ z. after_step step rest (acting_of w new z)) (append_assoc before h.out (said st (take mid.end w))) ∙ no_rest step stops (acting_of w new (before ++ (h.out ++ said st (take mid.end w))));
   }
     where
-      no_rest : (step : Step) → (step ≡ Step.Next → ⊥) → (a : Scan.Acting) → after_step step rest a ≡ after_step step [] a
-      no_rest Step.Next stops a = absurd (stops refl)
-      no_rest Step.Again stops a = refl
-      no_rest (Step.Over s) stops a = refl
+      no_rest : (step : ActionFlow) → (step ≡ ActionFlow.Next → ⊥) → (a : Scan.Acting) → after_step step rest a ≡ after_step step [] a
+      no_rest ActionFlow.Next stops a = absurd (stops refl)
+      no_rest ActionFlow.Again stops a = refl
+      no_rest (ActionFlow.Over s) stops a = refl
 
   -- a statement that was refused
   pub cut_short : (s t u : K) (w : List ℕ) (ss rest : List Statement) (st : Statement) (old mid : ActionState) (left : List Statement) → left ≡ st ∷ rest → CarriedTo wrote s t w ss left old mid →

@@ -8,7 +8,7 @@ use Rattle.lex_semantics.specs.Acting.{Ending, Status, StackFault}
 use Rattle.lex_semantics.specs.ActionResults.{ActionResult, Done, Over, act_result}
 use Rattle.lexscan_window.specs.declared.act.ActionState.{ActionState}
 use Rattle.lexscan_window.specs.declared.act.Finish.{Finish}
-use Rattle.lexscan_window.specs.declared.act.Step.{Step}
+use Rattle.lexscan_window.specs.declared.act.ActionFlow.{ActionFlow}
 
 -- over these bytes, after so much was written
 abbrev pub acting_of : List ℕ → ActionState → List ℕ → Scan.Acting
@@ -31,13 +31,14 @@ finish_of (Finish.Status s) = Status s
 finish_of Finish.StackFault = StackFault
 
 -- what follows, where these statements are left
-abbrev pub after_step : Step → List Statement → Scan.Acting → ActionResult
-after_step Step.Next rest a = act_result rest a
-after_step Step.Again rest a = Results.Again a
-after_step (Step.Over f) rest a = Over a (finish_of f)
+abbrev pub after_step : ActionFlow → List Statement → Scan.Acting → ActionResult
+after_step ActionFlow.Next rest a = act_result rest a
+after_step ActionFlow.Again rest a = Results.Again a
+after_step (ActionFlow.Over f) rest a = Over a (finish_of f)
 
-abbrev pub Steps : List ℕ → Statement → ActionState → ActionState → Step → Type 0
-Steps w st old new step = (before : List ℕ) (rest : List Statement) → act_result (st ∷ rest) (acting_of w old before) ≡ after_step step rest (acting_of w new (before ++ said st (take old.end w)))
+-- One statement was carried out, and this follows.
+abbrev pub StatementCarried : List ℕ → Statement → ActionState → ActionState → ActionFlow → Type 0
+StatementCarried w st old new step = (before : List ℕ) (rest : List Statement) → act_result (st ∷ rest) (acting_of w old before) ≡ after_step step rest (acting_of w new (before ++ said st (take old.end w)))
 
 -- what was written by the end of an action
 abbrev pub written_of : ActionResult → List ℕ
@@ -46,7 +47,7 @@ written_of (Results.Again a) = a.written
 written_of (Over a e) = a.written
 
 -- These statements were carried out.
-pub record Carried {K : Type 0} (wrote : K → List ℕ → K → Type 0) (s t : K) (w : List ℕ) (ss : List Statement) (old new : ActionState) (step : Step) : Type 0 where
+pub record Carried {K : Type 0} (wrote : K → List ℕ → K → Type 0) (s t : K) (w : List ℕ) (ss : List Statement) (old new : ActionState) (step : ActionFlow) : Type 0 where
   pub out : List ℕ
   pub sink : wrote s out t
   pub acts : (before : List ℕ) → act_result ss (acting_of w old before) ≡ after_step step [] (acting_of w new (before ++ out))

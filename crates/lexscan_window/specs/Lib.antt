@@ -3,6 +3,7 @@ pub mod Walks
 pub mod Answer
 pub mod Intakes
 pub mod Reads
+pub mod States
 pub mod Ends
 pub mod Takings
 pub mod Acts

@@ -1,5 +1,5 @@
 -- What the calls of a source over waiting bytes do.
-use Rattle.std.proofs.Common.{◌≡◌, ℕ, ◌<◌, ◌≤◌, ◌^◌, ◌⊎◌, inl, inr, List, [], ◌++◌, length, refl, sym, ap, ◌∙◌, append_assoc, arith, lit<}
+use Rattle.std.proofs.Common.{◌≡◌, ℕ, ◌<◌, ◌≤◌, ◌⊎◌, inl, inr, List, [], ◌++◌, length, refl, sym, ap, ◌∙◌, append_assoc, arith}
 use Rattle.std.proofs.lemmas.List.{length-append, nil_from_length}
 use Rattle.std.proofs.lemmas.Bool.{cases_lt}
 use Rattle.lexscan_window.specs.declared.waiting.Waiting.{Waiting}
@@ -21,10 +21,6 @@ pub record GivesWaiting (rest : List ℕ) (ends : ℕ) (rest' : List ℕ) (ends'
   pub taken : rest ≡ bytes ++ rest'
   pub later : ends ≤ ends'
   pub whole : ends < ends' → rest' ≡ []
-
--- what never fails has a count of 64 bits
-pub no-failures : 0 < 2 ^ 64
-no-failures = lit< tt
 
 pub gives-none : (rest : List ℕ) (ends : ℕ) → GivesWaiting rest ends rest ends []
 gives-none rest ends = record { taken = refl; later = omega arith; whole = λ h. absurd (omega (arith, h)) }

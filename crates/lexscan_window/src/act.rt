@@ -5,7 +5,7 @@ ghost use Rattle.lex_io.specs.Sink.{Appended, fault_count};
 ghost use Rattle.lexscan_window.specs.Reads.{write_fault_count};
 ghost use Rattle.lexscan_window.specs.Ends.{SinkLeft};
 ghost use Rattle.lex_machine.specs.Views.{statement_of};
-ghost use Rattle.lexscan_window.specs.Acts.{said, Steps, Carried, CutShort};
+ghost use Rattle.lexscan_window.specs.Acts.{said, StatementCarried, Carried, CutShort};
 ghost use Rattle.lexscan_window.specs.Intakes.{sink_of, sink_name, can_write};
 
 use crate::error::RunError;
@@ -25,18 +25,23 @@ pub struct ActionState {
     pub more: bool,
 }
 
-/// How a scan ends: with a status, or because the stack of conditions was full or empty.
+/// How an action ends a scan.
 #[derive(Clone, Copy)]
 pub enum Finish {
+    /// With this status, 0 to 63.
     Status(u8),
+    /// The stack of conditions was full at a push, or empty at a pop.
     StackFault,
 }
 
-/// What follows a statement or an action.
+/// What follows a statement, or a whole action.
 #[derive(Clone, Copy)]
-pub enum Step {
+pub enum ActionFlow {
+    /// The next statement, or the next turn.
     Next,
+    /// The next best match, after REJECT.
     Again,
+    /// The end of the scan.
     Over(Finish),
 }
 
@@ -61,7 +66,7 @@ pub fn carry_one<K: Sink>(
     window: &Window,
     statement: &Statement,
     acting: &mut ActionState,
-) -> Result<Step, RunError>
+) -> Result<ActionFlow, RunError>
     requires live { can_write outlet.old ≡ true }
     requires inside { acting.old.end ≤ length window.now.bytes }
 
@@ -72,30 +77,32 @@ pub fn carry_one<K: Sink>(
 
     ensures inside { acting.new.end ≤ length window.now.bytes }
     ensures steps { IfOk result
-        (λ step. Steps window.now.bytes (statement_of statement.now) acting.old acting.new step) }
+        (λ step. StatementCarried window.now.bytes (statement_of statement.now) acting.old acting.new step) }
 {
     match statement {
         Statement::Echo => put(outlet, window.slice(0, acting.end))?,
         Statement::Print(bytes) => put(outlet, bytes.as_slice())?,
         Statement::Begin(condition) => acting.condition = *condition,
         Statement::More => acting.more = true,
+        // The text is never made longer.
         Statement::Less(count) => acting.end = acting.end.min(usize::from(*count)),
-        Statement::Reject => return Ok(Step::Again),
-        Statement::End(status) => return Ok(Step::Over(Finish::Status(*status))),
+        Statement::Reject => return Ok(ActionFlow::Again),
+        Statement::End(status) => return Ok(ActionFlow::Over(Finish::Status(*status))),
         Statement::Push(condition) => {
+            // The condition goes there as this action has set it so far.
             if !acting.stack.push(acting.condition) {
-                return Ok(Step::Over(Finish::StackFault));
+                return Ok(ActionFlow::Over(Finish::StackFault));
             }
             acting.condition = *condition;
         }
         Statement::Pop => {
             let Some(condition) = acting.stack.pop() else {
-                return Ok(Step::Over(Finish::StackFault));
+                return Ok(ActionFlow::Over(Finish::StackFault));
             };
             acting.condition = condition;
         }
     }
-    Ok(Step::Next)
+    Ok(ActionFlow::Next)
 }
 
 /// Carries out the statements from the first on.
@@ -105,7 +112,7 @@ pub fn carry_out<K: Sink>(
     window: &Window,
     statements: &[Statement],
     acting: &mut ActionState,
-) -> Result<Step, RunError>
+) -> Result<ActionFlow, RunError>
     requires live { can_write outlet.old ≡ true }
     requires inside { acting.old.end ≤ length window.now.bytes }
 
@@ -120,9 +127,9 @@ pub fn carry_out<K: Sink>(
 {
     for statement in statements {
         match carry_one(outlet, window, statement, acting)? {
-            Step::Next => {}
+            ActionFlow::Next => {}
             stop => return Ok(stop),
         }
     }
-    Ok(Step::Next)
+    Ok(ActionFlow::Next)
 }

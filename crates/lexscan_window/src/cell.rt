@@ -73,6 +73,7 @@ impl Cell {
             }
         } else {
             Cell {
+                // A mark that is lost costs time alone.
                 fourth: state,
                 ..self
             }

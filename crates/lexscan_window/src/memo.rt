@@ -147,6 +147,7 @@ impl Memo {
     pub fn put(&mut self, place: u64, state: u32)
         ensures { (m : Mark) → Among self.new m → Among self.old m ⊎ (m ≡ record { place = place; state = state }) }
     {
+        // No specification makes a greater state, and a mark that is lost costs time alone.
         let Ok(state) = u16::try_from(state) else {
             return;
         };

@@ -29,9 +29,11 @@ fn take_plain<S: Source, K: Sink>(
     if reading.taken >= reading.max_reads {
         return Err(RunError::TooManyReads);
     }
+    // Room comes before the read, so that no byte that was read is lost.
     if let Err(_) = reading.window.reserve() {
         return Err(RunError::OutOfMemory);
     }
+    // Who waits for what was written may be who is to send more.
     if let Err(fault) = tie(intake, outlet) {
         return Err(fault);
     }
@@ -111,6 +113,7 @@ pub fn fill<M: Machine, S: Source, K: Sink>(
     ensures { WindowFilled (M.machine machine.now) (M.states machine.now) intake.old intake.new outlet.old outlet.new
         reading.old reading.new first result }
 {
+    // Only a read of one byte may wait; bytes that are ready are taken many at a time.
     if intake.ahead().is_empty() {
         return match take_plain(intake, outlet, reading) {
             Err(e) => Err(e),
@@ -153,6 +156,7 @@ pub fn fetch<S: Source, K: Sink>(
             Ok(()) => Ok(true),
         };
     }
+    // After its end a source is not called again.
     let ended = reading.at_end;
     if ended {
         return Ok(false);

@@ -1,5 +1,5 @@
 //! What a scanner keeps beside its two ends.
-ghost use Rattle.std.specs.Prelude.{◌≡◌, ◌+◌, ◌≤◌, false, true, None, []};
+ghost use Rattle.std.specs.Prelude.{◌≡◌, ◌+◌, ◌≤◌, false, None, []};
 ghost use Rattle.lex_semantics.specs.ByteSets.{bit_of};
 
 use crate::act::ActionState;
@@ -40,15 +40,12 @@ pub struct State {
 }
 
 impl State {
+    ghost use Rattle.lexscan_window.specs.States.{IsFirstReading, IsFirstPlace};
+
     /// What a scanner keeps before its first turn.
     pub fn new(alloc: Global, max_reads: u64) -> State
-        ensures held { result.reading.window.bytes ≡ [] }
-        ensures max_reads { result.reading.max_reads ≡ max_reads }
-        ensures taken { result.reading.taken ≡ 0 }
-        ensures at_end { result.reading.at_end ≡ false }
-        ensures at { result.place.at ≡ 0 }
-        ensures line_start { result.place.line_start ≡ true }
-        ensures condition { result.place.condition ≡ 0 }
+        ensures reading { IsFirstReading max_reads result.reading }
+        ensures place { IsFirstPlace result.place }
         ensures stack { result.acting.stack ≡ [] }
         ensures matched { result.matched ≡ None }
         ensures ended { result.ended ≡ None }

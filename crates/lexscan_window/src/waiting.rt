@@ -1,6 +1,6 @@
 //! A source over bytes that wait in memory.
 ghost use Rattle.std.specs.Prelude.{◌≡◌, refl, ℕ, ◌+◌, ◌-◌, ◌^◌, ◌<◌, ◌≤◌, false, List, [], ◌++◌, length, take};
-ghost use Rattle.lex_io.specs.Taking.{never-waits};
+ghost use Rattle.lex_io.specs.Taking.{never-fails, never-waits};
 
 use lex_io::{ReadFault, Source};
 
@@ -47,7 +47,7 @@ impl<'a> Waiting<'a> {
 
 impl Source for Waiting<'_> {
     ghost use Rattle.lexscan_window.specs.Waits.{bytes_left, bytes_ready, ends_told, GivesWaiting};
-    ghost use Rattle.lexscan_window.specs.Waits.{gives-none, gives-more, no-failures};
+    ghost use Rattle.lexscan_window.specs.Waits.{gives-none, gives-more};
 
     ghost gave = { λ s xs t. GivesWaiting (bytes_left s) (ends_told s) (bytes_left t) (ends_told t) xs };
 
@@ -59,6 +59,7 @@ impl Source for Waiting<'_> {
 
     ghost waits = { λ s. false };
 
+    /// The next byte, of the second slice where the first is used up; after both their end, in each call.
     fn next(&mut self) -> Result<Option<u8>, ReadFault> {
         match self.rest.split_first() {
             None => {
@@ -66,6 +67,7 @@ impl Source for Waiting<'_> {
                 Ok(None)
             }
             Some((byte, rest)) => {
+                // The second slice moves up, so that bytes are ready wherever any are left.
                 let (rest, later) = in_order(rest, self.later);
                 self.rest = rest;
                 self.later = later;
@@ -74,11 +76,13 @@ impl Source for Waiting<'_> {
         }
     }
 
+    /// What is left of the first slice, or then of the second.
     #[inline(always)]
     fn ahead(&self) -> &[u8] {
         self.rest
     }
 
+    /// Gives as many of these bytes.
     #[inline(always)]
     fn give(&mut self, count: usize) {
         let (rest, later) = in_order(&self.rest[count..], self.later);
@@ -86,6 +90,7 @@ impl Source for Waiting<'_> {
         self.later = later;
     }
 
+    /// Memory is there at once.
     fn may_wait(&self) -> bool {
         false
     }
@@ -99,5 +104,5 @@ impl Source for Waiting<'_> {
 
     ghost ends_bound = { λ s. s.ends_bound };
 
-    ghost failures_bound = { λ s. no-failures };
+    ghost failures_bound = { λ s. never-fails };
 }

@@ -62,6 +62,7 @@ pub fn walk_into<M: Machine>(place: &mut [u8], machine: &M, ready: &[u8], first:
         let byte = ready[count];
         place[count] = byte;
         count += 1;
+        // Most longest matches end at the last byte or at the one before it, so two states are kept.
         before = state;
         state = machine.step(state, byte);
         if !machine.goes_on(state) {

@@ -121,6 +121,7 @@ impl Window {
             } else {
                 room
             };
+        // The bytes are copied as the machine goes over them, so each is looked at once.
         let walk = walk_into(&mut self.buffer[begin..limit], machine, ready, first);
         self.end = begin + walk.count;
         walk

@@ -17,7 +17,7 @@ use Rattle.lexspec.specs.Skipped.{user_section, AreSkipped}
 use Rattle.lexspec.specs.Files.{AreSingle, SpellsSpec}
 use Rattle.lexspec.specs.Endings.{conditions_with}
 use Rattle.lexspec.specs.ItemReads.{names_in}
-use Rattle.lexspec.specs.RulesReads.{HasRules}
+use Rattle.lexspec.specs.SectionReads.{HasRules}
 use Rattle.lexspec_lines.specs.Sections.{HasSection}
 use Rattle.lexspec.specs.Readings.{of_sections, SpellsRest, SkipsRest}
 use Rattle.lexspec.specs.EndRules.{end_rule_of}

@@ -17,7 +17,7 @@ use Rattle.lexspec.specs.Agreeing.{Agrees}
 use Rattle.lexspec.specs.Files.{AreSingle}
 use Rattle.lexspec.specs.Keeping.{Keeps}
 use Rattle.lex_semantics.specs.Sound.{HaveSoundSides}
-use Rattle.lexspec.specs.RulesReads.{HasRules, NoSuchRules}
+use Rattle.lexspec.specs.SectionReads.{HasRules, NoSuchRules}
 use Rattle.lexspec_lines.specs.Outcome.{UnlessMemory}
 use Rattle.lexspec_lines.specs.declared.declarations.Declarations.{Declarations}
 use Rattle.lexre_bytes.specs.declared.refusals.SpecError.{SpecError}

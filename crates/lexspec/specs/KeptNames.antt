@@ -1,8 +1,8 @@
 -- What is kept of names while the rules of a file are read.
 use Rattle.lexspec_lines.specs.declared.declarations.Declarations.{Declarations}
 use Rattle.lexre.specs.Names.{AreKnown, trees_of}
-use Rattle.lexre.specs.declared.names.Names.{Names}
+use Rattle.lexre.specs.declared.name_cache.NameCache.{NameCache}
 
 -- each name stands for the tree that is kept of it, under these declarations
-abbrev pub AreKept : Declarations → Names → Type 0
+abbrev pub AreKept : Declarations → NameCache → Type 0
 AreKept d names = AreKnown d.options d.definitions (trees_of names)

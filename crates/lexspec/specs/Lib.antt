@@ -15,7 +15,7 @@ pub mod WaitingRules
 pub mod ItemReads
 pub mod Agreeing
 pub mod SkipViews
-pub mod RulesReads
+pub mod SectionReads
 pub mod EndOpenings
 pub mod Endings
 pub mod SoundSides

@@ -1,4 +1,4 @@
-//! Where the action of a rule ends. (POSIX, lex, Rules in lex.)
+//! Where the text of an action ends. (POSIX, lex, Rules in lex.)
 ghost use Rattle.std.specs.Prelude.{◌≡◌, ◌+◌, ◌<◌, ◌^◌, ◌&&◌, ◌==◌, if◌then◌else◌, ℕ};
 ghost use Rattle.std.specs.Prelude.{List, [], Option, Some, None, option_map, drop, codes};
 ghost use Rattle.lex_semantics.specs.Reading.{begins};

@@ -1,4 +1,4 @@
-//! The conditions of a rule, by number. (POSIX, lex, Rules in lex; flex, Start Conditions.)
+//! The numbers of the conditions that a rule lists. (POSIX, lex, Rules in lex; flex, Start Conditions.)
 ghost use Rattle.std.specs.Prelude.{◌≡◌, ◌≤◌, ◌<◌, ℕ, List, Bool, true, false, Option, Some, None};
 ghost use Rattle.std.specs.Prelude.{option_map, filter_map, length, slice_index_or, IfOk, IfErr, IfSome, IfNone};
 ghost use Rattle.lex_semantics.specs.Active.{lists};

@@ -1,4 +1,4 @@
-//! The ends of conditions, by the `<<EOF>>` rules. (flex, End-of-File Rules.)
+//! The end action of each condition, by the `<<EOF>>` rules. (flex, End-of-File Rules.)
 ghost use Rattle.std.specs.Prelude.{◌≡◌, ◌==◌, ◌≤◌, ℕ, true, false, List, [], ◌∷◌, ◌++◌, map, length, IfOk};
 ghost use Rattle.std.specs.List.{list_any};
 ghost use Rattle.lexspec.specs.Endings.{numbers_kept, clashes, unlisted_end as unlisted_end_in, lists_number};

@@ -1,4 +1,4 @@
-//! Patterns all of whose words have one length. No part is looked at once there is no such length.
+//! The length of all words of a pattern, where they have one. No part is looked at once there is no such length.
 ghost use Rattle.std.specs.Prelude.{◌≡◌, ◌≤◌, map, IfSome};
 ghost use Rattle.lex_semantics.specs.Shapes.{IsSoundTree, AreSoundTrees, HasPart};
 ghost use Rattle.lex_semantics.specs.Tree.{Tree, Repeat, trees};

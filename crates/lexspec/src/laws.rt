@@ -1,4 +1,4 @@
-//! Laws over the definitions.
+//! Laws over the definitions, and worked examples.
 ghost use Rattle.std.specs.Prelude.{◌≡◌, ◌≤◌, ℕ, ◌↔◌, Bool, true, false, List, map, length};
 ghost use Rattle.lex_semantics.specs.Tree.{Tree};
 ghost use Rattle.lex_semantics.specs.Shapes.{IsSoundTree};

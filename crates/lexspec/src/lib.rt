@@ -1,4 +1,36 @@
-//! Specifications of lex as values.
+//! Specifications of lex as values, and the reader of specification files. (POSIX, lex, Input Files; flex, Format of
+//! the Input File.)
+//!
+//! The modules, in an order for reading:
+//! - `rule`: a rule as a value.
+//! - `spec`: a specification as a value.
+//! - `subject`: the condition list and the pattern of a rule, as texts.
+//! - `condition_list`: the numbers of the conditions that a rule lists.
+//! - `fixed`: the length of all words of a pattern, where they have one.
+//! - `cuts`: how much of a match is the text.
+//! - `action_text`: where the text of an action ends.
+//! - `rule_text`: a rule up to its action.
+//! - `statements`: statements given to a rule, and to those that wait for them by `|`.
+//! - `endings`: the end action of each condition.
+//! - `skips`: what is skipped between rules.
+//! - `rules_so_far`: the rules that are read so far, with one item more.
+//! - `rules_section`: the whole rules section.
+//! - `reading`: whole files, `read_spec`.
+//! - `laws`: a file spells one specification, what passes the tests is sound; worked examples.
+//!
+//! `read_spec` promises the one specification that the file spells, sound by its type; what is refused spells none,
+//! unless memory ran out. A part of the reader may change alone. `Spec` and `Rule` may not: automata and tables are
+//! made of them.
+//!
+//! Decided here:
+//! - A rule that is one too many, and a second `<<EOF>>` rule of a condition, are refused where they stand. So their
+//!   own lines are told, and the rest of the file is not looked at. `^<<EOF>>` counts as a rule with a pattern until it
+//!   is refused.
+//! - An action ends where what strings, comments and braces of C are says so (`specs/Items`). The code goes over the
+//!   bytes once, by places (`specs/ActionSteps`), and a proof says that both find the same end.
+//! - The rules section is said for readers (`specs/Items`, `specs/RuleItems`), where a `$` stands for the trailing
+//!   context `\n`, and once more as the code takes it (`specs/ItemRuns`, `specs/WaitingRules`). Proofs say that both
+//!   mean the same.
 #![tactic(auto)]
 
 mod action_text;

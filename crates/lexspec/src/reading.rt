@@ -1,4 +1,4 @@
-//! Specification files. (POSIX, lex, Input Files; flex, Format of the Input File.)
+//! The reader of whole specification files. (POSIX, lex, Input Files; flex, Format of the Input File.)
 ghost use Rattle.std.specs.Prelude.{◌≡◌, ◌≤◌, ◌+◌, ◌++◌, true, length, IfOk, IfErr};
 ghost use Rattle.lex_semantics.specs.Spec.{Spec as Meant};
 ghost use Rattle.lexspec.specs.Files.{SpellsSpec};
@@ -15,7 +15,7 @@ use crate::endings::with_ends;
 use crate::rules_section::{RulesSection, read_rules};
 use crate::spec::Spec;
 use lex_semantics::MAX_FILE_BYTES;
-use lexre::{Names, ReadOptions};
+use lexre::{NameCache, ReadOptions};
 use lexspec_lines::{
     Declarations, Section, Skipped, SpecError, SpecErrorKind, is_blank, read_section, split_line,
     without_returns,
@@ -77,7 +77,7 @@ fn read_on(alloc: Global, section: Section<'_>) -> Result<Spec, SpecError>
     } = section;
     let (_, text) = split_line(rest);
     let mut skipped = Skipped::new(alloc);
-    let mut names = Names::new(alloc);
+    let mut names = NameCache::new(alloc);
     match read_rules(
         alloc,
         &declarations,

@@ -1,4 +1,4 @@
-//! Rules.
+//! A rule as a value.
 
 use lex_machine::{Cut, Statement};
 use lexre::Pattern;
@@ -16,6 +16,7 @@ pub struct Rule {
     pub head: Pattern,
     /// Its trailing context: `r/s` or `r$`.
     pub trail: Option<Pattern>,
+    /// How much of a match is the text.
     pub cut: Cut,
     /// Its action, in normal form.
     pub statements: Vec<Statement>,

@@ -1,4 +1,4 @@
-//! The rules of a file, but for their actions. (POSIX, lex, Rules in lex; flex, Patterns, End-of-File Rules.)
+//! The reader of a rule up to its action: conditions, trees and cut. (POSIX, lex, Rules in lex; flex, Patterns.)
 ghost use Rattle.std.specs.Prelude.{◌≡◌, ℕ, ◌≤◌, true, List, length, Option, Some, None};
 ghost use Rattle.std.specs.Prelude.{option_map, IfOk, IfErr, IfSome, OnErr, OnOk};
 ghost use Rattle.lex_semantics.specs.Tree.{Tree};
@@ -25,7 +25,7 @@ use crate::cuts::cut_by;
 use crate::rule::Rule;
 use crate::subject::{Subject, Trailing, conditions_at, subject_at};
 use lex_machine::Cut;
-use lexre::{ByteSet, Names, Pattern, PatternError, read_with_names};
+use lexre::{ByteSet, NameCache, Pattern, PatternError, read_with_names};
 use lexspec_lines::{Declarations, SpecErrorKind, skip_blanks};
 use std::alloc::Global;
 
@@ -56,7 +56,7 @@ struct Sides {
 fn read_side(
     alloc: Global,
     declarations: &Declarations,
-    names: &mut Names,
+    names: &mut NameCache,
     text: &[u8],
     at: usize,
 ) -> Result<Pattern, SpecErrorKind>
@@ -86,7 +86,7 @@ fn read_side(
 fn read_trail(
     alloc: Global,
     declarations: &Declarations,
-    names: &mut Names,
+    names: &mut NameCache,
     trail: Trailing<'_>,
     at: usize,
 ) -> Result<Option<Pattern>, SpecErrorKind>
@@ -113,7 +113,7 @@ fn read_trail(
 fn read_sides(
     alloc: Global,
     declarations: &Declarations,
-    names: &mut Names,
+    names: &mut NameCache,
     head: &[u8],
     trail: Trailing<'_>,
     at: usize,
@@ -149,7 +149,7 @@ fn read_sides(
 pub(crate) fn read_rule_text<'a>(
     alloc: Global,
     declarations: &Declarations,
-    names: &mut Names,
+    names: &mut NameCache,
     text: &'a [u8],
     line: u32,
 ) -> Result<RuleText<'a>, SpecErrorKind>

@@ -1,4 +1,4 @@
-//! Lines of the rules section that are no rules. (POSIX, lex, Rules in lex; flex, Format of the Input File.)
+//! What is skipped between rules: blank lines, code, blocks. (flex, Format of the Input File.)
 ghost use Rattle.std.specs.Prelude.{◌≡◌, ℕ, ◌<◌, List, true, false, length, codes, IfOk, IfErr, IfSome, IfNone, OnErr};
 ghost use Rattle.lex_semantics.specs.Reading.{begins};
 ghost use Rattle.lexspec.specs.ItemRuns.{Item, IsLine};

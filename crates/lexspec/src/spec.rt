@@ -1,4 +1,4 @@
-//! Specifications.
+//! A specification as a value, and its readers.
 ghost use Rattle.std.specs.Prelude.{◌≡◌, true, map};
 ghost use Rattle.lexspec_actions.specs.Views.{condition_of};
 ghost use Rattle.lexspec.specs.RuleViews.{rule_of};

@@ -1,4 +1,4 @@
-//! Rules with their actions. (POSIX, lex, Actions in lex.)
+//! Statements, given to a rule and to those before it that wait for them by `|`. (POSIX, lex, Actions in lex.)
 ghost use Rattle.std.specs.Prelude.{◌≡◌, ◌++◌, ◌∷◌, [], map, IfOk};
 ghost use Rattle.lexspec_actions.specs.Views.{statement_of};
 ghost use Rattle.lexspec.specs.WaitingRules.{acting};

@@ -1,5 +1,4 @@
-//! What stands before the action of a rule: its condition list and its pattern. (POSIX, lex, Rules in lex; flex,
-//! Patterns, Start Conditions, End-of-File Rules.)
+//! The condition list and the pattern of a rule, as texts. (POSIX, lex, Rules in lex; flex, Patterns.)
 ghost use Rattle.std.specs.Prelude.{◌≡◌, ◌+◌, ◌<◌, ◌^◌, ℕ, List, false, Option, Some, None};
 ghost use Rattle.std.specs.Prelude.{option_map, take, drop, IfOk, IfErr, OnErr};
 ghost use Rattle.std.specs.List.{list_all};

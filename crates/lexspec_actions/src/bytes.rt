@@ -19,6 +19,7 @@ use lexre_bytes::{
 };
 use std::alloc::Global;
 
+/// Whether the byte is a blank or a newline.
 #[tactic(auto, unfolding(lex_semantics::specs::ByteSets::is_blank))]
 fn is_white(byte: u8) -> bool
     ensures { result ≡ is_white byte }
@@ -33,6 +34,7 @@ fn split_digits(text: &[u8]) -> (&[u8], &[u8])
     take_up_to(text.len(), |byte| Class::Digit.contains(byte), text)
 }
 
+/// The name at the front, and what follows it. None where no name begins there.
 #[tactic(auto, unfolding(lexre_bytes::specs::Lexical::name_at))]
 pub(crate) fn name_at(text: &[u8]) -> Option<(&[u8], &[u8])>
     ensures name { option_map (λ x. (x.0.now, x.1.now)) result ≡ name_at text.now }
@@ -45,6 +47,7 @@ pub(crate) fn name_at(text: &[u8]) -> Option<(&[u8], &[u8])>
     Some(split_name(text))
 }
 
+/// The digits at the front, of which there is one at least, and what follows them.
 #[tactic(auto, unfolding(lexre_bytes::specs::Lexical::run_at), using(lex_semantics::proofs::ReadingLaws::empty_test))]
 pub(crate) fn digits_at(text: &[u8]) -> Option<(&[u8], &[u8])>
     ensures digits { option_map (λ x. (x.0.now, x.1.now)) result ≡ digits_at text.now }
@@ -138,6 +141,7 @@ pub(crate) fn next(byte: u8, text: &[u8]) -> Option<&[u8]>
     }
 }
 
+/// The byte that a letter or sign stands for after a backslash in a string. None for any other.
 #[tactic(auto, unfolding(crate::specs::ByteSteps::plain_escape, lex_semantics::specs::Escapes::simple_escape))]
 fn plain_escape(byte: u8) -> Option<u8>
     ensures { result ≡ plain_escape byte }
@@ -217,6 +221,8 @@ fn string_at(alloc: Global, text: &[u8]) -> Result<(Vec<u8>, &[u8]), SpecErrorKi
     Err(SpecErrorKind::Unclosed)
 }
 
+/// The bytes of the string that comes next, and what follows its closing quote. `UnknownStatement` where none begins or
+/// a byte may not stand there, `Unclosed` where it is left open.
 #[tactic(auto, using(crate::proofs::SameBytes::literal_is))]
 pub(crate) fn literal_at(alloc: Global, text: &[u8]) -> Result<(Vec<u8>, &[u8]), SpecErrorKind>
     ensures literal { Reads (λ x. (x.0.items, x.1.now)) result (literal_at text.now) }

@@ -20,6 +20,7 @@ use lex_semantics::{MAX_KEPT, MAX_STATUS};
 use lexre_bytes::{SpecErrorKind, capped_value};
 use std::alloc::Global;
 
+/// What follows the word, where it comes next.
 #[tactic(auto, unfolding(crate::specs::ActionSteps::this_word))]
 fn this_word<'a>(word: &[u8], text: &'a [u8]) -> Option<&'a [u8]>
     ensures spelled { option_map (λ r. r.now) result ≡ this_word word.now text.now }
@@ -29,6 +30,7 @@ fn this_word<'a>(word: &[u8], text: &'a [u8]) -> Option<&'a [u8]>
     if name == word { Some(rest) } else { None }
 }
 
+/// What follows empty parentheses, where they come next.
 #[tactic(auto, unfolding(crate::specs::ActionSteps::no_argument))]
 fn no_argument(text: &[u8]) -> Option<&[u8]>
     ensures spelled { option_map (λ r. r.now) result ≡ no_argument text.now }
@@ -50,6 +52,7 @@ fn number_argument(text: &[u8]) -> Option<(u32, &[u8])>
     Some((capped_value(10, digits), after))
 }
 
+/// What follows a comma, the word and a closing parenthesis, where they come next.
 #[tactic(auto, unfolding(crate::specs::ActionSteps::second_word))]
 fn second_word<'a>(word: &[u8], text: &'a [u8]) -> Option<&'a [u8]>
     ensures spelled { option_map (λ r. r.now) result ≡ second_word word.now text.now }
@@ -60,6 +63,7 @@ fn second_word<'a>(word: &[u8], text: &'a [u8]) -> Option<&'a [u8]>
     next(b')', rest)
 }
 
+/// What printf prints by the format: alone, or with yytext as its second argument, just where the format has a `%s`.
 #[tactic(auto, unfolding(crate::specs::ActionSteps::formatted_at))]
 fn formatted_at<'a>(
     alloc: Global,
@@ -89,6 +93,7 @@ fn formatted_at<'a>(
     }
 }
 
+/// The arguments of printf: a format, and yytext where it has a `%s`.
 #[tactic(auto, unfolding(crate::specs::ActionSteps::printf_at))]
 fn printf_at(alloc: Global, text: &[u8]) -> Result<(Called, &[u8]), SpecErrorKind>
     ensures spelled { CallReads (λ x. x.0) (λ x. x.1.now) result (printf_at text.now) }
@@ -102,6 +107,7 @@ fn printf_at(alloc: Global, text: &[u8]) -> Result<(Called, &[u8]), SpecErrorKin
     formatted_at(alloc, &literal, rest)
 }
 
+/// The arguments of fputs: a string and yyout.
 #[tactic(auto, unfolding(crate::specs::ActionSteps::fputs_at))]
 fn fputs_at(alloc: Global, text: &[u8]) -> Result<(Called, &[u8]), SpecErrorKind>
     ensures spelled { CallReads (λ x. x.0) (λ x. x.1.now) result (fputs_at text.now) }
@@ -118,6 +124,7 @@ fn fputs_at(alloc: Global, text: &[u8]) -> Result<(Called, &[u8]), SpecErrorKind
     Ok((Called::Says(Said::Prints(literal)), after))
 }
 
+/// The argument of puts: a string, after which a newline is printed.
 #[tactic(auto, unfolding(crate::specs::ActionSteps::puts_at))]
 fn puts_at(alloc: Global, text: &[u8]) -> Result<(Called, &[u8]), SpecErrorKind>
     ensures spelled { CallReads (λ x. x.0) (λ x. x.1.now) result (puts_at text.now) }
@@ -136,6 +143,7 @@ fn puts_at(alloc: Global, text: &[u8]) -> Result<(Called, &[u8]), SpecErrorKind>
     Ok((Called::Says(Said::Prints(line)), after))
 }
 
+/// The parentheses of yymore.
 #[tactic(auto, unfolding(crate::specs::ActionSteps::yymore_at))]
 fn yymore_at(text: &[u8]) -> Option<(Called, &[u8])>
     ensures spelled { CallFinds (λ x. x.0) (λ x. x.1.now) result (yymore_at text.now) }
@@ -145,6 +153,7 @@ fn yymore_at(text: &[u8]) -> Option<(Called, &[u8])>
     Some((Called::Says(Said::Does(Statement::More)), rest))
 }
 
+/// The parentheses of yyterminate, which ends the scan with status 0.
 #[tactic(auto, unfolding(crate::specs::ActionSteps::yyterminate_at))]
 fn yyterminate_at(text: &[u8]) -> Option<(Called, &[u8])>
     ensures spelled { CallFinds (λ x. x.0) (λ x. x.1.now) result (yyterminate_at text.now) }
@@ -154,6 +163,7 @@ fn yyterminate_at(text: &[u8]) -> Option<(Called, &[u8])>
     Some((Called::Says(Said::Does(Statement::End(0))), rest))
 }
 
+/// The argument of yyless, from 1 on; another is a `BadCount`.
 #[tactic(auto, unfolding(crate::specs::ActionSteps::yyless_at))]
 fn yyless_at(text: &[u8]) -> Option<(Called, &[u8])>
     ensures spelled { CallFinds (λ x. x.0) (λ x. x.1.now) result (yyless_at text.now) }
@@ -169,6 +179,7 @@ fn yyless_at(text: &[u8]) -> Option<(Called, &[u8])>
     ))
 }
 
+/// The argument of exit; a status that is too great is a `BadStatus`.
 #[tactic(auto, unfolding(crate::specs::ActionSteps::exit_at))]
 fn exit_at(text: &[u8]) -> Option<(Called, &[u8])>
     ensures spelled { CallFinds (λ x. x.0) (λ x. x.1.now) result (exit_at text.now) }
@@ -202,6 +213,7 @@ fn condition_at<'a>(conditions: &[Condition], text: &'a [u8]) -> Option<(Option<
     }
 }
 
+/// A condition and a closing parenthesis.
 #[tactic(auto, unfolding(crate::specs::ActionSteps::closed_condition))]
 fn closed_condition<'a>(conditions: &[Condition], text: &'a [u8]) -> Option<(Option<u8>, &'a [u8])>
     requires { length conditions.now ≤ max_conditions }
@@ -224,6 +236,7 @@ fn begins(number: Option<u8>) -> Called
     }
 }
 
+/// The condition of BEGIN, in parentheses or without.
 #[tactic(auto, unfolding(crate::specs::ActionSteps::begin_at))]
 fn begin_at<'a>(conditions: &[Condition], text: &'a [u8]) -> Option<(Called, &'a [u8])>
     requires { length conditions.now ≤ max_conditions }
@@ -249,6 +262,7 @@ fn push_of(number: Option<u8>) -> Called
     }
 }
 
+/// The condition of yy_push_state, in parentheses.
 #[tactic(auto, unfolding(crate::specs::ActionSteps::push_at))]
 fn push_at<'a>(conditions: &[Condition], text: &'a [u8]) -> Option<(Called, &'a [u8])>
     requires { length conditions.now ≤ max_conditions }
@@ -263,6 +277,7 @@ fn push_at<'a>(conditions: &[Condition], text: &'a [u8]) -> Option<(Called, &'a 
     None
 }
 
+/// The parentheses of yy_pop_state.
 #[tactic(auto, unfolding(crate::specs::ActionSteps::pop_at))]
 fn pop_at(text: &[u8]) -> Option<(Called, &[u8])>
     ensures spelled { CallFinds (λ x. x.0) (λ x. x.1.now) result (pop_at text.now) }
@@ -293,6 +308,7 @@ fn stack_word<'a>(
     }
 }
 
+/// What follows a statement: a semicolon is passed, and else a closing brace or the end of the text comes next.
 #[tactic(auto, unfolding(crate::specs::ActionSteps::after_statement))]
 fn after_statement(text: &[u8]) -> Option<&[u8]>
     ensures spelled { option_map (λ r. r.now) result ≡ after_statement text.now }
@@ -307,6 +323,7 @@ fn after_statement(text: &[u8]) -> Option<&[u8]>
     }
 }
 
+/// What a call says by its first word, and what follows it. The stack's words count only where `stack` says so.
 #[tactic(auto, unfolding(crate::specs::ActionSteps::after_word))]
 fn after_word<'a>(
     alloc: Global,
@@ -348,6 +365,8 @@ fn after_word<'a>(
     }
 }
 
+/// The statement at the front of a text, and what follows it. `UnknownStatement` where none of the list stands there;
+/// else the fault of its argument.
 #[tactic(auto, unfolding(crate::specs::ActionSteps::statement_at))]
 pub(crate) fn statement_at<'a>(
     alloc: Global,

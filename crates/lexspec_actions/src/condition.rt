@@ -9,8 +9,11 @@ use lex_machine::EndAction;
 /// (POSIX, lex, Definitions in lex.)
 #[derive(Drop)]
 pub struct Condition {
+    /// Its name.
     pub name: Vec<u8>,
+    /// Whether rules without a condition list are not active in it.
     pub exclusive: bool,
+    /// What is done at the end of the input.
     pub end: EndAction,
 }
 

@@ -22,6 +22,7 @@ pub(crate) struct Format {
 }
 
 impl Format {
+    /// Takes one byte of the format. After a `%` comes `%`, or once `s`; anything else is an `UnknownStatement`.
     fn take(&mut self, alloc: Global, byte: u8) -> Result<(), SpecErrorKind>
         ensures ok { OnOk result ((t : List ℕ)
             → read_on (format_view self.new) t ≡ read_on (format_view self.old) (byte ∷ t)) }

@@ -15,6 +15,7 @@ use lex_machine::{Statement, has_reject};
 use lex_semantics::{MAX_LITERAL_BYTES, MAX_STATEMENTS};
 use lexre_bytes::SpecErrorKind;
 
+/// Whether one of the statements is yymore.
 fn has_more(statements: &[Statement]) -> bool
     ensures { result ≡ has_more (map statement_of statements.now) }
 {
@@ -26,6 +27,7 @@ fn has_more(statements: &[Statement]) -> bool
     false
 }
 
+/// Whether one of the statements is yyless.
 fn has_less(statements: &[Statement]) -> bool
     ensures { result ≡ has_less (map statement_of statements.now) }
 {
@@ -37,6 +39,7 @@ fn has_less(statements: &[Statement]) -> bool
     false
 }
 
+/// How many of the statements are yyless.
 fn count_less(statements: &[Statement]) -> usize
     ensures { result ≡ count_less (map statement_of statements.now) }
 {

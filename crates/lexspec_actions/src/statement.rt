@@ -30,6 +30,7 @@ pub(crate) enum Called {
     UnknownCondition,
 }
 
+/// What the text of an action is made of, between blanks and comments.
 #[derive(Drop)]
 pub(crate) enum Piece {
     Semicolon,

@@ -1,4 +1,5 @@
 pub mod RunLaws
+pub mod ReturnLaws
 pub mod SkipLaws
 pub mod CodeLaws
 pub mod TextLaws

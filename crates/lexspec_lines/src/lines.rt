@@ -10,18 +10,22 @@ use bstr::ByteSlice;
 use lexre_bytes::{skip_first, take_up_to};
 use std::alloc::{AllocError, Global};
 
-/// The text without each carriage return that stands directly before a newline.
+/// The text without each carriage return that stands directly before a newline. What stands between carriage returns is
+/// copied at once.
 pub fn without_returns(alloc: Global, text: &[u8]) -> Result<Vec<u8>, AllocError>
     ensures { IfOk result (λ kept. kept.items ≡ without_returns text.now) }
 {
     let mut kept = Vec::new(alloc);
     let mut rest = text;
-    while let Some((first, after)) = rest.split_first() {
-        if !(*first == b'\r' && after.starts_with(b"\n")) {
-            kept.push(*first)?;
+    while let Some(at) = rest.find_byte(b'\r') {
+        let (front, back) = rest.split_at(at);
+        kept.extend_from_slice(front)?;
+        rest = skip_first(back);
+        if !rest.starts_with(b"\n") {
+            kept.push(b'\r')?;
         }
-        rest = after;
     }
+    kept.extend_from_slice(rest)?;
     Ok(kept)
 }
 

@@ -122,42 +122,52 @@ impl Machine for Flat {
 
     ghost below = { λ f. below_of (tables_of f) };
 
+    /// How many conditions there are.
     fn conditions(&self) -> usize {
         self.tables.conditions()
     }
 
+    /// How many rules there are.
     fn rules(&self) -> usize {
         self.tables.rules()
     }
 
+    /// The state where a match starts in a condition, at the start of a line or not.
     fn start(&self, condition: u8, line_start: bool) -> u32 {
         self.tables.start(condition, line_start)
     }
 
+    /// The state after one byte more, by one look-up in the rows.
     fn step(&self, state: u32, byte: u8) -> u32 {
         state_of(self.target(256 * state, byte))
     }
 
+    /// Whether a longer text may be accepted.
     fn goes_on(&self, state: u32) -> bool {
         self.tables.goes_on[state as usize]
     }
 
+    /// The rules that the state accepts.
     fn accepts(&self, state: u32) -> &[u32] {
         self.tables.accepts(state)
     }
 
+    /// How much of a match of a rule is the text, and what is done.
     fn rule(&self, rule: u32) -> (Cut, &[Statement]) {
         self.tables.rule(rule)
     }
 
+    /// What is done at the end of the input in a condition.
     fn eof(&self, condition: u8) -> &EndAction {
         self.tables.eof(condition)
     }
 
+    /// Whether some rule has REJECT.
     fn rejects(&self) -> bool {
         self.tables.rejects()
     }
 
+    /// Where the bytes lead to from a state, up to the first state that does not go on; None where all of them go on.
     #[inline(always)]
     fn way(&self, first: u32, bytes: &[u8]) -> Option<Way<'_>> {
         let mut place = 256 * first;
@@ -181,6 +191,7 @@ impl Machine for Flat {
         None
     }
 
+    /// What is told at a glance of what the first rule does that the state accepts.
     #[inline(always)]
     fn gist(&self, state: u32) -> Gist<'_> {
         gist_of(&self.tables, self.kinds[state as usize])

@@ -1,4 +1,25 @@
-//! Packed tables: what they are made of, and how they go from state to state.
+//! Packed tables: what they are made of, and how they go from state to state. It knows no automata and no
+//! specifications, so a scan by a table file needs neither.
+//!
+//! The modules, in an order for reading:
+//! - `parts`: the lists of which a table is made, as a file has them.
+//! - `tables`: a table that keeps to all that a table file is checked for.
+//! - `steps`: the state after one byte more, and rows of 256 targets for each state.
+//! - `machine`: what a table tells a scanner.
+//! - `kinds`: what is known of the first rule that each state accepts.
+//! - `flat`: a table with a row of 256 marked targets for each state, so that a step is one look-up. It is the machine
+//!   of a scan.
+//!
+//! It promises that a table keeps to `IsTable`, and is a machine by its laws; and that the flat one is the same
+//! machine. The marks of `flat` and the kinds may change alone, under the trait's contract: they are how a scan tells
+//! at a glance what a match does. The parts may not: they are the fields of the file.
+//!
+//! Decided here:
+//! - Check and next are two columns. In the code the slots are two lists of numbers, as a step wants them. In the
+//!   definitions and in the file they are pairs.
+//! - A flat row takes 1 KB a state, at most 8.4 MB for 8,192 states. The packed tables stay beside it, for the rules
+//!   and the conditions. A target at which the machine stops is marked with what its first rule does; any other is the
+//!   place of its row.
 #![tactic(auto)]
 
 mod flat;

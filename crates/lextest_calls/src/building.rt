@@ -31,9 +31,9 @@ pub(crate) fn read(alloc: Global, text: &[u8]) -> Result<Spec, SpecError> {
 
 /// The table file of a specification. Where memory for its bytes is refused, that is told as of a table.
 pub(crate) fn made(alloc: Global, text: &[u8]) -> Result<MemorySink, Fail> {
-    let generated = generate(alloc, text, Options::new())?;
+    let made = generate(alloc, text, Options::new())?.made;
     let mut file = MemorySink::new(alloc);
-    match write_tables(&generated.tables, &mut file) {
+    match write_tables(&made.tables, &mut file) {
         Ok(()) => Ok(file),
         Err(_) => Err(TableError::OutOfMemory)?,
     }

@@ -72,8 +72,8 @@ mod tests {
     #[test]
     fn filters_a_reader_by_tables(rt: HostRuntime) {
         match generate(rt.alloc(), NUMBERS, Options::new()) {
-            Ok(made) => {
-                let so = is_filtered_by(rt.alloc(), &made.tables, b"a1 b22\n", b"aN bN\n");
+            Ok(all) => {
+                let so = is_filtered_by(rt.alloc(), &all.made.tables, b"a1 b22\n", b"aN bN\n");
                 assert!(rt; so);
             }
             Err(_) => assert!(rt; false),

@@ -1,6 +1,7 @@
 //! The words that each error is shown by: those of the lines that the manual lists.
+use lex_command::ArgsError;
 use lexauto::{BuildError, OutOfMemory};
-use lexkit::{ArgsError, GenError, ScanError};
+use lexkit::{GenError, ScanError};
 use lexre::{DefsError, PatternError, PatternErrorKind};
 use lexscan::{ReadFault, RunError};
 use lexspec::{SpecError, SpecErrorKind};

@@ -1,6 +1,6 @@
 //! The lines and statuses of faults.
 use lexkit::{
-    ArgsError, BuildError, Fault, GenError, MemorySink, PatternError, PatternErrorKind, RunError,
+    BuildError, Fault, GenError, MemorySink, PatternError, PatternErrorKind, RunError,
     ScanError, SpecError, SpecErrorKind, TableError, WriteFault, write_fault,
 };
 use std::alloc::Global;
@@ -15,12 +15,7 @@ fn is_told(alloc: Global, fault: Fault<'_>, status: u8, line: &str) -> bool {
 #[test]
 fn tells_each_fault(rt: HostRuntime) {
     const ROWS: &[(Fault<'static>, u8, &str)] = &[
-        (Fault::Args(ArgsError::Usage), 64, "lex: usage\n"),
-        (
-            Fault::Args(ArgsError::OutOfMemory),
-            71,
-            "lex: out of memory\n",
-        ),
+        (Fault::Usage, 64, "lex: usage\n"),
         (
             Fault::Scan(ScanError::Generate(GenError::OutOfMemory)),
             71,

@@ -23,7 +23,7 @@ fn begins_with(tables: &Tables, text: &[u8], wanted: Candidate, rules: &[u32]) -
 
 #[test]
 fn the_longest_match(rt: HostRuntime) -> Result<(), Fail> {
-    let made = generate(rt.alloc(), LONGEST, Options::new())?;
+    let made = generate(rt.alloc(), LONGEST, Options::new())?.made;
     const ROWS: &[(&[u8], MatchedRule, usize, usize, &[u32])] = &[
         (b"if x", MatchedRule::Numbered(0), 2, 2, &[1]),
         (b"iffy", MatchedRule::Numbered(1), 4, 4, &[1]),
@@ -52,7 +52,7 @@ fn has_no_match(tables: &Tables) -> bool {
 #[test]
 fn tells_the_lines_of_rules(rt: HostRuntime) -> Result<(), Fail> {
     let rules = b"%x A\n%%\n\na  ;\n<A>b  |\nc  ;\n";
-    let made = generate(rt.alloc(), rules, Options::new())?;
+    let made = generate(rt.alloc(), rules, Options::new())?.made;
     assert!(rt; made.rule_lines.as_slice() == [4, 5, 6].as_slice());
     Ok(())
 }

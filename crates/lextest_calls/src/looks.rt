@@ -86,7 +86,7 @@ fn is_said(alloc: Global, left: &[u8], right: &[u8], line: &str) -> bool {
 /// The table file of a specification.
 fn table_file(alloc: Global, text: &[u8]) -> Option<Vec<u8>> {
     let made = match generate(alloc, text, Options::new()) {
-        Ok(made) => made,
+        Ok(all) => all.made,
         Err(_) => return None,
     };
     let mut sink = MemorySink::new(alloc);

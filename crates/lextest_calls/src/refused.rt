@@ -3,10 +3,10 @@
 //! name of an error that says that memory ran out.
 use crate::building::{machine_of, made};
 use crate::turns::{Turns, go_on, turn};
+use lex_command::{ArgsError, Job, read_args};
 use lexkit::{
-    ArgsError, BuildError, Flat, GenError, Job, MemorySink, MemorySource, Options,
-    PatternErrorKind, RunError, ScanError, Sink, SpecErrorKind, TableError, ToWrite, generate,
-    read_args, scan_spec, scan_table,
+    BuildError, Flat, GenError, MemorySink, MemorySource, Options, PatternErrorKind, RunError,
+    ScanError, Sink, SpecErrorKind, TableError, ToWrite, generate, scan_spec, scan_table,
 };
 use lexscan::{Scanner, Turn, Window, run};
 use std::alloc::{AllocError, Global};

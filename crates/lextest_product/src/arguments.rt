@@ -1,8 +1,7 @@
 //! The words of command lines.
 use crate::answer::Answer;
 use crate::row::Row;
-use lexkit::{ArgsError, read_args};
-use lexlook_calls::read_args as read_look;
+use lex_command::{ArgsError, read_args, read_look_args};
 use std::alloc::{AllocError, Global};
 use std::fmt::Debug;
 
@@ -34,5 +33,5 @@ pub(crate) fn arguments(alloc: Global, row: &Row<'_>) -> Result<Answer, AllocErr
 /// Tells what the words of a command line of lexlook ask for.
 pub(crate) fn look(alloc: Global, row: &Row<'_>) -> Result<Answer, AllocError> {
     let words = words_of(alloc, row)?;
-    asked(alloc, &read_look(alloc, words.as_slice()))
+    asked(alloc, &read_look_args(alloc, words.as_slice()))
 }

@@ -123,7 +123,7 @@ pub(crate) fn compare(alloc: Global, row: &Row<'_>) -> Result<Answer, AllocError
     let right = generate(alloc, row.value("again"), options_of(row));
     match (left, right) {
         (Ok(left), Ok(right)) => {
-            let told = told_of(alloc, &left.tables, &right.tables)?;
+            let told = told_of(alloc, &left.made.tables, &right.made.tables)?;
             Answer::telling(alloc, told.as_str())
         }
         (Err(error), _) => refused(alloc, error),
@@ -134,7 +134,7 @@ pub(crate) fn compare(alloc: Global, row: &Row<'_>) -> Result<Answer, AllocError
 /// Tells what stands against cuts at newlines, by the numbers of rules and conditions.
 pub(crate) fn obstacle(alloc: Global, row: &Row<'_>) -> Result<Answer, AllocError> {
     let made = match generate(alloc, row.value("spec"), options_of(row)) {
-        Ok(made) => made,
+        Ok(all) => all.made,
         Err(error) => return refused(alloc, error),
     };
     match find_obstacle_in(alloc, &made.tables)? {

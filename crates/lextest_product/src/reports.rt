@@ -8,11 +8,11 @@ use lexkit::{
 use std::alloc::{AllocError, Global};
 
 /// The warnings of what was made, and its states that back up.
-fn reported(alloc: Global, made: &Generated) -> Result<Answer, AllocError> {
+fn reported(alloc: Global, all: &Generated) -> Result<Answer, AllocError> {
     let mut warnings = MemorySink::new(alloc);
     let mut backup = MemorySink::new(alloc);
-    let warned = write_warnings(&made.warnings, &mut warnings).is_ok();
-    if !warned || write_backup(&made.backup, &mut backup).is_err() {
+    let warned = write_warnings(&all.made.warnings, &mut warnings).is_ok();
+    if !warned || write_backup(&all.backup, &mut backup).is_err() {
         return Answer::telling(alloc, "a write fault\n");
     }
     Ok(Answer {
@@ -24,17 +24,17 @@ fn reported(alloc: Global, made: &Generated) -> Result<Answer, AllocError> {
 /// Writes the warnings, and tells the states that back up.
 pub(crate) fn report(alloc: Global, row: &Row<'_>) -> Result<Answer, AllocError> {
     match generate(alloc, row.value("spec"), options_of(row)) {
-        Ok(made) => reported(alloc, &made),
+        Ok(all) => reported(alloc, &all),
         Err(error) => refused(alloc, error),
     }
 }
 
 /// The counts of what was made, and how long its table file is.
-fn counted(alloc: Global, made: &Generated) -> Result<Answer, AllocError> {
+fn counted(alloc: Global, all: &Generated) -> Result<Answer, AllocError> {
     let mut file = MemorySink::new(alloc);
     let mut counts = MemorySink::new(alloc);
-    let filed = write_tables(&made.tables, &mut file).is_ok();
-    if !filed || write_stats(&made.stats, &mut counts).is_err() {
+    let filed = write_tables(&all.made.tables, &mut file).is_ok();
+    if !filed || write_stats(&all.made.stats, &mut counts).is_err() {
         return Answer::telling(alloc, "a write fault\n");
     }
     let length = file.written().len();
@@ -48,7 +48,7 @@ fn counted(alloc: Global, made: &Generated) -> Result<Answer, AllocError> {
 /// Writes the counts, and tells how long the table file is.
 pub(crate) fn count(alloc: Global, row: &Row<'_>) -> Result<Answer, AllocError> {
     match generate(alloc, row.value("spec"), options_of(row)) {
-        Ok(made) => counted(alloc, &made),
+        Ok(all) => counted(alloc, &all),
         Err(error) => refused(alloc, error),
     }
 }

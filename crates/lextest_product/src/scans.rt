@@ -4,7 +4,7 @@ ghost use Rattle.std.specs.Prelude.{◌≤◌};
 use crate::answer::{Answer, lines_of};
 use crate::row::Row;
 use lexkit::{
-    Fault, GenError, MAX_POSITIONS, MAX_STATES, MemorySink, MemorySource, Options, ReadOptions,
+    Fault, GenError, Generated, MAX_POSITIONS, MAX_STATES, MemorySink, MemorySource, Options, ReadOptions,
     ScanError, Source, Tables, generate, read_spec, scan_by, scan_made, scan_spec, scan_table,
     write_tables,
 };
@@ -24,11 +24,7 @@ pub(crate) fn options_of(row: &Row<'_>) -> Options
     ensures few_states { result.limits.states ≤ MAX_STATES }
 {
     let ReadOptions { fold, posix } = read_options(row);
-    Options {
-        fold,
-        posix,
-        ..Options::new()
-    }
+    Options::reading(fold, posix)
 }
 
 /// Whether nothing may be read before this answer.
@@ -121,7 +117,7 @@ pub(crate) fn by_file(alloc: Global, file: &[u8], input: &[u8]) -> Result<Answer
 /// Whether scans by the tables that are made of a specification, and by their file, are answered so.
 fn is_made_so(alloc: Global, row: &Row<'_>, wanted: &Answer) -> Result<bool, AllocError> {
     match generate(alloc, row.value("spec"), options_of(row)) {
-        Ok(made) => {
+        Ok(Generated { made, backup: _ }) => {
             let input = row.value("input");
             let mut file = MemorySink::new(alloc);
             let _ = write_tables(&made.tables, &mut file);

@@ -15,7 +15,7 @@ fn file_of(alloc: Global, text: &[u8], options: Options) -> Option<Vec<u8>>
     requires few_positions { options.limits.positions ≤ MAX_POSITIONS }
     requires few_states { options.limits.states ≤ MAX_STATES }
 {
-    let made = generate(alloc, text, options).ok()?;
+    let made = generate(alloc, text, options).ok()?.made;
     let mut file = MemorySink::new(alloc);
     write_tables(&made.tables, &mut file).ok()?;
     Some(file.into_bytes())

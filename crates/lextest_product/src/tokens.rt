@@ -141,7 +141,7 @@ fn made(alloc: Global, tables: &Tables, input: &[u8]) -> Result<Answer, AllocErr
 /// Writes the tokens of an input, and tells the status of its scan.
 pub(crate) fn tokens(alloc: Global, row: &Row<'_>) -> Result<Answer, AllocError> {
     match generate(alloc, row.value("spec"), options_of(row)) {
-        Ok(generated) => made(alloc, &generated.tables, row.value("input")),
+        Ok(generated) => made(alloc, &generated.made.tables, row.value("input")),
         Err(error) => refused(alloc, ScanError::Generate(error)),
     }
 }

@@ -1,4 +1,14 @@
 //! The scanner generator for C: a static library, whose header is include/lex.h.
+//!
+//! Each function has a name of C (`lex_..`) and makes one call of liblex_calls: table files (`lex_generate`), scans of whole
+//! inputs (`lex_scan_table`), tokens and the lines of rules, and scans by pieces, from opening to closing.
+//!
+//! It promises what liblex_calls does, and its clauses are those again. The arguments cross as addresses and lengths: that a
+//! caller hands in what they say is its own to keep. A function here, its line in include/lex.h and its call in bindings/rust
+//! change together, and `bindings/c/test.c` tries them.
+//!
+//! It links lexkit and what that stands on, and no reader of command lines. It has no wrong bodies, since those of
+//! liblex_calls show its clauses.
 #![tactic(auto)]
 
 ghost use Rattle.std.specs.Prelude.{◌≡◌, ℕ, Bool, List, None};

@@ -1,7 +1,7 @@
 -- What listing tokens and lines hands out, by what it answers.
 use Rattle.std.proofs.Common.{ℕ, List, map}
 use Rattle.lex_semantics.specs.Acting.{Status}
-use Rattle.lexscan.specs.declared.tokens.listing.Token.{Token}
+use Rattle.lexscan.specs.declared.token.Token.{Token}
 use Rattle.lexscan.specs.Tokens.{Tokenised}
 use Rattle.liblex_calls.specs.Buffers.{HandedOut, Fits}
 use Rattle.liblex_calls.specs.Files.{ByFile}

@@ -102,7 +102,7 @@ first_stands M s waiting h going = (refl, going, h, asks_first (rules_of_machine
 
 -- how many bytes were fed
 fed_count : (M : Machine) (fed w : List ℕ) (s : State) (waiting : List ℕ) → Fed M fed w s waiting → s.ended ≡ None → length fed ≡ s.reading.taken + length waiting
-fed_count M fed w s waiting h going = omega (arith, ap length h.all, length-append h.given h.left, ap length (h.waits going), h.stands.taken)
+fed_count M fed w s waiting h going = omega (arith, ap length h.all, length-append h.given h.left, ap length (h.waits going), h.invariant.taken)
 
 -- the facts of a scan that goes on
 pub going_on : (M : Machine) (stage : Stage) (told : Bool) (fed w : List ℕ) (s : State) (waiting : List ℕ) → stage ≡ stages.Going → StandsAt M stage told fed w s waiting → (told ≡ false) × (s.ended ≡ None) × Fed M fed w s waiting

@@ -7,14 +7,14 @@ use Rattle.lex_semantics.specs.Spec.{Spec}
 use Rattle.lex_semantics.specs.Rules.{Rules}
 use Rattle.lex_semantics.specs.Acting.{Ending, Status, StackFault}
 use Rattle.lex_semantics.specs.Run.{Run}
-use Rattle.lex_semantics.specs.Demand.{GoesOnFrom}
+use Rattle.lex_semantics.specs.Demand.{ExtendsGiven}
 use Rattle.lex_semantics.specs.Machine.{rules_of_machine}
 use Rattle.lexspec.specs.Files.{SpellsSpec}
 use Rattle.lextab_packed.specs.Table.{Table}
 use Rattle.lextab_file.specs.File.{IsFileOf}
 use Rattle.lextab_packed.specs.Steps.{machine_of_table}
 use Rattle.lextab_file.specs.declared.error.TableError.TheVariants as tables
-use Rattle.lexscan.specs.Stands.{RanTo}
+use Rattle.lexscan.specs.TurnInvariants.{RunCompleted}
 use Rattle.lexscan_window.specs.declared.error.RunError.{RunError}
 use Rattle.lexscan_window.specs.declared.error.RunError.TheVariants as runs
 use Rattle.lexkit.specs.Canonical.{IsCanonical}
@@ -42,12 +42,12 @@ file_out options text file old new count answers.Stack S spells canonical handed
 file_out options text file old new count answers.OutOfMemory S spells canonical handed fits = absurd fits
 file_out options text file old new count answers.TooManyReads S spells canonical handed fits = absurd fits
 
-goes : (x given rest : List ℕ) (ends ends' failures failures' : ℕ) (b : Bool) → nat_lt ends ends' ≡ b → Gave x rest ends ends' failures failures' given → GoesOnFrom given b x
+goes : (x given rest : List ℕ) (ends ends' failures failures' : ℕ) (b : Bool) → nat_lt ends ends' ≡ b → Gave x rest ends ends' failures failures' given → ExtendsGiven given b x
 goes x given rest ends ends' failures failures' true e h = h.taken ∙ ap (λ l. given ++ l) (h.whole (ltb-true ends ends' e)) ∙ append-nil given
 goes x given rest ends ends' failures failures' false e h = (rest, h.taken)
 
 -- a scan to the end over a slice is the run over all of it
-pub whole_run : (R : Rules) (x given out rest : List ℕ) (ends ends' failures failures' : ℕ) (ending : Ending) → IsText x → Gave x rest ends ends' failures failures' given → RanTo R given out (nat_lt ends ends') ending → Run R x out ending
+pub whole_run : (R : Rules) (x given out rest : List ℕ) (ends ends' failures failures' : ℕ) (ending : Ending) → IsText x → Gave x rest ends ends' failures failures' given → RunCompleted R given out (nat_lt ends ends') ending → Run R x out ending
 whole_run R x given out rest ends ends' failures failures' ending text gave ran = (ran.turns, ran.place, (ran.scanned x (text, goes x given rest ends ends' failures failures' (nat_lt ends ends') refl gave)).turns)
 
 abbrev gave_by : Slice → List ℕ → Slice → Type 0
@@ -63,7 +63,7 @@ module _ (file input old new : List ℕ) (count : ℕ) (s s' : Slice) (t t' : Si
   kept_all : (out : List ℕ) → wrote_by t out t' → t'.bytes.items ≡ out
   kept_all out h = h ∙ ap (λ l. l ++ out) empty
 
-  run_out : (answer : Result ℕ RunError) (h : ScansTable gave_by wrote_by s s' t t' (nat_lt s.ends s'.ends) (s'.failures - s.failures) file answer) (ending : Ending) → RanTo (rules_of_machine (machine_of_table h.table (λ state. flag h.goes_on state))) h.scans.given h.scans.out (nat_lt s.ends s'.ends) ending → RunsByFile file input t'.bytes.items ending
+  run_out : (answer : Result ℕ RunError) (h : ScansTable gave_by wrote_by s s' t t' (nat_lt s.ends s'.ends) (s'.failures - s.failures) file answer) (ending : Ending) → RunCompleted (rules_of_machine (machine_of_table h.table (λ state. flag h.goes_on state))) h.scans.given h.scans.out (nat_lt s.ends s'.ends) ending → RunsByFile file input t'.bytes.items ending
   run_out answer h ending ran =
       let R : Rules = rules_of_machine (machine_of_table h.table (λ state. flag h.goes_on state)) in
       record {

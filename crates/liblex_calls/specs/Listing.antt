@@ -9,7 +9,7 @@ use Rattle.lexspec.specs.Files.{SpellsSpec}
 use Rattle.lexscan_window.specs.declared.matched.MatchedRule.{MatchedRule}
 use Rattle.lexscan_window.specs.declared.matched.MatchedRule.TheVariants as rules
 use Rattle.lexscan_window.specs.declared.error.RunError.TheVariants as runs
-use Rattle.lexscan.specs.declared.tokens.listing.Token.{Token}
+use Rattle.lexscan.specs.declared.token.Token.{Token}
 use Rattle.lexscan.specs.Tokens.{Tokenised, Stopped}
 use Rattle.lexkit.specs.Generated.{lines_of}
 use Rattle.lexkit.specs.Headline.{reading}

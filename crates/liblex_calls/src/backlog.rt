@@ -20,7 +20,9 @@ pub(crate) struct Backlog {
     buffer: Vec<u8>,
     /// How many of the bytes were handed out.
     from: usize,
+    /// Where what was written ends.
     end: usize,
+    /// How often it failed as a sink since `begin`.
     failures: u64,
     ghost inside: { from ≤ end },
     ghost in_buffer: { end ≤ length buffer.items },
@@ -30,6 +32,7 @@ pub(crate) struct Backlog {
 impl Backlog {
     ghost use Rattle.liblex_calls.specs.Backlogs.{rest};
 
+    /// One with nothing in it.
     pub(crate) fn new(alloc: Global) -> Backlog
         ensures { rest result ≡ [] }
     {
@@ -41,6 +44,7 @@ impl Backlog {
         }
     }
 
+    /// How many bytes were not handed out yet.
     pub(crate) fn len(&self) -> usize
         ensures { result ≡ length (rest self.now) }
     {
@@ -133,6 +137,7 @@ impl Sink for Backlog {
 
     ghost flushed = { λ s. true };
 
+    /// Keeps the bytes behind what waits.
     #[inline]
     fn put(&mut self, bytes: &[u8]) -> Result<(), WriteFault> {
         match self.make_room(bytes.len()) {
@@ -147,6 +152,7 @@ impl Sink for Backlog {
         }
     }
 
+    /// Nothing is held back.
     #[inline]
     fn flush(&mut self) -> Result<(), WriteFault> {
         Ok(())

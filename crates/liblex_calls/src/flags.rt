@@ -8,9 +8,5 @@ use lexkit::Options;
 pub fn options_of(flags: u32) -> Options
     ensures { result ≡ options_of flags }
 {
-    Options {
-        fold: flags % 2 == 1,
-        posix: flags / 2 % 2 == 1,
-        limits: Options::new().limits,
-    }
+    Options::reading(flags % 2 == 1, flags / 2 % 2 == 1)
 }

@@ -22,11 +22,15 @@ use std::alloc::Global;
 #[repr(C)]
 #[derive(Clone, Copy, Debug, PartialEq, Eq)]
 pub struct Fault {
+    /// The line, from 1.
     pub line: u32,
+    /// The number of the kind, as in include/lex.h.
     pub kind: u32,
+    /// The byte of the line's pattern, from 0.
     pub place: usize,
 }
 
+/// What is told where nothing is refused.
 const NONE: Fault = Fault {
     line: 0,
     kind: 0,
@@ -48,6 +52,7 @@ fn fault_of(error: GenError) -> Fault
     }
 }
 
+/// What a refusal of the text is told as.
 fn spec_fault(error: SpecError) -> Fault
     ensures { result ≡ fault_of (GenError.Spec error) }
 {

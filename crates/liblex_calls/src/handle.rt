@@ -11,6 +11,7 @@ use std::mem;
 /// What a program in C holds of a scan by pieces, open or closed.
 #[repr(C)]
 pub struct Scan {
+    /// Whether the place is filled.
     is_open: bool,
     pub(crate) place: Place,
     ghost told: { is_open ≡ is_some place.value },
@@ -29,6 +30,7 @@ impl Scan {
         }
     }
 
+<<<<<<< HEAD
     /// Closes it, and gives its memory back: for callers in Rattle, who have to end what they own.
     pub fn close(self, alloc: Global) {
         match self.into_box(alloc) {
@@ -37,6 +39,9 @@ impl Scan {
         }
     }
 
+=======
+    /// One that holds an open scan.
+>>>>>>> all
     fn holding(scan: Box<PieceScan>) -> Scan
         ensures { result.place.value ≡ Some scan.value }
     {
@@ -46,6 +51,7 @@ impl Scan {
         }
     }
 
+    /// The open scan, where it holds one.
     fn into_box(self, alloc: Global) -> Option<Box<PieceScan>>
         ensures value { (p : PieceScan) → self.place.value ≡ Some p → IfSome result (λ b. b.value ≡ p) }
         ensures is_some { is_some result ≡ is_some self.place.value }

@@ -4,6 +4,7 @@ ghost use Rattle.liblex_calls.specs.Kinds.{kind_number, pattern_number, build_nu
 
 use lexkit::{BuildError, PatternErrorKind, SpecErrorKind};
 
+/// That of a refusal of a pattern: from 101, and 0 for want of memory.
 fn pattern_number(kind: PatternErrorKind) -> u32
     ensures { result ≡ pattern_number kind }
 {

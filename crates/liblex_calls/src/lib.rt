@@ -1,4 +1,29 @@
-//! What a program in C or Rust calls: tables made and scans run between slices, with numbers for answers.
+//! What a program in C or Rust calls: tables made and scans run between slices, with numbers for answers. It is for
+//! liblex, whose functions make these calls; docs/C.md is for their callers.
+//!
+//! - `answer`: what a call answers, as a number.
+//! - `flags` and `kinds`: how a specification is read, and the kinds of refusals, as numbers.
+//! - `buffers` and `memory`: buffers of a caller, and the two ends of a scan between slices.
+//! - `generating`: table files, made into a buffer.
+//! - `machines`: the machine of a table file, laid flat.
+//! - `scanning`: scans of whole inputs.
+//! - `listing`: the tokens of an input, and the lines of rules.
+//! - `stage`, `backlog` and `piece_scan`: a scan by pieces, how far it has come, and what was not handed out yet.
+//! - `loose`, `place` and `handle`: a scan by pieces as what C holds of it. `by_pieces` has its calls.
+//!
+//! It promises that what was handed out is the file, the run of the whole input or of all pieces, or its tokens. The
+//! numbers stand in include/lex.h, in bindings/rust and in docs/C.md too: none of them may change. How bytes are kept
+//! (`backlog`, `memory`) and how C holds a scan (`loose`, `place`) are seen by no caller.
+//!
+//! - **What is made goes into buffers of the caller.** No struct with a list in it crosses to C, and no closure. Where the
+//!   buffer is too small, the count says how large it has to be, and the call is made again.
+//! - **A scan by pieces is what the caller holds, with a pointer in it that owns the scan.** An open scan and a closed one are
+//!   told apart by a flag and not by the pointer. So a closed scan may be closed again, and feeding it has an answer.
+//! - **What has no room is kept, and comes before what the scan has come to.** A feed takes each piece whole. So a caller
+//!   sees each byte before the end or the fault that follows it. After out of memory a scan by pieces has stopped.
+//! - **Answers are the statuses of the program**, so that a number has one meaning in a log. The default rule has the greatest
+//!   number of 32 bits: no specification has so many rules, and 0 is one of them.
+//! - **Lines of rules are a call of their own, by the text.** A table file keeps none: the same rules have the same file.
 #![tactic(auto)]
 
 mod answer;

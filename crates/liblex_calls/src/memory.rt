@@ -13,14 +13,18 @@ use std::alloc::Global;
 /// Gives the bytes of a slice, and then its end.
 #[derive(Drop)]
 pub(crate) struct Slice<'a> {
+    /// The bytes that were not given yet.
     pub(crate) rest: &'a [u8],
+    /// How often the end was answered.
     ends: u64,
+    /// It never fails.
     failures: u64,
     ghost ends_bound: { ends < 2 ^ 64 },
     ghost failures_bound: { failures < 2 ^ 64 },
 }
 
 impl<'a> Slice<'a> {
+    /// One that gives these bytes.
     pub(crate) fn new(bytes: &'a [u8]) -> Slice<'a>
         ensures bytes { result.rest.now ≡ bytes.entry.now }
         ensures ends { result.ends ≡ 0 }
@@ -45,6 +49,7 @@ impl Source for Slice<'_> {
 
     ghost waits = { λ s. false };
 
+    /// The next byte, or the end.
     #[inline]
     fn next(&mut self) -> Result<Option<u8>, ReadFault> {
         match self.rest.split_first() {
@@ -59,16 +64,19 @@ impl Source for Slice<'_> {
         }
     }
 
+    /// All bytes that are left: none has to be waited for.
     #[inline]
     fn ahead(&self) -> &[u8] {
         self.rest
     }
 
+    /// Passes over this many bytes.
     #[inline]
     fn give(&mut self, count: usize) {
         self.rest = &self.rest[count..];
     }
 
+    /// It never waits.
     #[inline]
     fn may_wait(&self) -> bool {
         false
@@ -89,12 +97,15 @@ impl Source for Slice<'_> {
 /// Keeps what it is given. It fails only where memory is refused.
 #[derive(Drop)]
 pub(crate) struct Kept {
+    /// All that it was given.
     pub(crate) bytes: Vec<u8>,
+    /// How often memory was refused.
     failures: u64,
     ghost failures_bound: { failures < 2 ^ 64 },
 }
 
 impl Kept {
+    /// One that keeps nothing yet.
     pub(crate) fn new(alloc: Global) -> Kept
         ensures bytes { result.bytes.items ≡ [] }
         ensures failures { result.failures ≡ 0 }
@@ -113,6 +124,7 @@ impl Sink for Kept {
 
     ghost flushed = { λ s. true };
 
+    /// Keeps the bytes behind the others.
     #[inline]
     fn put(&mut self, bytes: &[u8]) -> Result<(), WriteFault> {
         match self.bytes.extend_from_slice(bytes) {
@@ -124,6 +136,7 @@ impl Sink for Kept {
         }
     }
 
+    /// Nothing is held back.
     #[inline]
     fn flush(&mut self) -> Result<(), WriteFault> {
         Ok(())

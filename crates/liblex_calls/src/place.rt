@@ -22,6 +22,7 @@ impl Model for Place {
 }
 
 impl Place {
+    /// One that holds nothing.
     pub(crate) fn empty() -> Place
         ensures { result.value ≡ None }
     {
@@ -30,6 +31,7 @@ impl Place {
         }
     }
 
+    /// One that holds what a pointer owns.
     pub(crate) fn filled(scan: Loose<PieceScan, Global>) -> Place
         ensures { result.value ≡ Some scan.value }
     {
@@ -37,6 +39,7 @@ impl Place {
         Place { at: at as *mut u8 }
     }
 
+    /// The pointer again, of one that is filled.
     pub(crate) fn emptied(self, alloc: Global) -> Loose<PieceScan, Global>
         requires { (v : PieceScan) × (self.value ≡ Some v) }
         ensures { self.value ≡ Some result.value }
@@ -48,6 +51,7 @@ impl Place {
         }
     }
 
+    /// Lets one go that holds nothing.
     pub(crate) fn let_go(self)
         requires { self.value ≡ None }
     {

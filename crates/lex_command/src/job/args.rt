@@ -1,18 +1,17 @@
-//! What a command line asks for.
-ghost use Rattle.std.specs.Prelude.{◌≡◌, ◌≢◌, ◌⊎◌, IfErr, IfOk, codes, false, fold, map, option_map, string_bytes};
-ghost use Rattle.std.specs.Prelude.{true};
-ghost use Rattle.clap.specs.Words.{all_of, app_of, first_of, found_of, rows_of, rule_of, with_rule};
+//! What a command line of lex asks for.
+ghost use Rattle.std.specs.Prelude.{◌≡◌, ◌≢◌, ◌⊎◌, IfErr, IfOk, codes, fold, map, option_map, string_bytes};
+ghost use Rattle.std.specs.Prelude.{false, true};
+ghost use Rattle.clap.specs.Words.{all_of, app_of, found_of, rows_of, rule_of, with_rule};
 ghost use Rattle.lex_command.specs.Args.{IsNamed};
 ghost use Rattle.lex_command.specs.CommandLine.{AsksFor, IsJobOf, Makes, ScansBySpec, ScansByTable, files_of};
-ghost use Rattle.lex_command.specs.CommandLine.{flag_rule, flag_rules, has, has_byte_at, has_separator};
-ghost use Rattle.lex_command.specs.CommandLine.{has_value_behind_equals, is_long_with_equals, is_out_with_equals};
-ghost use Rattle.lex_command.specs.CommandLine.{lex_app, value_rule};
-ghost use Rattle.lex_command.specs.CommandLine.{makes_tables, name_rules, reads_patterns, words_rule};
+ghost use Rattle.lex_command.specs.CommandLine.{flag_rules, has_byte_at, has_separator, has_value_behind_equals};
+ghost use Rattle.lex_command.specs.CommandLine.{is_long_with_equals, is_out_with_equals, lex_app, makes_tables};
+ghost use Rattle.lex_command.specs.CommandLine.{name_rules, reads_patterns, value_rule, words_rule};
 
-use clap::error::ErrorKind;
+use crate::error::ArgsError;
+use crate::flags::{PatternFlags, has, patterns_of, value_of, with_flags};
 use clap::{Arg, ArgAction, ArgMatches, Command};
 use std::alloc::{AllocError, Global};
-use thiserror::Error;
 
 /// What the program is to do.
 #[derive(Debug, Drop)]
@@ -28,20 +27,16 @@ pub enum Job {
         stats: bool,
         /// The report of states that back up is written.
         backup: bool,
-        /// Letters of patterns stand for both cases.
-        fold: bool,
-        /// Intervals apply to series.
-        posix: bool,
+        /// How patterns are read.
+        patterns: PatternFlags,
         /// Warnings are not written.
         quiet: bool,
     },
     /// Scan standard input by the specification in this file.
     ScanSpec {
         file: String,
-        /// Letters of patterns stand for both cases.
-        fold: bool,
-        /// Intervals apply to series.
-        posix: bool,
+        /// How patterns are read.
+        patterns: PatternFlags,
         /// Warnings are not written.
         quiet: bool,
     },
@@ -49,39 +44,6 @@ pub enum Job {
     ScanTable {
         file: String,
     },
-}
-
-/// Why a command line is refused.
-#[derive(Clone, Copy, Debug, PartialEq, Eq, Error)]
-pub enum ArgsError {
-    #[error("usage")]
-    Usage,
-    #[error("out of memory")]
-    OutOfMemory,
-}
-
-impl From<AllocError> for ArgsError {
-    ghost use Rattle.lex_command.specs.declared.job.args.ArgsError.TheVariants.{OutOfMemory};
-
-    ghost from_gives = { λ _ e. e ≡ OutOfMemory };
-
-    fn from(_e: AllocError) -> ArgsError {
-        ArgsError::OutOfMemory
-    }
-}
-
-impl From<clap::Error> for ArgsError {
-    ghost use Rattle.lex_command.specs.Refusal.{refusal_of};
-    ghost use Rattle.clap.specs.Values.{kind_of};
-
-    ghost from_gives = { λ e r. r ≡ refusal_of (kind_of e) };
-
-    fn from(e: clap::Error) -> ArgsError {
-        match e.kind() {
-            ErrorKind::OutOfMemory => ArgsError::OutOfMemory,
-            _ => ArgsError::Usage,
-        }
-    }
 }
 
 /// Reads the words after the program's name: `[-t] [-n] [-v] [-b] [-i] [-X] [-w] [-o FILE] [FILE..]`, or
@@ -171,25 +133,17 @@ fn has_byte_at(word: &[u8], at: usize, byte: u8) -> bool
     word.get(at) == Some(&byte)
 }
 
-/// A flag, which may be repeated.
-fn flag<'a>(alloc: Global, id: &'a str, letter: char) -> Arg<'a>
-    ensures rule { rule_of result ≡ flag_rule id.entry.now letter }
-    ensures global { result.global ≡ false }
-{
-    Arg::new(alloc, id).short(letter).action(ArgAction::Count)
-}
-
 /// The words that the program knows.
 fn command<'a>(alloc: Global) -> Result<Command<'a>, AllocError>
     ensures { IfOk result (λ c. app_of c ≡ lex_app) }
 {
     let command = Command::new(alloc, "lex").no_binary_name(true);
-    let command = with_flags(alloc, command)?;
+    let command = with_job_flags(alloc, command)?;
     with_names(alloc, command)
 }
 
 /// The command with the flags.
-fn with_flags<'a>(alloc: Global, command: Command<'a>) -> Result<Command<'a>, AllocError>
+fn with_job_flags<'a>(alloc: Global, command: Command<'a>) -> Result<Command<'a>, AllocError>
     ensures { IfOk result (λ c. app_of c ≡ fold with_rule (app_of command.entry) flag_rules) }
 {
     let flags = &[
@@ -201,11 +155,7 @@ fn with_flags<'a>(alloc: Global, command: Command<'a>) -> Result<Command<'a>, Al
         ("posix", 'X'),
         ("quiet", 'w'),
     ];
-    let mut with = command;
-    for &(name, letter) in flags {
-        with = with.arg(flag(alloc, name, letter))?;
-    }
-    Ok(with)
+    with_flags(alloc, command, flags)
 }
 
 /// A word that has a value: by its letter, or else by its long name.
@@ -244,20 +194,6 @@ fn with_names<'a>(alloc: Global, command: Command<'a>) -> Result<Command<'a>, Al
         with = with.arg(value_word(alloc, name, letter))?;
     }
     with.arg(file_words(alloc))
-}
-
-/// Whether the flag stands there.
-fn has(matches: &ArgMatches<'_>, flag: &str) -> bool
-    ensures { result ≡ has flag.now (rows_of (found_of matches.now)) }
-{
-    matches.get_count(flag) > 0
-}
-
-/// The value of the name, where one stands there.
-fn value_of<'a>(matches: &ArgMatches<'a>, name: &str) -> Option<&'a str>
-    ensures { option_map (λ s. s.now) result ≡ first_of name.now (rows_of (found_of matches.now)) }
-{
-    matches.get_str(name)
 }
 
 /// The values of the name, where some stand there.
@@ -302,8 +238,7 @@ fn generating(alloc: Global, matches: &ArgMatches<'_>) -> Result<Job, ArgsError>
         stdout: has(matches, "stdout"),
         stats: has(matches, "stats") && !has(matches, "no-stats"),
         backup: has(matches, "backup"),
-        fold: has(matches, "fold"),
-        posix: has(matches, "posix"),
+        patterns: patterns_of(matches),
         quiet: has(matches, "quiet"),
     })
 }
@@ -341,8 +276,7 @@ fn scanning_by_spec(alloc: Global, matches: &ArgMatches<'_>, file: &str) -> Resu
     }
     Ok(Job::ScanSpec {
         file: String::from_str(alloc, file)?,
-        fold: has(matches, "fold"),
-        posix: has(matches, "posix"),
+        patterns: patterns_of(matches),
         quiet: has(matches, "quiet"),
     })
 }

@@ -13,7 +13,7 @@ use std::alloc::{AllocError, Global};
 
 /// How many states, conditions and rules a machine has.
 #[derive(Clone, Copy)]
-pub struct Sizes {
+pub struct MachineSizes {
     pub states: u32,
     pub conditions: u8,
     pub rules: u32,
@@ -108,7 +108,7 @@ fn obstacle_in<M: Machine>(
 pub fn find_obstacle<M: Machine>(
     alloc: Global,
     machine: &M,
-    sizes: Sizes,
+    sizes: MachineSizes,
 ) -> Result<Option<Obstacle>, AllocError>
     requires states { sizes.states ≡ M.states machine.now }
     requires conditions { sizes.conditions ≡ (M.machine machine.now).conditions }

@@ -5,7 +5,7 @@ ghost use Rattle.lextab_packed.specs.Machines.{table_machine};
 ghost use Rattle.lexlook_tables.specs.Lines.{ScansApart};
 ghost use Rattle.lexlook_tables.specs.Obstacles.{Hinders};
 
-use crate::lines::cutting::{Obstacle, Sizes, find_obstacle};
+use crate::lines::cutting::{MachineSizes, Obstacle, find_obstacle};
 use lextab_packed::Tables;
 use std::alloc::{AllocError, Global};
 
@@ -16,7 +16,7 @@ pub fn find_obstacle_in(alloc: Global, tables: &Tables) -> Result<Option<Obstacl
     ensures some { IfOk result (λ found. IfSome found (Hinders (table_machine tables.now))) }
 {
     let parts = tables.parts();
-    let sizes = Sizes {
+    let sizes = MachineSizes {
         states: parts.rows.len() as u32,
         conditions: parts.conditions.len() as u8,
         rules: parts.rules.len() as u32,

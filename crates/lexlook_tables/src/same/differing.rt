@@ -19,7 +19,7 @@ pub struct Difference {
 
 /// How many states two machines have, and how many conditions the left one.
 #[derive(Clone, Copy)]
-pub struct Sizes {
+pub struct PairSizes {
     pub left: u32,
     pub right: u32,
     pub conditions: u8,
@@ -73,7 +73,7 @@ pub fn tell_apart<A: Machine, B: Machine>(
     left: &A,
     right: &B,
     all: bool,
-    sizes: Sizes,
+    sizes: PairSizes,
 ) -> Result<Option<Difference>, AllocError>
     requires left_states { sizes.left ≡ A.states left.now }
     requires right_states { sizes.right ≡ B.states right.now }

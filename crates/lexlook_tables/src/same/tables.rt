@@ -6,7 +6,7 @@ ghost use Rattle.lexlook_tables.specs.Same.{number_in};
 ghost use Rattle.lexlook_tables.specs.Comparing.{Compares, Counts, HaveEnds};
 
 use crate::same::deeds::number_in;
-use crate::same::differing::{Difference, Sizes, tell_apart};
+use crate::same::differing::{Difference, PairSizes, tell_apart};
 use lex_machine::{EndAction, Machine};
 use lextab_packed::Tables;
 use std::alloc::{AllocError, Global};
@@ -71,7 +71,7 @@ pub fn compare(
     if conditions != right.parts().conditions.len() {
         return Ok(Comparison::Conditions);
     }
-    let sizes = Sizes {
+    let sizes = PairSizes {
         left: left.parts().rows.len() as u32,
         right: right.parts().rows.len() as u32,
         conditions: conditions as u8,

@@ -5,6 +5,6 @@ pub returns : goal.returns
 returns c options text g (S, spells, skipped, lines, made) = (
   S,
   spells,
-  made.rule_lines,
-  c.table_tokens.ensures (table_machine g.tables) S g.tables.laws made.tables.sound (made.tables.canonical).table_for,
+  made.made.rule_lines,
+  c.table_tokens.ensures (table_machine g.made.tables) S g.made.tables.laws made.made.tables.sound (made.made.tables.canonical).table_for,
 )

@@ -7,12 +7,8 @@ pub returns : goal.returns
 returns c =
     let S : Spec = spec_of c.args.spec.now in
     let l = c.requires.least in
-    let m = c.in_ok-tables.ensures.made in
     let b = c.in_ok-backup.ensures in
     record {
-      tables = m.tables;
-      rule_lines = m.rule_lines;
-      warnings = m.warnings;
-      backup = back_ups_of S c.args.least.now.automaton c.in_ok-tables.field-0.tables c.in_ok-backup.backup.items l.conditions c.in_ok-tables.ensures.machine b.ascending (b.back_words S l.conditions l.table) b.words;
-      stats = m.stats;
+      made = c.in_ok-made.ensures.made;
+      backup = back_ups_of S c.args.least.now.automaton c.in_ok-made.made.tables c.in_ok-backup.backup.items l.conditions c.in_ok-made.ensures.machine b.ascending (b.back_words S l.conditions l.table) b.words;
     }

@@ -3,8 +3,8 @@ use Rattle.std.specs.Prelude.{nat_lt}
 use Rattle.lex_semantics.specs.Machine.{rules_of_machine}
 use Rattle.lextab_packed.specs.Views.{table_of}
 use Rattle.lex_semantics.specs.Acting.{Status}
-use Rattle.lexscan.specs.Stands.{RanTo}
-use Rattle.lexscan.specs.Runs.{RanInto}
+use Rattle.lexscan.specs.TurnInvariants.{RunCompleted}
+use Rattle.lexscan.specs.Runs.{RunStopped}
 use Rattle.lexkit.specs.Headline.{max_reads}
 use Rattle.lexkit.proofs.Carried as Same
 use Rattle.lexkit.proofs.Refusing.{table_refusal}
@@ -24,7 +24,7 @@ returns-in-Err-run-clause-told g c =
         out = h.1;
         source = h.2;
         sink = h.3;
-        ran = subst (λ N. RanInto (rules_of_machine N) h.0 h.1 b max_reads c.in-Err-run.error) c.in-Ok-new.ensures.machine h.4;
+        ran = subst (λ N. RunStopped (rules_of_machine N) h.0 h.1 b max_reads c.in-Err-run.error) c.in-Ok-new.ensures.machine h.4;
         few_reads = Same.few_reads h.0 max_reads _ _ _ _ h.5;
       };
     }
@@ -43,7 +43,7 @@ returns-clause-told g c =
         out = h.1;
         source = h.2;
         sink = h.3;
-        ran = subst (λ N. RanTo (rules_of_machine N) h.0 h.1 b (Status c.in-Ok-run.answer)) c.in-Ok-new.ensures.machine h.4;
+        ran = subst (λ N. RunCompleted (rules_of_machine N) h.0 h.1 b (Status c.in-Ok-run.answer)) c.in-Ok-new.ensures.machine h.4;
         few_reads = Same.few_reads h.0 max_reads _ _ _ _ h.5;
       };
     }

@@ -3,8 +3,8 @@ use Rattle.std.specs.Prelude.{nat_lt}
 use Rattle.lex_semantics.specs.Machine.{Machine, rules_of_machine}
 use Rattle.lextab_packed.specs.Machines.{table_machine}
 use Rattle.lex_semantics.specs.Acting.{Status}
-use Rattle.lexscan.specs.Stands.{RanTo}
-use Rattle.lexscan.specs.Runs.{RanInto}
+use Rattle.lexscan.specs.TurnInvariants.{RunCompleted}
+use Rattle.lexscan.specs.Runs.{RunStopped}
 use Rattle.lexkit.specs.Headline.{max_reads}
 use Rattle.lexkit.proofs.Carried as Same
 use Rattle.lexkit.proofs.scan.scan_tables.Goals as goal
@@ -22,7 +22,7 @@ returns-in-Err-run-clause-told g c limits S sound within table =
         source = h.2;
         sink = h.3;
         ran = Same.ran_into M c.args.tables.laws S sound table h.0 h.1 b max_reads c.in-Err-run.fault
-            (subst (λ N. RanInto (rules_of_machine N) h.0 h.1 b max_reads c.in-Err-run.fault) same h.4);
+            (subst (λ N. RunStopped (rules_of_machine N) h.0 h.1 b max_reads c.in-Err-run.fault) same h.4);
         few_reads = Same.few_reads h.0 max_reads _ _ _ _ h.5;
       },
     )
@@ -40,7 +40,7 @@ returns-clause-told g c limits S sound within table =
         source = h.2;
         sink = h.3;
         ran = Same.ran_to M c.args.tables.laws S sound table h.0 h.1 b (Status c.in-Ok-run.status)
-            (subst (λ N. RanTo (rules_of_machine N) h.0 h.1 b (Status c.in-Ok-run.status)) same h.4);
+            (subst (λ N. RunCompleted (rules_of_machine N) h.0 h.1 b (Status c.in-Ok-run.status)) same h.4);
         few_reads = Same.few_reads h.0 max_reads _ _ _ _ h.5;
       },
     )

@@ -1,7 +1,7 @@
 use Rattle.std.proofs.Common.{◌≡◌, ℕ, ◌-◌, List, length, drop, ap, subst, ◌∙◌, arith}
 use Rattle.std.specs.Prelude.{slice_range}
 use Rattle.std.proofs.lemmas.List.{take_all, length-drop}
-use Rattle.lexscan.specs.Pushes.{GoesOnOver}
+use Rattle.lexscan.specs.Pushes.{WalkStaysLive}
 use Rattle.lexscan_window.specs.declared.state.State.{State}
 use Rattle.lexscan.proofs.Pushing as Push
 use Rattle.lexscan.proofs.asking.walk_all.Goals as goal
@@ -13,5 +13,5 @@ returns-in-Some g c =
     let w : List ℕ = s.reading.window.bytes in
     let size : length (drop s.place.at w) ≡ length w - s.place.at = length-drop s.place.at w in
     let whole : c.slice.result.now ≡ drop s.place.at w = c.slice.ensures ∙ ap (slice_range w s.place.at) c.len.ensures ∙ take_all (length w - s.place.at) (drop s.place.at w) (omega (arith, size)) in
-    let held = subst (λ l. GoesOnOver M c.start-first.result l c.in-Some.held) whole c.in-Some.ensures.walked in
-    Push.asking_all M (g.M.Machine.states c.args.machine.now) s c.args.waiting.now c.in-Some.held c.walk_over-in-Some.result c.requires.inside (subst (λ q. GoesOnOver M q (drop s.place.at w) c.in-Some.held) c.start-first.ensures.state held) c.walk_over-in-Some.ensures.known c.walk_over-in-Some.ensures.walked
+    let held = subst (λ l. WalkStaysLive M c.start-first.result l c.in-Some.held) whole c.in-Some.ensures.walked in
+    Push.asking_all M (g.M.Machine.states c.args.machine.now) s c.args.waiting.now c.in-Some.held c.walk_over-in-Some.result c.requires.inside (subst (λ q. WalkStaysLive M q (drop s.place.at w) c.in-Some.held) c.start-first.ensures.state held) c.walk_over-in-Some.ensures.known c.walk_over-in-Some.ensures.walked

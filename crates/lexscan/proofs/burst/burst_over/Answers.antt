@@ -11,8 +11,8 @@ use Rattle.lexscan_matching.specs.declared.glanced.GlancedMatch.{GlancedMatch}
 use Rattle.lex_machine.proofs.Growing.{is_text_from}
 use Rattle.lex_machine.specs.declared.glance.Gist.TheVariants.{Silent}
 use Rattle.lex_machine.specs.Glances.{Leads}
-use Rattle.lexscan.specs.Bursts.{TurnsMade, Broke, starts_line}
-use Rattle.lexscan_matching.specs.Glanced.{Tells, names_rule, written_by, condition_after}
+use Rattle.lexscan.specs.Bursts.{TurnsMade, BurstStopped, starts_line}
+use Rattle.lexscan_matching.specs.Glanced.{IsGlancedMatch, names_rule, written_by, condition_after}
 use Rattle.lexscan.proofs.Bursting as Burst
 use Rattle.lexscan.proofs.burst.burst_over.Goals as goal
 use Rattle.lexscan.proofs.burst.burst_over.Goals.{else-turns-test, then-turns-test+in_default, then-turns-test+in-Some+in_default-silent_part+then-not-names_rule, then-turns-test+in-Some+in_default-silent_part+else-not-names_rule+in_default-do_gist}
@@ -39,7 +39,7 @@ line_next line text done keep some =
 -- A match at the front of what is left of a text, its rule known: `unasked` bytes of the text were asked for by no match before.
 module _ (M : Machine) (laws : MachineLaws M) (text : List ℕ) (bytes : IsText text) (line : Bool) (rest : List ℕ) (unasked condition first : ℕ) (way : Way) (longest : GlancedMatch)
     (is : rest ≡ drop (length text - length rest) text) (short : length rest ≤ length text) (few : unasked ≤ length rest) (starts : first ≡ M.start condition (starts_line line text (length text - length rest)))
-    (led : Leads M first rest way) (tells : Tells M first rest way.count longest) (known : names_rule longest.gist ≡ true) where
+    (led : Leads M first rest way) (tells : IsGlancedMatch M first rest way.count longest) (known : names_rule longest.gist ≡ true) where
   abbrev done : ℕ
   done = length text - length rest
 
@@ -58,8 +58,8 @@ module _ (M : Machine) (laws : MachineLaws M) (text : List ℕ) (bytes : IsText 
   leads_here : Leads M (M.start condition here) (drop done text) way
   leads_here = subst (λ s. Leads M s (drop done text) way) starts (subst (λ l. Leads M first l way) is led)
 
-  tells_here : Tells M (M.start condition here) (drop done text) way.count longest
-  tells_here = subst (λ s. Tells M s (drop done text) way.count longest) starts (subst (λ l. Tells M first l way.count longest) is tells)
+  tells_here : IsGlancedMatch M (M.start condition here) (drop done text) way.count longest
+  tells_here = subst (λ s. IsGlancedMatch M s (drop done text) way.count longest) starts (subst (λ l. IsGlancedMatch M first l way.count longest) is tells)
 
   keeps : (1 ≤ longest.keep) × (longest.keep ≤ way.count)
   keeps = Burst.keeps_some M laws text bytes done asked condition here way longest before inside leads_here tells_here known
@@ -104,9 +104,9 @@ module _ (M : Machine) (laws : MachineLaws M) (text : List ℕ) (bytes : IsText 
         (Burst.went_more M laws text bytes held condition0 line done asked condition here way longest few_held before inside leads_here tells_here known wrote none join s t u went
         (subst (λ l. wrote t (written_by longest.gist (take longest.keep l)) u) is put) (starts_line line text (done + longest.keep)) (line_next line text done longest.keep keeps.0)))
 
-    broke_then : (front : List ℕ) → BeginsWith (written_by longest.gist (take longest.keep rest)) front → wrote t front u → Broke M wrote s u text held condition0 line done (length text - left) condition here
+    broke_then : (front : List ℕ) → BeginsWith (written_by longest.gist (take longest.keep rest)) front → wrote t front u → BurstStopped M wrote s u text held condition0 line done (length text - left) condition here
     broke_then front begins put =
-        subst (λ k. Broke M wrote s u text held condition0 line done k condition here) (sym (asked_then left left_is))
+        subst (λ k. BurstStopped M wrote s u text held condition0 line done k condition here) (sym (asked_then left left_is))
         (Burst.broke_then M laws text bytes held condition0 line done asked condition here way longest few_held before inside leads_here tells_here known wrote none join s t u went
         front (subst (λ l. BeginsWith (written_by longest.gist (take longest.keep l)) front) is begins) put)
 

@@ -13,7 +13,7 @@ unreachable-requires g c =
     let p = ran.5 in
     let source = c.new-source.result in
     let first = subst (λ l. GivesWaiting l source.ends (bytes_left ran.2) ran.2.ends ran.0) (c.new-source.ensures.bytes ∙ append-nil c.args.waiting.now) ran.3 in
-    Push.never_open M _ ran.2 c.turns_between.new.source c.args.scan.now.state c.turns_between.new.self.state c.args.waiting.now ran.0 ran.1 (bytes_left ran.2) (bytes_left c.turns_between.new.source) source.ends ran.2.ends c.turns_between.new.source.ends c.requires.paused.stood p first p.source c.requires.limit
+    Push.never_open M _ ran.2 c.turns_between.new.source c.args.scan.now.state c.turns_between.new.self.state c.args.waiting.now ran.0 ran.1 (bytes_left ran.2) (bytes_left c.turns_between.new.source) source.ends ran.2.ends c.turns_between.new.source.ends c.requires.paused.reachable p first p.source c.requires.limit
 
 pub returns-in-Ok-Ended-clause-finished : goal.returns-in-Ok-Ended-clause-finished
 returns-in-Ok-Ended-clause-finished g c =
@@ -36,11 +36,11 @@ pub returns-in-Ok-Ended-clause-left : goal.returns-in-Ok-Ended-clause-left
 returns-in-Ok-Ended-clause-left g c = record {
   failed = grind (arith, common_steps);
   kept = grind (arith, common_steps);
-  stood = λ _. (
+  reachable = λ _. (
       let M = g.M.Machine.machine c.args.machine.now in
       let ran = rw c.in-Ok-Ended.field-0-is at c.in-Ok-Ended.ensures.ran in
       let t = ran.5 in
-      Push.standing_on M c.args.scan.now.state c.turns_between.new.self.state t.0 ran.0 ran.1 c.requires.paused.stood t.3
+      Push.standing_on M c.args.scan.now.state c.turns_between.new.self.state t.0 ran.0 ran.1 c.requires.paused.reachable t.3
       );
 }
 
@@ -58,6 +58,6 @@ returns-in-Err-clause-finished g c =
     let gave = subst (λ (z : Waiting). GivesWaiting waiting source.ends (bytes_left z) z.ends ran.0) t.1 (subst (λ l. GivesWaiting l source.ends (bytes_left ran.2) ran.2.ends ran.0) (c.new-source.ensures.bytes ∙ append-nil c.args.waiting.now) ran.3) in (
       ran.1,
       ran.4,
-      λ fed out h. (let fell = t.5 h.turns h.given out h.stands in
-          Push.end_refused M old new waiting fed out h c.requires.paused.going.going t.0 ran.0 ran.1 t.2 t.3 (bytes_left last) c.in-Err.e t.4 gave.taken fell (Push.all_given M old new waiting (bytes_left last) source.ends last.ends ran.0 gave now.counts.ends now.left.max_reads)),
+      λ fed out h. (let refusal = t.5 h.turns h.given out h.invariant in
+          Push.end_refused M old new waiting fed out h c.requires.paused.going.going t.0 ran.0 ran.1 t.2 t.3 (bytes_left last) c.in-Err.e t.4 gave.taken refusal (Push.all_given M old new waiting (bytes_left last) source.ends last.ends ran.0 gave now.counts.ends now.left.max_reads)),
     )

@@ -12,7 +12,7 @@ overflow_sub-taken g c =
     let M = g.M.Machine.machine c.args.machine.now in
     let ran = rw c.in-Ok-Went.field-0-is at c.in-Ok-Went.ensures.ran in
     let p = ran.5 in
-    let taken = Push.made_taken M c.args.scan.now.state c.turns_between.new.self.state p.turns ran.0 ran.1 c.requires.paused.stood p.made in
+    let taken = Push.made_taken M c.args.scan.now.state c.turns_between.new.self.state p.turns ran.0 ran.1 c.requires.paused.reachable p.made in
     omega (arith, taken)
 
 pub keep_rest-requires-clause-inside : goal.keep_rest-requires-clause-inside
@@ -20,7 +20,7 @@ keep_rest-requires-clause-inside g c =
     let M = g.M.Machine.machine c.args.machine.now in
     let ran = rw c.in-Ok-Went.field-0-is at c.in-Ok-Went.ensures.ran in
     let p = ran.5 in
-    let taken = Push.made_taken M c.args.scan.now.state c.turns_between.new.self.state p.turns ran.0 ran.1 c.requires.paused.stood p.made in
+    let taken = Push.made_taken M c.args.scan.now.state c.turns_between.new.self.state p.turns ran.0 ran.1 c.requires.paused.reachable p.made in
     let bytes = c.new-source.ensures.bytes ∙ ap (λ l. l ++ c.args.piece.now) c.as_slice.ensures.value in
     let gave = ran.3 in
     let sizes = ap length gave.taken in
@@ -44,11 +44,11 @@ returns-in-Ok-Went-clause-left g c = record {
   next = record {
     failed = grind (arith, common_steps);
     kept = grind (arith, common_steps);
-    stood = λ _. (
+    reachable = λ _. (
         let M = g.M.Machine.machine c.args.machine.now in
         let ran = rw c.in-Ok-Went.field-0-is at c.in-Ok-Went.ensures.ran in
         let p = ran.5 in
-        Push.standing_on M c.args.scan.now.state c.turns_between.new.self.state p.turns ran.0 ran.1 c.requires.paused.stood p.made
+        Push.standing_on M c.args.scan.now.state c.turns_between.new.self.state p.turns ran.0 ran.1 c.requires.paused.reachable p.made
         );
   };
   reading = grind (arith, common_steps);
@@ -79,11 +79,11 @@ returns-in-Ok-Ended-clause-left g c = record {
   next = record {
     failed = grind (arith, common_steps);
     kept = grind (arith, common_steps);
-    stood = λ _. (
+    reachable = λ _. (
         let M = g.M.Machine.machine c.args.machine.now in
         let ran = rw c.in-Ok-Ended.field-0-is at c.in-Ok-Ended.ensures.ran in
         let t = ran.5 in
-        Push.standing_on M c.args.scan.now.state c.turns_between.new.self.state t.0 ran.0 ran.1 c.requires.paused.stood t.3
+        Push.standing_on M c.args.scan.now.state c.turns_between.new.self.state t.0 ran.0 ran.1 c.requires.paused.reachable t.3
         );
   };
   reading = grind (arith, common_steps);
@@ -105,7 +105,7 @@ returns-in-Err-clause-fed g c =
     let gave = subst (λ (z : Waiting). GivesWaiting waiting source.ends (bytes_left z) z.ends ran.0) t.1 (subst (λ l. GivesWaiting l source.ends (bytes_left ran.2) ran.2.ends ran.0) bytes ran.3) in (
       ran.1,
       ran.4,
-      λ fed out h. (let fell = t.5 h.turns h.given out h.stands in
-          let reading = Push.not_ended M old new waiting (bytes_left last) source.ends last.ends ran.0 gave now.counts.ends now.left.max_reads c.requires.limit (Push.fallen_of M old new waiting fed out h c.requires.paused.going.going t.0 ran.0 ran.1 t.2 t.3 c.in-Err.e t.4 fell) in
-          Push.fed_refused M old new waiting fed out h c.requires.paused.going.going t.0 ran.0 ran.1 t.2 t.3 (bytes_left last) c.in-Err.e t.4 gave.taken fell waiting reading),
+      λ fed out h. (let refusal = t.5 h.turns h.given out h.invariant in
+          let reading = Push.not_ended M old new waiting (bytes_left last) source.ends last.ends ran.0 gave now.counts.ends now.left.max_reads c.requires.limit (Push.fallen_of M old new waiting fed out h c.requires.paused.going.going t.0 ran.0 ran.1 t.2 t.3 c.in-Err.e t.4 refusal) in
+          Push.fed_refused M old new waiting fed out h c.requires.paused.going.going t.0 ran.0 ran.1 t.2 t.3 (bytes_left last) c.in-Err.e t.4 gave.taken refusal waiting reading),
     )

@@ -4,7 +4,7 @@ use Rattle.std.proofs.lemmas.Result.{err_from_is_err_and}
 use Rattle.lexscan_window.specs.Reads.{end_step}
 use Rattle.std.specs.Prelude.{nat_lt}
 use Rattle.lex_semantics.specs.Machine.{rules_of_machine}
-use Rattle.lexscan.specs.Runs.{RanInto}
+use Rattle.lexscan.specs.Runs.{RunStopped}
 use Rattle.lexscan_window.specs.declared.error.RunError.{RunError}
 use Rattle.lexscan_window.specs.declared.error.RunError.TheVariants.{Write, TooManyReads}
 use Rattle.lexscan.proofs.Lasting as Last
@@ -25,7 +25,7 @@ returns-in_err-most g c = record {
       let h = inv.running in
       let now = c.in_err-most.ensures in
       let m = now.goes_on in
-      let fell = m.5.4 h.turns h.given h.out h.stands in
+      let refusal = m.5.4 h.turns h.given h.out h.invariant in
       let all : (h.given ++ m.5.1) ++ m.5.2 ≡ h.given ++ m.0 = append_assoc h.given m.5.1 m.5.2 ∙ ap (λ l. h.given ++ l) (sym m.5.3) in
       let ended : g.S.Source.ends c.go_further.new.ends.intake.source.now ≡ g.S.Source.ends c.args.ends.now.intake.source.now + end_step false c.go_further.new.self.state.reading.at_end =
       now.ends ∙ inv.ends ∙ ap (λ b. g.S.Source.ends c.args.ends.now.intake.source.now + end_step false b) (sym now.at_end) in
@@ -35,13 +35,13 @@ returns-in_err-most g c = record {
         h.out ++ m.1,
         g.met.S.Source.gave_more _ _ _ _ _ h.source m.2,
         g.met.K.Sink.wrote_more _ _ _ _ _ h.sink m.3,
-        subst (λ l. RanInto (rules_of_machine M) l (h.out ++ m.1) (nat_lt (g.S.Source.ends c.args.ends.now.intake.source.now) (g.S.Source.ends c.go_further.new.ends.intake.source.now)) c.args.scan.now.state.reading.max_reads c.in_err-most.field-0.0)
+        subst (λ l. RunStopped (rules_of_machine M) l (h.out ++ m.1) (nat_lt (g.S.Source.ends c.args.ends.now.intake.source.now) (g.S.Source.ends c.go_further.new.ends.intake.source.now)) c.args.scan.now.state.reading.max_reads c.in_err-most.field-0.0)
             all
             (Last.ran_into M (m.5.0 + h.turns) _ _ _ (h.given ++ m.5.1) m.5.2 (h.out ++ m.1) c.go_further.new.self.state c.in_err-most.field-0.0
             ended
             (λ is. absurd (no_write c.in_err-most.field-0.0 now.refusals is))
-            fell),
-        Last.few_made _ c.go_further.new.self.state _ 0 _ _ _ _ _ (fell.taken ∙ ap length all) ended (omega (arith, now.read_faults)) inv.read_faults (omega (arith, c.go_further.new.self.state.reading.few_reads)) (now.max_reads ∙ inv.max_reads),
+            refusal),
+        Last.few_made _ c.go_further.new.self.state _ 0 _ _ _ _ _ (refusal.taken ∙ ap length all) ended (omega (arith, now.read_faults)) inv.read_faults (omega (arith, c.go_further.new.self.state.reading.few_reads)) (now.max_reads ∙ inv.max_reads),
       )
       );
   counts = grind (arith, common_steps);
@@ -56,12 +56,12 @@ returns-in_err-status g c = record {
       let first = c.in_ok-most.ensures in
       let k = first.goes_on in
       let h = Last.running_further (g.M.Machine.machine c.args.machine.now) g.S.Source.gave g.K.Sink.wrote _ _ _ _ _ _ c.turns.scan.state c.go_further.new.self.state k.5.0 k.0 k.1 g.met.S.Source.gave_more g.met.K.Sink.wrote_more inv.running k.2 k.3
-      (k.5.1 inv.running.turns inv.running.given inv.running.out inv.running.stands) in
+      (k.5.1 inv.running.turns inv.running.given inv.running.out inv.running.invariant) in
       let ends : g.S.Source.ends c.go_further.new.ends.intake.source.now ≡ g.S.Source.ends c.args.ends.now.intake.source.now + end_step false c.go_further.new.self.state.reading.at_end =
       first.ends ∙ inv.ends ∙ ap (λ b. g.S.Source.ends c.args.ends.now.intake.source.now + end_step false b) (sym first.at_end) in
       let now = c.in_err-status.ensures in
       let m = now.goes_on in
-      let fell = m.5.1 h.turns h.given h.out h.stands in
+      let refusal = m.5.1 h.turns h.given h.out h.invariant in
       let ended : g.S.Source.ends c.turn_with_reject.new.ends.intake.source.now ≡ g.S.Source.ends c.args.ends.now.intake.source.now + end_step false c.turn_with_reject.new.self.state.reading.at_end =
       omega (arith, now.counts.ends, ends, Last.answered_once c.go_further.new.self.state.reading.at_end c.turn_with_reject.new.self.state.reading.at_end (λ e. (m.4 e).1)) in
       let p = err_from_is_err_and c.from_residual-in_err-status.result c.from_residual-in_err-status.ensures.1 in
@@ -73,8 +73,8 @@ returns-in_err-status g c = record {
         Last.ran_into _ h.turns _ _ _ h.given m.0 (h.out ++ m.1) c.turn_with_reject.new.self.state c.in_err-status.field-0.0
             ended
             (λ is. (let many = now.too_many (ap Err is) in (many.0 ∙ now.counts.max_reads ∙ first.max_reads ∙ inv.max_reads, many.1)))
-            fell,
-        Last.few_made _ c.turn_with_reject.new.self.state _ _ _ _ _ _ _ fell.taken ended now.counts.read_faults (first.read_faults ∙ inv.read_faults) now.counts.few_reads (now.counts.max_reads ∙ first.max_reads ∙ inv.max_reads),
+            refusal,
+        Last.few_made _ c.turn_with_reject.new.self.state _ _ _ _ _ _ _ refusal.taken ended now.counts.read_faults (first.read_faults ∙ inv.read_faults) now.counts.few_reads (now.counts.max_reads ∙ first.max_reads ∙ inv.max_reads),
       )
       );
   counts = grind (arith, common_steps);
@@ -89,12 +89,12 @@ returns-in-Ended g c = record {
       let first = c.in_ok-most.ensures in
       let k = first.goes_on in
       let h = Last.running_further (g.M.Machine.machine c.args.machine.now) g.S.Source.gave g.K.Sink.wrote _ _ _ _ _ _ c.turns.scan.state c.go_further.new.self.state k.5.0 k.0 k.1 g.met.S.Source.gave_more g.met.K.Sink.wrote_more inv.running k.2 k.3
-      (k.5.1 inv.running.turns inv.running.given inv.running.out inv.running.stands) in
+      (k.5.1 inv.running.turns inv.running.given inv.running.out inv.running.invariant) in
       let ends : g.S.Source.ends c.go_further.new.ends.intake.source.now ≡ g.S.Source.ends c.args.ends.now.intake.source.now + end_step false c.go_further.new.self.state.reading.at_end =
       first.ends ∙ inv.ends ∙ ap (λ b. g.S.Source.ends c.args.ends.now.intake.source.now + end_step false b) (sym first.at_end) in
       let now = c.in_ok-status.ensures in
       let m = rw c.in-Ended.is at now.goes_on in
-      let after = m.5.1 h.turns h.given h.out h.stands in
+      let after = m.5.1 h.turns h.given h.out h.invariant in
       let ended : g.S.Source.ends c.turn_with_reject.new.ends.intake.source.now ≡ g.S.Source.ends c.args.ends.now.intake.source.now + end_step false c.turn_with_reject.new.self.state.reading.at_end =
       omega (arith, now.counts.ends, ends, Last.answered_once c.go_further.new.self.state.reading.at_end c.turn_with_reject.new.self.state.reading.at_end (λ e. (m.4 e).1)) in (
         h.given ++ m.0,
@@ -117,7 +117,7 @@ turns-smaller g c =
     let first = c.in_ok-most.ensures in
     let k = first.goes_on in
     let h = Last.running_further (g.M.Machine.machine c.args.machine.now) g.S.Source.gave g.K.Sink.wrote _ _ _ _ _ _ c.turns.scan.state c.go_further.new.self.state k.5.0 k.0 k.1 g.met.S.Source.gave_more g.met.K.Sink.wrote_more inv.running k.2 k.3
-    (k.5.1 inv.running.turns inv.running.given inv.running.out inv.running.stands) in
+    (k.5.1 inv.running.turns inv.running.given inv.running.out inv.running.invariant) in
     let ends : g.S.Source.ends c.go_further.new.ends.intake.source.now ≡ g.S.Source.ends c.args.ends.now.intake.source.now + end_step false c.go_further.new.self.state.reading.at_end =
     first.ends ∙ inv.ends ∙ ap (λ b. g.S.Source.ends c.args.ends.now.intake.source.now + end_step false b) (sym first.at_end) in
     let now = c.in_ok-status.ensures in
@@ -126,7 +126,7 @@ turns-smaller g c =
     let few : c.go_further.new.self.state.reading.taken ≤ most = omega (arith, c.go_further.new.self.state.reading.few_reads) in
     let few' : c.turn_with_reject.new.self.state.reading.taken ≤ most = omega (arith, c.turn_with_reject.new.self.state.reading.few_reads, now.counts.max_reads) in
     let falls : Last.left_over most c.turn_with_reject.new.self.state < Last.left_over most c.go_further.new.self.state =
-    Last.turn_falls (g.M.Machine.machine c.args.machine.now) (g.M.Machine.laws c.args.machine.now) most h.turns h.given m.0 h.out m.1 c.go_further.new.self.state c.turn_with_reject.new.self.state h.stands (m.5.1 h.turns h.given h.out h.stands) m.4 m.5.0 few few' in
+    Last.turn_falls (g.M.Machine.machine c.args.machine.now) (g.M.Machine.laws c.args.machine.now) most h.turns h.given m.0 h.out m.1 c.go_further.new.self.state c.turn_with_reject.new.self.state h.invariant (m.5.1 h.turns h.given h.out h.invariant) m.4 m.5.0 few few' in
     let less : Last.left_over most c.go_further.new.self.state ≤ Last.left_over most c.turns.scan.state = Last.no_more_left most c.turns.scan.state c.go_further.new.self.state first.no_earlier in
     subst (λ k. Last.left_over k c.turn_with_reject.new.self.state < Last.left_over c.turns.scan.state.reading.max_reads c.turns.scan.state) (sym now.counts.max_reads)
     (subst (λ k. Last.left_over most c.turn_with_reject.new.self.state < Last.left_over k c.turns.scan.state) first.max_reads (less_than (Last.left_over most c.turn_with_reject.new.self.state) (Last.left_over most c.go_further.new.self.state) (Last.left_over most c.turns.scan.state) falls less))
@@ -140,12 +140,12 @@ turns-preserved g c =
     let first = c.in_ok-most.ensures in
     let k = first.goes_on in
     let h = Last.running_further (g.M.Machine.machine c.args.machine.now) g.S.Source.gave g.K.Sink.wrote _ _ _ _ _ _ c.turns.scan.state c.go_further.new.self.state k.5.0 k.0 k.1 g.met.S.Source.gave_more g.met.K.Sink.wrote_more inv.running k.2 k.3
-    (k.5.1 inv.running.turns inv.running.given inv.running.out inv.running.stands) in
+    (k.5.1 inv.running.turns inv.running.given inv.running.out inv.running.invariant) in
     let ends : g.S.Source.ends c.go_further.new.ends.intake.source.now ≡ g.S.Source.ends c.args.ends.now.intake.source.now + end_step false c.go_further.new.self.state.reading.at_end =
     first.ends ∙ inv.ends ∙ ap (λ b. g.S.Source.ends c.args.ends.now.intake.source.now + end_step false b) (sym first.at_end) in
     let now = c.in_ok-status.ensures in
     let m = rw c.in-Went.is at now.goes_on in
-    let after = m.5.1 h.turns h.given h.out h.stands in
+    let after = m.5.1 h.turns h.given h.out h.invariant in
     record {
       same = record { source = now.same.source ∙ first.same.source ∙ inv.same.source; sink = now.same.sink ∙ first.same.sink ∙ inv.same.sink };
       going = record { working = after.works; going = m.5.0 };

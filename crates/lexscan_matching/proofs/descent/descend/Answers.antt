@@ -7,7 +7,7 @@ use Rattle.lex_semantics.specs.Machine.{Machine}
 use Rattle.lex_semantics.specs.PlainMachine.{match_of}
 use Rattle.lex_semantics.specs.Trail.{falling}
 use Rattle.lex_semantics.specs.Text.{BeginsWith}
-use Rattle.lexscan_window.specs.declared.act.Step.TheVariants as Step
+use Rattle.lexscan_window.specs.declared.act.ActionFlow.TheVariants as Step
 use Rattle.lexscan_matching.specs.Descends.{conditions_of, Passed, Tried, CutOff, Takes}
 use Rattle.lexscan_matching.proofs.Descending as Down
 use Rattle.lexscan_matching.proofs.descent.descend.Goals as goal

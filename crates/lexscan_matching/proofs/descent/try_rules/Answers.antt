@@ -6,7 +6,7 @@ use Rattle.lex_semantics.specs.Machine.{Machine}
 use Rattle.lex_semantics.specs.PlainMachine.{kept_by, match_of}
 use Rattle.lex_machine.specs.Views.{statement_of}
 use Rattle.lex_semantics.specs.Candidates.{Candidate}
-use Rattle.lexscan_window.specs.declared.act.Step.{Step}
+use Rattle.lexscan_window.specs.declared.act.ActionFlow.{ActionFlow}
 use Rattle.lexscan_window.specs.declared.matched.MatchedRule.{MatchedRule}
 use Rattle.lexscan_matching.specs.Descends.{conditions_of, Conditions, Takes, TakesUnlessAgain}
 use Rattle.lexscan_matching.proofs.Descending as Down
@@ -32,10 +32,10 @@ returns-in_err-stop g c = record {
       c.loop-rule.invariant.passed c.in_err-stop.ensures.cut_short));
 }
 
-takes_unless : (M : Machine) (w : List ℕ) (at : ℕ) (all : List Candidate) (old : Conditions) (rule : Option MatchedRule) (step : Step) → Takes M w at all old rule → TakesUnlessAgain M w at all old rule step
-takes_unless M w at all old rule Step.Next h = h
-takes_unless M w at all old rule Step.Again h = tt
-takes_unless M w at all old rule (Step.Over finish) h = h
+takes_unless : (M : Machine) (w : List ℕ) (at : ℕ) (all : List Candidate) (old : Conditions) (rule : Option MatchedRule) (step : ActionFlow) → Takes M w at all old rule → TakesUnlessAgain M w at all old rule step
+takes_unless M w at all old rule ActionFlow.Next h = h
+takes_unless M w at all old rule ActionFlow.Again h = tt
+takes_unless M w at all old rule (ActionFlow.Over finish) h = h
 
 pub returns-in_default-2 : goal.returns-in_default-2
 returns-in_default-2 g c = record {

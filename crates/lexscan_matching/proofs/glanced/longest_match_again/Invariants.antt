@@ -1,6 +1,6 @@
 use Rattle.std.proofs.Common.{length, take, ◌-◌, ◌≡◌, ◌<◌, ◌≤◌}
 use Rattle.lex_semantics.specs.Machine.{walk}
-use Rattle.lexscan_matching.specs.Glanced.{Tells}
+use Rattle.lexscan_matching.specs.Glanced.{IsGlancedMatch}
 use Rattle.lexscan_matching.proofs.glanced.longest_match_again.Given as goal
 
 abbrev pub invariant-bytes : goal.invariant-bytes
@@ -10,7 +10,7 @@ invariant-bytes g l =
       inside : l.count ≤ length l.bytes;
       known : l.state < g.M.Machine.states l.machine;
       state_is : l.state ≡ walk M l.first (take l.count l.bytes);
-      tells : Tells M l.first l.bytes l.count l.longest;
+      tells : IsGlancedMatch M l.first l.bytes l.count l.longest;
     }
 
 abbrev pub decreases-bytes : goal.decreases-bytes

@@ -278,7 +278,7 @@ returns-then-now-eq0 g c = record {
   took = grind (arith, common_steps);
   looked = (let took = c.fills.invariant.took in
       let sizes = ap length took.held ∙ length-append c.args.reading.now.window.bytes took.got in
-      let none = none_of took.got (omega (arith, sizes, c.fills.invariant.place, c.if-now-eq0.true, c.requires.inside)) in
+      let none = none_of took.got (omega (arith, sizes, c.fills.invariant.place, c.if-now-eq0.true, c.requires.asks.all)) in
       record {
         same = took.held ∙ ap (λ l. c.args.reading.now.window.bytes ++ l) none ∙ append-nil c.args.reading.now.window.bytes;
         all = omega (arith, c.fills.invariant.place, c.if-now-eq0.true);
@@ -304,7 +304,7 @@ returns-else-now-eq0 g c = record {
         some = some;
         state = c.fills.now.state;
         so_far = c.fills.invariant.so_far;
-        size = omega (arith, sizes, c.fills.invariant.place, c.requires.inside);
+        size = omega (arith, sizes, c.fills.invariant.place, c.requires.asks.all);
         stops = inr (c.fills.invariant.goes_on some, c.fills.invariant.place, c.fills-test.false);
       });
   tells = grind (arith, common_steps);

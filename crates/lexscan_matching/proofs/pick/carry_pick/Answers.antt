@@ -4,7 +4,7 @@ use Rattle.std.specs.Prelude.{map}
 use Rattle.lex_machine.specs.Views.{statement_of}
 use Rattle.lex_semantics.specs.Text.{BeginsWith}
 use Rattle.lex_semantics.specs.Machine.{Machine}
-use Rattle.lexscan_window.specs.declared.act.Step.TheVariants as Step
+use Rattle.lexscan_window.specs.declared.act.ActionFlow.TheVariants as Step
 use Rattle.lexscan_matching.specs.Picks.{path_of}
 use Rattle.lexscan_matching.specs.Descends.{conditions_of}
 use Rattle.lexscan_matching.proofs.Descending as Down

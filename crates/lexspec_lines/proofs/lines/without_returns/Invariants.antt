@@ -3,8 +3,8 @@ use Rattle.lexspec_lines.specs.Lines.{without_returns}
 use Rattle.lexspec_lines.proofs.lines.without_returns.Given as goal
 
 -- what is kept so far, and of the rest
-abbrev pub invariant-loop-first : goal.invariant-loop-first
-invariant-loop-first l = l.kept.items ++ without_returns l.rest ≡ without_returns l.text
+abbrev pub invariant-loop-at : goal.invariant-loop-at
+invariant-loop-at l = l.kept.items ++ without_returns l.rest ≡ without_returns l.text
 
-abbrev pub decreases-loop-first : goal.decreases-loop-first
-decreases-loop-first l = length l.rest
+abbrev pub decreases-loop-at : goal.decreases-loop-at
+decreases-loop-at l = length l.rest

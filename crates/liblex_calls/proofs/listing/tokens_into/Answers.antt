@@ -4,7 +4,7 @@ use Rattle.lex_semantics.specs.Acting.{Status}
 use Rattle.lex_semantics.specs.Machine.{rules_of_machine}
 use Rattle.lexscan_window.specs.declared.error.RunError.{RunError}
 use Rattle.lexscan_window.specs.declared.error.RunError.TheVariants as runs
-use Rattle.lexscan.specs.declared.tokens.listing.Token.{Token}
+use Rattle.lexscan.specs.declared.token.Token.{Token}
 use Rattle.lexscan.specs.Tokens.{Tokenised, Stopped}
 use Rattle.liblex_calls.specs.Buffers.{HandedOut, Fits}
 use Rattle.liblex_calls.specs.Listing.{shown}

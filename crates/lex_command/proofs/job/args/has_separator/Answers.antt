@@ -3,7 +3,7 @@ use Rattle.std.specs.Prelude.{string_bytes}
 use Rattle.std.proofs.lemmas.Iterator.{YieldsList-from_slice}
 use Rattle.std.proofs.lemmas.Iterator.Search.{any_from_yields_List}
 use Rattle.clap.proofs.WalkLemmas.{list_any-map}
-use Rattle.lex_command.specs.CommandLine.{is_separator}
+use Rattle.lex_command.specs.Flags.{is_separator}
 use Rattle.lex_command.proofs.job.args.has_separator.Goals as goal
 
 pub returns : goal.returns

@@ -21,7 +21,7 @@ scan_to_end-requires-clause-paused g c = record {
   going = grind (arith, common_steps);
   reading = grind (arith, common_steps);
   kept = grind (arith, common_steps);
-  stood = (let s = c.args.self.now in Push.standing_limit (g.M.Machine.machine s.machine) s.scan.state _ _ (s.stood c.if-self.false));
+  reachable = (let s = c.args.self.now in Push.standing_limit (g.M.Machine.machine s.machine) s.scan.state _ _ (s.reachable c.if-self.false));
 }
 
 pub returns-clause-finished : goal.returns-clause-finished

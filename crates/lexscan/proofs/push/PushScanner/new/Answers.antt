@@ -2,10 +2,10 @@ use Rattle.std.proofs.Common.{[], refl, sym}
 use Rattle.lexscan.proofs.Stepping.{stands_first}
 use Rattle.lexscan.proofs.push.PushScanner.new.Goals as goal
 
-pub invariant_of-result-clause-stood : goal.invariant_of-result-clause-stood
-invariant_of-result-clause-stood g c _ denied =
+pub invariant_of-result-clause-reachable : goal.invariant_of-result-clause-reachable
+invariant_of-result-clause-reachable g c _ denied =
     let e = c.new-3.ensures in
-    denied 0 [] [] (stands_first (g.M.Machine.machine c.args.machine) c.new-3.result e.failed e.held e.taken e.at_end e.at e.line_start e.condition e.stack e.ended)
+    denied 0 [] [] (stands_first (g.M.Machine.machine c.args.machine) c.new-3.result e.failed e.reading.held e.reading.taken e.reading.at_end e.place.at e.place.line_start e.place.condition e.stack e.ended)
 
 pub returns-clause-fed : goal.returns-clause-fed
 returns-clause-fed g c =
@@ -14,8 +14,8 @@ returns-clause-fed g c =
       turns = 0;
       given = [];
       left = [];
-      stands = stands_first (g.M.Machine.machine c.args.machine) c.new-3.result e.failed e.held e.taken e.at_end e.at e.line_start e.condition e.stack e.ended;
-      reading = e.at_end;
+      invariant = stands_first (g.M.Machine.machine c.args.machine) c.new-3.result e.failed e.reading.held e.reading.taken e.reading.at_end e.place.at e.place.line_start e.place.condition e.stack e.ended;
+      reading = e.reading.at_end;
       all = refl;
       waits = λ _. sym c.new-4.ensures.items;
     }

@@ -1,7 +1,7 @@
 use Rattle.std.proofs.lemmas.Grind.{common_steps}
 use Rattle.std.proofs.Common.{◌≡◌, ℕ, ◌≤◌, List, ◌++◌, length, take, Err, sym, ap, ◌∙◌, arith}
 use Rattle.lex_semantics.specs.Machine.{Machine}
-use Rattle.lexscan.specs.Stands.{Stands}
+use Rattle.lexscan.specs.TurnInvariants.{TurnInvariant}
 use Rattle.lexscan_window.specs.declared.state.State.{State}
 use Rattle.lexscan_window.specs.declared.error.RunError.TheVariants.{TooManyReads}
 use Rattle.lexscan.proofs.Pushing as Push
@@ -31,10 +31,10 @@ returns-in-TooManyReads g c = record {
           back.ended,
           reading,
           back.taken,
-          λ n given out h. (let fell = m.5.1 n given out h in (
-            Push.stands_again M n given m.0 out (out ++ m.1) old mid new h m.4 fell many.1 back.failed back.place stack c.requires.going.going back.ended reading kept back.taken,
-            Push.asks_more M n given m.0 out (out ++ m.1) old mid new h m.4 fell many.1,
-            sym fell.taken ∙ many.0 ∙ now.counts.max_reads,
+          λ n given out h. (let refusal = m.5.1 n given out h in (
+            Push.stands_again M n given m.0 out (out ++ m.1) old mid new h m.4 refusal many.1 back.failed back.place stack c.requires.going.going back.ended reading kept back.taken,
+            Push.asks_more M n given m.0 out (out ++ m.1) old mid new h m.4 refusal many.1,
+            sym refusal.taken ∙ many.0 ∙ now.counts.max_reads,
           )),
         ),
       ));
@@ -48,7 +48,7 @@ returns-in-TooManyReads g c = record {
   next = grind (arith, common_steps);
   kept = record {
     condition = grind (arith, common_steps);
-    inside = Push.certain_le new.place.at (length new.reading.window.bytes) (λ denied. c.requires.stood (λ n given out h. denied (inside n given out h)));
+    inside = Push.certain_le new.place.at (length new.reading.window.bytes) (λ denied. c.requires.reachable (λ n given out h. denied (inside n given out h)));
     stack = grind (arith, common_steps);
     marks = grind (arith, common_steps);
   };
@@ -66,7 +66,7 @@ returns-in-TooManyReads g c = record {
     new : State
     new = c.go_back_to.new.state
 
-    inside : (n : ℕ) (given out : List ℕ) → Stands M n given out old → new.place.at ≤ length new.reading.window.bytes
+    inside : (n : ℕ) (given out : List ℕ) → TurnInvariant M n given out old → new.place.at ≤ length new.reading.window.bytes
     inside n given out h =
         let now = c.in-Err.ensures in
         let m = rw c.in-TooManyReads.is at now.goes_on in
@@ -87,6 +87,6 @@ returns-in_default g c = record {
   handed_on = grind (arith, common_steps);
   too_many = λ is. (let e : c.in-Err.e ≡ TooManyReads = cc in c.in_default.not-TooManyReads e);
   refused = grind (arith, common_steps);
-  next = Push.certain_true c.turn.new.self.state.failed (λ denied. c.requires.stood (λ n given out h. denied (let fell = c.in-Err.ensures.goes_on.5.1 n given out h in fell.failed)));
+  next = Push.certain_true c.turn.new.self.state.failed (λ denied. c.requires.reachable (λ n given out h. denied (let refusal = c.in-Err.ensures.goes_on.5.1 n given out h in refusal.failed)));
   kept = grind (arith, common_steps);
 }

@@ -22,7 +22,7 @@ match_past_held-requires-clause-ready g c = record {
 pub returns-in-Open : goal.returns-in-Open
 returns-in-Open g c =
     let h = c.match_past_held.ensures in
-    record { same = h.same; handed_on = h.handed_on; moved = h.moved; left = h.left; counts = h.counts; marks = h.marks }
+    record { same = h.same; handed_on = h.handed_on; turn_step = h.turn_step; left = h.left; counts = h.counts; marks = h.marks }
 
 pub returns-in-Settled : goal.returns-in-Settled
 returns-in-Settled g c =

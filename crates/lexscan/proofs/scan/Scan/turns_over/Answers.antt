@@ -3,7 +3,7 @@ use Rattle.std.proofs.Common.{◌≡◌, ℕ, ◌+◌, ◌<◌, ◌≤◌, false
 use Rattle.std.proofs.lemmas.Result.{err_from_is_err_and}
 use Rattle.lex_semantics.specs.Machine.{Machine}
 use Rattle.lexscan_window.specs.Reads.{end_step}
-use Rattle.lexscan.specs.Stands.{Stands}
+use Rattle.lexscan.specs.TurnInvariants.{TurnInvariant}
 use Rattle.lexscan_window.specs.declared.state.State.{State}
 use Rattle.lexscan.proofs.Lasting as Last
 use Rattle.lexscan.proofs.Pushing as Push
@@ -17,7 +17,7 @@ turns-init g c =
       going = c.requires.paused.going;
       next = c.requires.ready;
       max_reads = refl;
-      stood = c.requires.paused.stood;
+      reachable = c.requires.paused.reachable;
       onward = record { turns = 0; got = []; put = []; source = g.met.S.Source.gave_none _; sink = g.met.K.Sink.wrote_none _; made = Push.made_none (g.M.Machine.machine c.args.machine.now) c.args.self.now.state };
       ends = omega (arith, none);
       read_faults = refl;
@@ -54,14 +54,14 @@ returns-in_err-most-clause-left g c = record {
   failed = (let inv = c.turns.invariant in
       let m = c.in_err-most.ensures.goes_on in
       let p = err_from_is_err_and c.from_residual.result c.from_residual.ensures.1 in
-      rw p.1 (Push.certain_true c.go_further_unless_behind.new.self.state.failed (λ denied. inv.stood (λ n given out h. denied (let fell = m.5.4 n given out h in fell.failed)))));
+      rw p.1 (Push.certain_true c.go_further_unless_behind.new.self.state.failed (λ denied. inv.reachable (λ n given out h. denied (let refusal = m.5.4 n given out h in refusal.failed)))));
   kept = grind (arith, common_steps);
 }
 
-pub attempt-requires-clause-stood : goal.attempt-requires-clause-stood
-attempt-requires-clause-stood g c =
+pub attempt-requires-clause-reachable : goal.attempt-requires-clause-reachable
+attempt-requires-clause-reachable g c =
     let k = c.in_ok-most.ensures.goes_on in
-    Push.standing_on (g.M.Machine.machine c.args.machine.now) c.turns.self.state c.go_further_unless_behind.new.self.state k.5.0 k.0 k.1 c.turns.invariant.stood k.5.1
+    Push.standing_on (g.M.Machine.machine c.args.machine.now) c.turns.self.state c.go_further_unless_behind.new.self.state k.5.0 k.0 k.1 c.turns.invariant.reachable k.5.1
 
 pub returns-in_err-attempt-clause-ran : goal.returns-in_err-attempt-clause-ran
 returns-in_err-attempt-clause-ran g c =
@@ -161,7 +161,7 @@ returns-in-Some-Ended-clause-ran g c =
 pub turns-smaller : goal.turns-smaller
 turns-smaller g c =
     let inv = c.turns.invariant in
-    Push.certain_less (Last.left_over new.reading.max_reads new) (Last.left_over old.reading.max_reads old) (λ denied. inv.stood (λ n given out h. denied (falls n given out h)))
+    Push.certain_less (Last.left_over new.reading.max_reads new) (Last.left_over old.reading.max_reads old) (λ denied. inv.reachable (λ n given out h. denied (falls n given out h)))
   where
     M : Machine
     M = g.M.Machine.machine c.args.machine.now
@@ -178,13 +178,13 @@ turns-smaller g c =
     less_than : (a b d : ℕ) → a < b → b ≤ d → a < d
     less_than a b d p q = omega (arith, p, q)
 
-    falls : (n : ℕ) (given out : List ℕ) → Stands M n given out old → Last.left_over new.reading.max_reads new < Last.left_over old.reading.max_reads old
+    falls : (n : ℕ) (given out : List ℕ) → TurnInvariant M n given out old → Last.left_over new.reading.max_reads new < Last.left_over old.reading.max_reads old
     falls n given out h =
         let first = c.in_ok-most.ensures in
         let k = first.goes_on in
         let now = c.in_ok-attempt.ensures in
         let m = rw (c.in-Some-Went.is, c.in-Some-Went.field-0-is) at now.attempts in
-        let here : Stands M (k.5.0 + n) (given ++ k.0) (out ++ k.1) mid = k.5.1 n given out h in
+        let here : TurnInvariant M (k.5.0 + n) (given ++ k.0) (out ++ k.1) mid = k.5.1 n given out h in
         let most : ℕ = mid.reading.max_reads in
         let few : mid.reading.taken ≤ most = omega (arith, mid.reading.few_reads) in
         let few' : new.reading.taken ≤ most = omega (arith, new.reading.few_reads, now.max_reads) in
@@ -203,20 +203,20 @@ turns-preserved g c =
     let mid : State = c.go_further_unless_behind.new.self.state in
     let new : State = c.attempt.new.self.state in
     let on = Push.onward_more M g.S.Source.gave g.K.Sink.wrote g.met.S.Source.gave_more g.met.K.Sink.wrote_more _ _ _ _ _ _ c.args.self.now.state c.turns.self.state mid k.5.0 k.0 k.1 inv.onward k.2 k.3 k.5.1 in
-    let stood = Push.standing_on M c.turns.self.state mid k.5.0 k.0 k.1 inv.stood k.5.1 in
+    let reachable = Push.standing_on M c.turns.self.state mid k.5.0 k.0 k.1 inv.reachable k.5.1 in
     let ends : g.S.Source.ends c.go_further_unless_behind.new.ends.intake.source.now ≡ g.S.Source.ends c.args.ends.now.intake.source.now + end_step false mid.reading.at_end =
     first.ends ∙ inv.ends ∙ ap (λ b. g.S.Source.ends c.args.ends.now.intake.source.now + end_step false b) (sym first.at_end) in
     let now = c.in_ok-attempt.ensures in
     let m = rw (c.in-Some-Went.is, c.in-Some-Went.field-0-is) at now.attempts in
     let next = rw c.in-Some-Went.is at now.next in
     let one = Push.made_one M mid new m.0 m.1 m.5.1 in
-    let works = Push.made_working M mid new 1 m.0 m.1 stood one in
+    let works = Push.made_working M mid new 1 m.0 m.1 reachable one in
     record {
       same = record { source = now.same.source ∙ first.same.source ∙ inv.same.source; sink = now.same.sink ∙ first.same.sink ∙ inv.same.sink };
       going = record { working = works; going = m.5.0 };
       next = next;
       max_reads = now.max_reads ∙ first.max_reads ∙ inv.max_reads;
-      stood = Push.standing_on M mid new 1 m.0 m.1 stood one;
+      reachable = Push.standing_on M mid new 1 m.0 m.1 reachable one;
       onward = Push.onward_more M g.S.Source.gave g.K.Sink.wrote g.met.S.Source.gave_more g.met.K.Sink.wrote_more _ _ _ _ _ _ c.args.self.now.state mid new 1 m.0 m.1 on m.2 m.3 one;
       ends = omega (arith, now.ends, ends, Last.answered_once mid.reading.at_end new.reading.at_end (λ e. (m.4 e).1));
       read_faults = omega (arith, now.read_faults, first.read_faults, inv.read_faults);

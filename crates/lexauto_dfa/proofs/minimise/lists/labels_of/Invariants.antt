@@ -1,5 +1,0 @@
-use Rattle.lexauto_dfa.specs.Lists.{Labelled, look}
-use Rattle.lexauto_dfa.proofs.minimise.lists.labels_of.Given as goal
-
-abbrev pub invariant-loop-state : goal.invariant-loop-state
-invariant-loop-state l = Labelled l.lists (look l.firsts) l.labels.items l.state
