@@ -1,5 +1,5 @@
 //! The reports on a specification and its automaton: rules that are never carried out, states that back up, and the
-//! lines that tell them.
+//! lines of these.
 //!
 //! The modules, in an order for reading:
 //! - `writing`: texts written part by part.

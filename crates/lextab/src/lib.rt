@@ -10,8 +10,8 @@
 //! - `packing`: these together.
 //! - `assembling`: the conditions, rules and rows of a table.
 //! - `tables`: `pack`.
-//! - `plain`: the automaton as it was built, with the actions of its specification, and `plain_machine`: what it tells.
-//!   Tests use it alone.
+//! - `plain`: the automaton as it was built, with the actions of its specification, and `plain_machine`: what it
+//!   answers. Tests use it alone.
 //! - `laws`: an automaton has one packing, which goes as it does and keeps the limits; a worked example.
 //!
 //! `pack` promises the packing of the automaton, of which there is one, and that the machine of the tables is the

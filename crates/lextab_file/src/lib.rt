@@ -2,7 +2,7 @@
 //!
 //! The modules, in an order for reading:
 //! - `error`: why bytes are no table file.
-//! - `tag`: the bytes that tell kinds of cuts and statements.
+//! - `tag`: the bytes that stand for kinds of cuts and statements.
 //! - `version`: which version of the file rules need.
 //! - `writing`: the writer. Inside it `fields`, `conditions`, `actions` and `states` write these parts.
 //! - `reading`: the reader of the parts. Inside it `fields`, `header`, `conditions`, `actions`, `states` and `slots`
@@ -22,7 +22,7 @@
 //! - Which states are live is not in the file. It follows from the steps, and a flag that could be wrong would be one
 //!   more thing to check. The reader finds it backwards: from the states that accept to those that lead to them, each
 //!   taken once.
-//! - Of two faults the one at the first field from the left is told. Each field is judged when it was read, by what
+//! - Of two faults the one at the first field from the left is reported. Each field is judged when it was read, by what
 //!   stands before it: each byte of the class map, a tag before its arguments, a length before its bytes, a count
 //!   before what it counts, a check before its next. A field that is cut short is `Truncated`. `TrailingBytes` comes
 //!   only after a whole table.
