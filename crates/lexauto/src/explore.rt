@@ -18,6 +18,7 @@ use lexre_bytes::ByteSet;
 use std::alloc::{AllocError, AllocFailed, Global};
 use std::collections::BTreeMap;
 
+/// Why the keys that are reached were not all found.
 #[derive(Drop)]
 pub(crate) enum ExploreError {
     TooMany,
@@ -27,6 +28,7 @@ pub(crate) enum ExploreError {
 impl From<AllocError> for ExploreError {
     ghost from_gives = { λ _ e. e ≡ Memory };
 
+    /// A request for memory was refused.
     fn from(_e: AllocError) -> Self {
         ExploreError::Memory
     }
@@ -35,6 +37,7 @@ impl From<AllocError> for ExploreError {
 impl<T: Drop> From<AllocFailed<T>> for ExploreError {
     ghost from_gives = { λ _ e. e ≡ Memory };
 
+    /// A request for memory was refused, and what was handed in is dropped.
     fn from(_e: AllocFailed<T>) -> Self {
         ExploreError::Memory
     }

@@ -254,6 +254,7 @@ pub(crate) fn lay(alloc: Global, pattern: &Pattern) -> Result<SizedPattern, Allo
     Ok(part)
 }
 
+/// A pattern laid out by its node; it may have no position, where it is not `Nothing`.
 #[cycle(lay)]
 fn lay_node(alloc: Global, pattern: &Pattern) -> Result<SizedPattern, AllocError>
     requires sound { IsSoundTree (tree_of pattern.now) }
@@ -289,6 +290,7 @@ fn lay_node(alloc: Global, pattern: &Pattern) -> Result<SizedPattern, AllocError
     }
 }
 
+/// The parts of a series or a choice, laid out: those that have positions, and whether there was one without.
 #[cycle(lay)]
 fn lay_all(alloc: Global, parts: &[Pattern]) -> Result<Row, AllocError>
     requires sound { AreSoundTrees (trees (map tree_of parts.now)) }
