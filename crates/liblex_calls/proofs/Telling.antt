@@ -25,7 +25,7 @@ use Rattle.lexkit.specs.declared.errors.ScanError.TheVariants as scans
 use Rattle.liblex_calls.specs.Buffers.{HandedOut, Fits, NothingOut}
 use Rattle.liblex_calls.specs.Ends.{Gave, Kept}
 use Rattle.liblex_calls.specs.Generating.{Generates, no_fault}
-use Rattle.liblex_calls.specs.Scanning.{RunsByFile, ScansInto, Tells}
+use Rattle.liblex_calls.specs.Scanning.{RunsByFile, ScansInto, TellsScan}
 use Rattle.liblex_calls.specs.declared.answer.Answer.{Answer}
 use Rattle.liblex_calls.specs.declared.answer.Answer.TheVariants as answers
 use Rattle.liblex_calls.specs.declared.memory.Slice.{Slice}
@@ -92,7 +92,7 @@ module _ (file input old new : List ℕ) (count : ℕ) (s s' : Slice) (t t' : Si
   refused answer none h = subst (λ a. ScansInto file input old new count 0 a) (sym h.0) (none, h.1, refl)
 
   -- it was refused, or it stopped
-  pub stopped_out : (error : ScanError) (answer : Answer) → TableHeadline gave_by wrote_by s s' t t' (nat_lt s.ends s'.ends) (s'.failures - s.failures) file (Err error) → Tells error t'.bytes.items old new count answer → ScansInto file input old new count 0 answer
+  pub stopped_out : (error : ScanError) (answer : Answer) → TableHeadline gave_by wrote_by s s' t t' (nat_lt s.ends s'.ends) (s'.failures - s.failures) file (Err error) → TellsScan error t'.bytes.items old new count answer → ScansInto file input old new count 0 answer
   stopped_out (scans.Generate e) answer told tells = absurd told
   stopped_out (scans.Table tables.OutOfMemory) answer told tells = no_memory answer tells
   stopped_out (scans.Table tables.BadMagic) answer told tells = refused answer told.0 tells

@@ -1,6 +1,6 @@
 //! Scans of whole inputs, into a buffer of the caller.
 ghost use Rattle.std.specs.Prelude.{◌≡◌};
-ghost use Rattle.liblex_calls.specs.Scanning.{ScansInto, Tells};
+ghost use Rattle.liblex_calls.specs.Scanning.{ScansInto, TellsScan};
 
 use crate::answer::Answer;
 use crate::buffers::hand_out;
@@ -12,7 +12,7 @@ use std::alloc::Global;
 /// memory fails only where memory is refused, and a source over memory never does.
 fn tell(error: ScanError, written: &[u8], buffer: &mut [u8], count: &mut usize) -> Answer
     requires { count.old ≡ 0 }
-    ensures { Tells error written.now buffer.old buffer.new count.new result }
+    ensures { TellsScan error written.now buffer.old buffer.new count.new result }
 {
     match error {
         ScanError::Run(RunError::Stack) => {
