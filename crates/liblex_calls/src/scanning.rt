@@ -4,7 +4,8 @@ ghost use Rattle.liblex_calls.specs.Scanning.{ScansInto, TellsScan};
 
 use crate::answer::Answer;
 use crate::buffers::hand_out;
-use crate::memory::{Kept, Slice};
+use crate::memory::Kept;
+use lex_io::SliceSource;
 use lexkit::{RunError, ScanError, TableError, scan_table};
 use std::alloc::Global;
 
@@ -39,7 +40,7 @@ pub fn scan_into(
 {
     *count = 0;
     *status = 0;
-    let mut source = Slice::new(input);
+    let mut source = SliceSource::new(input);
     let mut sink = Kept::new(alloc);
     match scan_table(alloc, file, &mut source, &mut sink) {
         Ok(end) => {
