@@ -1,6 +1,6 @@
 #!/usr/bin/env bash
 # Tells the seconds of the processor, the system's with them, and the most memory that `lex -t` and `flex -t` take for each
-# specification of bench/ and for those that files.py writes. They run in turn, RUNS times each (9 without it). A row tells the median
+# specification of bench/minimising/ and for those that files.py writes. They run in turn, RUNS times each (9 without it). A row tells the median
 # and the least of each, and whether the file was refused. A run that takes more than a minute, or 8 GB, is stopped. flex is
 # wanted (apt-get install flex).
 #
@@ -31,7 +31,7 @@ tell() {
 
 echo "| Specification | lex | flex |"
 echo "|---|---|---|"
-for spec in "$here"/../*.l "$folder"/*.l; do
+for spec in "$here"/../minimising/*.l "$folder"/*.l; do
     rm -f "$folder/numbers"
     for ((round = 0; round < ${2:-9}; round++)); do
         run lex "$lex" -t "$spec"

@@ -13,6 +13,6 @@ crate=$folder/lex/crates/lexbench
 (cd "$here" && find . -name '*.txt') | while read -r name; do
     install -D -m 644 "$here/$name" "$crate/${name%.txt}"
 done
-echo "lexbench: lexauto lexauto_dfa lex_io lextab_file lexauto_dfa lex_semantics lextab lexauto_reports lexspec thiserror" >> "$folder/lex/crates.txt"
+echo "lexbench: lexauto lexauto_dfa lex_io lextab_file lex_semantics lextab lexauto_reports lexspec thiserror" >> "$folder/lex/crates.txt"
 (cd "$crate" && rt run < "$here/stdin" > /dev/null 2>&1)
 cp "$crate/out/lexbench" "$1"

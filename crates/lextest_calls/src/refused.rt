@@ -1,4 +1,4 @@
-//! What stays where memory is refused. No request is refused in these tests themselves: `scripts/refuse-memory.py` runs
+//! What stays where memory is refused. No request is refused in these tests themselves: `scripts/campaigns/refuse-memory.py` runs
 //! each of them with the first request refused, then the second, and so on. A run must then end well, or fail with the
 //! name of an error that says that memory ran out.
 use crate::building::{machine_of, made};

@@ -273,7 +273,7 @@ fn definitions(rt: HostRuntime) {
     assert!(rt; definitions.find(b"d").is_none());
 }
 
-/// A name that finds no room is not added, and those before it stay (`scripts/refuse-memory.py` refuses the room).
+/// A name that finds no room is not added, and those before it stay (`scripts/campaigns/refuse-memory.py` refuses the room).
 #[test]
 fn refused_definitions(rt: HostRuntime) -> Result<(), Fail> {
     const NAMES: &[&[u8]] = &[b"a", b"b", b"c", b"d", b"e", b"f", b"g", b"h", b"i"];

@@ -1,7 +1,7 @@
 #!/usr/bin/env bash
 # Tells what flex writes for a specification and an input:
 #
-#     scripts/flex-output.sh SPEC INPUT [FLAGS]
+#     scripts/flex/flex-output.sh SPEC INPUT [FLAGS]
 #
 # writes it to standard output and ends with the scanner's status; FLAGS are flex's own, such as -i. With no arguments it
 # writes examples/NAME.output for each examples/NAME.l and NAME.input, and the status to NAME.status where it is not 0.
@@ -27,7 +27,7 @@ if (($# > 0)); then
     flex_output "$folder" "$spec" "$input" "$@"
     exit
 fi
-cd "$(dirname "$0")/../examples"
+cd "$(dirname "$0")/../../examples"
 for spec in *.l; do
     name=${spec%.l}
     status=0

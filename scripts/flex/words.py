@@ -1,7 +1,7 @@
 #!/usr/bin/env python3
 """Compares what `lexlook words` shows with flex's warnings, on examples/.
 
-    scripts/words.py LEXLOOK
+    scripts/flex/words.py LEXLOOK
 
 LEXLOOK is the program, as crates/lexlook/out/lexlook. For each specification of examples/ flex is run with -s. The rules that it warns of
 as ones that cannot be matched must be those for which no text is shown, by their lines, and it must warn that the default rule can be
@@ -12,7 +12,7 @@ import re
 import subprocess
 import sys
 
-EXAMPLES = os.path.join(os.path.dirname(os.path.dirname(os.path.realpath(__file__))), "examples")
+EXAMPLES = os.path.join(os.path.dirname(os.path.dirname(os.path.dirname(os.path.realpath(__file__)))), "examples")
 USELESS = re.compile(r":(\d+): warning, rule cannot be matched")
 SHOWN_USELESS = re.compile(r"^at line (\d+): rule cannot be matched", re.M)
 

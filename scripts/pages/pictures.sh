@@ -1,12 +1,12 @@
 #!/bin/sh
 # Tries the pictures that lexlook writes, with dot of Graphviz. It is no part of the gate.
 #
-#     scripts/pictures.sh LEXLOOK            each of examples/*.l: dot takes its picture, and a second run writes the same
-#     scripts/pictures.sh LEXLOOK --readme   writes docs/keys.svg, the picture of examples/keys.l in the README
+#     scripts/pages/pictures.sh LEXLOOK            each of examples/*.l: dot takes its picture, and a second run writes the same
+#     scripts/pages/pictures.sh LEXLOOK --readme   writes docs/keys.svg, the picture of examples/keys.l in the README
 #
 # LEXLOOK is the program, as crates/lexlook/out/lexlook.
 set -eu
-top=$(cd "$(dirname "$0")/.." && pwd)
+top=$(cd "$(dirname "$0")/../.." && pwd)
 lexlook=$1
 
 if [ "${2:-}" = --readme ]; then

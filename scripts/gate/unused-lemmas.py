@@ -1,7 +1,7 @@
 #!/usr/bin/env python3
 """Prints the lemmas of crates/NAME/proofs/ that nothing cites: no proof, no definition and no contract of any crate.
 
-    scripts/unused-lemmas.py
+    scripts/gate/unused-lemmas.py
 
 A name that stands twice in the repository may hide one. Answers, invariants and proofs of a function are called by their names,
 so they are left out."""
@@ -9,7 +9,7 @@ import collections
 import re
 from pathlib import Path
 
-CRATES = Path(__file__).resolve().parent.parent / "crates"
+CRATES = Path(__file__).resolve().parents[2] / "crates"
 WORD = re.compile(r"[A-Za-z_][\w'-]*")
 LEMMA = re.compile(r"(\s*)(?:abbrev |unfoldable )*(?:pub )?([A-Za-z_][\w'-]*) : ")
 CALLED = {"Answers.antt", "Invariants.antt", "Proof.antt", "Lib.antt"}

@@ -1,7 +1,7 @@
 #!/usr/bin/env python3
 """Runs the program lex as a filter in a pipeline that stays open, and looks whether each line is answered before the next is sent.
 
-    scripts/pipeline.py LEX
+    scripts/campaigns/pipeline.py LEX
 
 LEX is the program, as crates/lex/out/lex. Each check writes its name and 'ok', or what went wrong; the status is 1 where one did.
 It is no part of the gate: a contract says which bytes are written, and not when."""

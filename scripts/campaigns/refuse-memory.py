@@ -4,7 +4,7 @@ to the manual: either it ends as it does without a refusal, or with status 71 an
 is a front of what it writes else, and a table file that was begun is no whole one. Each test whose name begins with `refused_` is
 run in the same way: it ends well, or fails with an error that says that memory ran out.
 
-    scripts/refuse-memory.py LEX [TESTS..]
+    scripts/campaigns/refuse-memory.py LEX [TESTS..]
 
 LEX is the program as LLVM links it, as crates/lex/out/lex, and TESTS are tests that are linked so:
 crates/lextest_calls/out/lextest_calls_tests and crates/lextest_parts/out/lextest_parts_tests. The requests are those to the C library: a small library

@@ -1,7 +1,7 @@
 #!/usr/bin/env python3
 """Cuts the inputs of examples/ where lexlook says that they may be cut, and scans the pieces apart.
 
-    scripts/cuts.py LEX LEXLOOK
+    scripts/campaigns/cuts.py LEX LEXLOOK
 
 LEX and LEXLOOK are the built programs. For each specification of which `lexlook lines` answers 0, its input is cut after each newline
 at which that leaves two pieces, and after all of them at once. What the pieces write, put together, must be what the whole input
@@ -10,7 +10,7 @@ import os
 import subprocess
 import sys
 
-EXAMPLES = os.path.join(os.path.dirname(os.path.dirname(os.path.realpath(__file__))), "examples")
+EXAMPLES = os.path.join(os.path.dirname(os.path.dirname(os.path.dirname(os.path.realpath(__file__)))), "examples")
 
 
 def scan(lex, spec, text):

@@ -2,17 +2,19 @@
 """Writes rows for crates/lextest_product, into data/tokens.txt: the tokens that flex 2.6.4 finds in the inputs of two
 specifications of examples/, and by some small ones.
 
-    scripts/tokens.py
+    scripts/flex/tokens.py
 
 It wants flex and a C compiler (apt-get install flex gcc), and is no part of the gate. What flex's scanner matched is written by
 its macro YY_USER_ACTION, which runs before each action, or where an action may change the text or reject it, by the action's end."""
 import subprocess
+import sys
 import tempfile
 from pathlib import Path
 
+ROOT = Path(__file__).resolve().parents[2]
+sys.path.insert(0, str(ROOT / "scripts/gate"))
 from row_format import escaped, file, group, row
 
-ROOT = Path(__file__).resolve().parent.parent
 EXAMPLES = ["c_tokens", "json"]
 
 # a name, the rules as pairs of a pattern and an action, and an input
@@ -71,7 +73,7 @@ def listing(name, spec, given, tokens, status, count):
 
 
 def main():
-    groups = ["# The tokens that flex 2.6.4 finds: written by scripts/tokens.py.\n"]
+    groups = ["# The tokens that flex 2.6.4 finds: written by scripts/flex/tokens.py.\n"]
     for name in EXAMPLES:
         spec = (ROOT / "examples" / f"{name}.l").read_text()
         given = (ROOT / "examples" / f"{name}.input").read_text()

@@ -2,7 +2,7 @@
 """Runs the program lex on mutated specifications and on mutated table files, and holds each run to the manual: a status of
 its table of messages, on standard error nothing but warnings and one of its lines, at most 10 s and 1 GiB.
 
-    scripts/campaign.py LEX [COUNT [SEED [WORKERS]]]
+    scripts/campaigns/campaign.py LEX [COUNT [SEED [WORKERS]]]
 
 LEX is the program, as crates/lex/out/lex; COUNT, 100,000 if left out, is how many there are of each kind. A run that does
 otherwise is told, and its file is kept in the folder campaign-kept. It is no part of the gate."""
@@ -17,7 +17,7 @@ import tempfile
 import time
 from pathlib import Path
 
-ROOT = Path(__file__).resolve().parent.parent
+ROOT = Path(__file__).resolve().parents[2]
 SECONDS = 10
 MEMORY = 1 << 30
 NUMBERS = [0, 1, 2, 3, 63, 64, 255, 256, 257, 4096, 4097, 8191, 8192, 8193, 65535, 65536, 2097152, 2097153, 2**31, 2**32 - 1]

@@ -1,10 +1,10 @@
 #!/usr/bin/env python3
 """Prints which definitions the public contracts cite, and whether docs/DEFINITIONS.md names them.
 
-    scripts/definitions.py             how many there are, by crate, and what is missing on the page
-    scripts/definitions.py --status    the same, and a status of 1 where something is missing
-    scripts/definitions.py --write     the same, and the table at the end of the page is written
-    scripts/definitions.py NAME ..     the definitions that the contracts of these calls lead to, with their lines, and
+    scripts/gate/definitions.py             how many there are, by crate, and what is missing on the page
+    scripts/gate/definitions.py --status    the same, and a status of 1 where something is missing
+    scripts/gate/definitions.py --write     the same, and the table at the end of the page is written
+    scripts/gate/definitions.py NAME ..     the definitions that the contracts of these calls lead to, with their lines, and
                                        the names that stand for two of them
 
 A public contract is a clause of a function, or of a method of a type or trait, that one of the crates of SURFACE gives its
@@ -14,7 +14,7 @@ import os
 import re
 import sys
 
-ROOT = os.path.dirname(os.path.dirname(os.path.realpath(__file__)))
+ROOT = os.path.dirname(os.path.dirname(os.path.dirname(os.path.realpath(__file__))))
 CRATES = os.path.join(ROOT, "crates")
 SURFACE = ["lexre", "lexspec", "lexauto", "lextab", "lexscan", "lexkit", "lex_command", "lexlook_calls", "lexlook_specs", "lexlook_tables", "liblex_calls"]
 NAME = r"[A-Za-z_][\w'-]*"

@@ -1,7 +1,7 @@
 #!/usr/bin/env python3
 """Compares the program lex with flex 2.6.4 on random specifications and inputs: what is written, and the status.
 
-    scripts/compare.py LEX [COUNT [SEED]]          LEX is the program, as crates/lex/out/lex
+    scripts/flex/compare.py LEX [COUNT [SEED]]          LEX is the program, as crates/lex/out/lex
 
 A specification has up to two start conditions and up to six rules, with lists, `^`, `$`, trailing context, BEGIN, yymore,
 yyless, REJECT, exit and an end of the input. Left out is what flex does otherwise by the manual's chapter on differences:

@@ -1,7 +1,7 @@
 #!/usr/bin/env python3
 """Compares the lines of `lexlook trace` with those of flex's scanners with -d, on examples/.
 
-    scripts/traces.py LEXLOOK
+    scripts/flex/traces.py LEXLOOK
 
 LEXLOOK is the program, as crates/lexlook/out/lexlook. For each specification of examples/ flex builds a scanner with -d, and both scan
 the input of the same name. The statuses must agree, and the lines of the matches and of the end, one by one. What flex tells of its
@@ -14,7 +14,7 @@ import subprocess
 import sys
 import tempfile
 
-EXAMPLES = os.path.join(os.path.dirname(os.path.dirname(os.path.realpath(__file__))), "examples")
+EXAMPLES = os.path.join(os.path.dirname(os.path.dirname(os.path.dirname(os.path.realpath(__file__)))), "examples")
 BUFFERS = re.compile(rb"--\(end of buffer or a NUL\)\n|--scanner backing up\n")
 MATCH = re.compile(rb'--accepting (default rule|rule at line (\d+)) \("(.*?)"\)\n(?=--accepting |--EOF |\Z)|--EOF \(start condition \d+\)\n', re.S)
 

@@ -2,7 +2,7 @@
 """Runs the program lex over ends that fail and over odd words, and holds each run to the manual: its status, and the line that
 it writes on standard error.
 
-    scripts/failing-ends.py LEX
+    scripts/campaigns/failing-ends.py LEX
 
 LEX is the program, as crates/lex/out/lex. The ends are a pipe that nobody reads any more, a full disk (/dev/full), a folder in
 the place of a file, a closed standard input or output, and files that are not there or may not be read. It is no part of the gate."""

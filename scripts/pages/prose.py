@@ -1,16 +1,16 @@
 #!/usr/bin/env python3
 """Measures the sentences of README.md and of each page of docs/.
 
-    scripts/prose.py            how many words a sentence has, by page; each sentence of more than 30 words and each word
+    scripts/pages/prose.py            how many words a sentence has, by page; each sentence of more than 30 words and each word
                                 to avoid, with its line
-    scripts/prose.py --status   the same, and a status of 1 where there is such a sentence or word
+    scripts/pages/prose.py --status   the same, and a status of 1 where there is such a sentence or word
 
 Headings, tables, code blocks, targets of links, and what stands in backquotes are left out."""
 import re
 import sys
 from pathlib import Path
 
-ROOT = Path(__file__).resolve().parent.parent
+ROOT = Path(__file__).resolve().parents[2]
 MOST = 30
 # Words for which the field has others: out of memory, a prefix, re-exports, operators, the minimal DFA, says.
 AVOIDED = re.compile(

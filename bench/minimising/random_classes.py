@@ -2,7 +2,7 @@
 """Prints a specification whose automaton has some 8,000 states with rows of random bytes: one rule, a series of classes that
 are drawn from 400.
 
-    bench/rows.py DENSITY    a class has this part of the 256 bytes: 0.5, say"""
+    bench/minimising/random_classes.py DENSITY    a class has this part of the 256 bytes: 0.5, say"""
 import random
 import sys
 

@@ -9,7 +9,7 @@ import pathlib
 import re
 import sys
 
-ROOT = pathlib.Path(__file__).resolve().parent.parent
+ROOT = pathlib.Path(__file__).resolve().parents[2]
 PAGE = ROOT / "docs/EDITS.md"
 FOLDERS = ("must-fail", "wrong-bodies", "misreadings")
 
@@ -44,4 +44,4 @@ if sys.argv[1:] == ["--write"]:
 elif sys.argv[1:]:
     sys.exit(__doc__)
 elif PAGE.read_text() != page():
-    sys.exit("docs/EDITS.md is not the page of the wrong bodies: `scripts/edits.py --write` writes it")
+    sys.exit("docs/EDITS.md is not the page of the wrong bodies: `scripts/gate/edits.py --write` writes it")

@@ -2,7 +2,7 @@
 """Tries wrong bodies in batches: puts those of many functions into one copy of a crate, checks these functions, and tells for each
 whether the prover refuses it in its own function, and by which clause.
 
-    scripts/wrong-bodies.py [CRATE..]        those of these crates, or of all
+    scripts/gate/wrong-bodies.py [CRATE..]        those of these crates, or of all
         --changed REV     of the crates whose src/ or specs/ differ from REV, and of those above whose inherited contracts do
         --jobs N          N checks side by side (as many as processors)
         --itself          two bodies of lex_machine that are right, which must be told as proved, and one that is wrong
@@ -40,7 +40,7 @@ from pathlib import Path
 from typing import NamedTuple
 
 sys.dont_write_bytecode = True
-ROOT = Path(__file__).resolve().parent.parent
+ROOT = Path(__file__).resolve().parents[2]
 FOLDERS = ("must-fail", "wrong-bodies", "misreadings")
 PARTS = ("src", "specs", "proofs")
 FUNCTION = re.compile(r"^\s*(?:pub(?:\([^)]*\))?\s+)?(?:const\s+)?(?:unsafe\s+)?(?:ghost\s+)?fn\s+(\w+)")

@@ -2,9 +2,9 @@
 """Writes rows for crates/lextest_product, into its data/: examples.txt from examples/, manual.txt from docs/MANUAL.md, and
 manual_looks.txt from the chapters of the manual on lexlook. Run this where one of them changes.
 
-    scripts/rows.py           writes all three
-    scripts/rows.py --check   tells which of them differ from what it would write, with a status of 1
-    scripts/rows.py --flex    compares the rows of the manual with what flex 2.6.4 writes, by scripts/flex-output.sh
+    scripts/gate/rows.py           writes all three
+    scripts/gate/rows.py --check   tells which of them differ from what it would write, with a status of 1
+    scripts/gate/rows.py --flex    compares the rows of the manual with what flex 2.6.4 writes, by scripts/flex/flex-output.sh
 
 The gate (.ci/run) begins with --check."""
 import re
@@ -16,7 +16,7 @@ from typing import NamedTuple
 
 from row_format import file, group, row, told
 
-ROOT = Path(__file__).resolve().parent.parent
+ROOT = Path(__file__).resolve().parents[2]
 DATA = ROOT / "crates/lextest_product/data"
 PAIR = re.compile(
     r"(?:`([^`]*)`|Empty input) gives (?:`([^`]*)`|nothing)(?: with `(-[iX])`)?(?: and status (\d+))?"
@@ -108,7 +108,7 @@ def examples():
         texts = [spec.with_suffix(end).read_bytes().decode() for end in (".l", ".input", ".output")]
         scan = Scan(*texts, int(status.read_text()) if status.exists() else 0)
         groups.append(group(spec.stem, [scan_row(scan)]))
-    return file("# The specifications of examples/, with what flex 2.6.4 writes: written by scripts/rows.py.\n", *groups)
+    return file("# The specifications of examples/, with what flex 2.6.4 writes: written by scripts/gate/rows.py.\n", *groups)
 
 
 def examples_of_manual(text):
@@ -119,7 +119,7 @@ def examples_of_manual(text):
         return group(head, [scan_row(scan) for scan in scans if scan.flag == flag])
 
     return file(
-        "# The examples of docs/MANUAL.md: written by scripts/rows.py.\n",
+        "# The examples of docs/MANUAL.md: written by scripts/gate/rows.py.\n",
         with_flag("Scans.", ""),
         with_flag("Where letters stand for both cases.", "-i"),
         with_flag("Where intervals apply to series.", "-X"),
@@ -155,7 +155,7 @@ def examples_of_lexlook(text):
     given = re.search(r"`printf '([^']*)' \| lexlook trace a\.l`", traced)[1]
     cuts = [line for names, rows in tables(cutting) for line in rows if "As in" in names]
     return file(
-        "# The examples of lexlook in docs/MANUAL.md: written by scripts/rows.py.\n",
+        "# The examples of lexlook in docs/MANUAL.md: written by scripts/gate/rows.py.\n",
         row("picture", ("spec", small), ("written", after(pictures, "Then this is written:"))),
         row("same", ("names", "small.l words.l"), ("spec", small), ("again", words), ("written", compared)),
         *(row("lines", ("spec", lines_of(cut["As in"])), ("written", code(cut["What is written"]) + "\n")) for cut in cuts),
@@ -168,7 +168,7 @@ def check(files):
     """Tells which files are not what would be written."""
     stale = [name for name, text in files.items() if not (DATA / name).exists() or (DATA / name).read_text() != text]
     for name in stale:
-        print(f"{name} is not what scripts/rows.py writes")
+        print(f"{name} is not what scripts/gate/rows.py writes")
     return 1 if stale else 0
 
 
@@ -179,7 +179,7 @@ def flex(scan):
         folder = Path(folder)
         (folder / "spec.l").write_text(spec)
         (folder / "input").write_text(given)
-        command = [ROOT / "scripts/flex-output.sh", folder / "spec.l", folder / "input", *([flag] if flag else [])]
+        command = [ROOT / "scripts/flex/flex-output.sh", folder / "spec.l", folder / "input", *([flag] if flag else [])]
         done = subprocess.run(command, stdout=subprocess.PIPE, stderr=subprocess.DEVNULL)
         return done.stdout[:200].decode(), done.returncode
 

@@ -6,7 +6,7 @@ set -euo pipefail
 cd "$(dirname "$0")"
 program=$(mktemp)
 trap 'rm "$program"' EXIT
-steps/build.sh "$program"
+../steps/build.sh "$program"
 for spec in *.l; do
     echo "$spec"
     /usr/bin/time --quiet -f "%e s, %U s of the processor, %M KiB" "$program" times < "$spec" 2>&1 || true

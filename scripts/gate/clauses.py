@@ -1,7 +1,7 @@
 #!/usr/bin/env python3
 """Compares how many clauses the public functions of two trees have.
 
-    scripts/clauses.py OLD NEW [OLD_NAME=NEW_NAME ..]
+    scripts/gate/clauses.py OLD NEW [OLD_NAME=NEW_NAME ..]
 
 OLD and NEW are checkouts of the repository. A line is printed for each public function that is gone, asks for more (`requires`)
 or promises less (`ensures`), and the status is 1 where there is one. Public is what the lib.rt of its crate exports: a function,
