@@ -5,7 +5,7 @@ use Rattle.lexauto_positions.specs.Alike.{Alike}
 use Rattle.lexauto_positions.specs.Plans.{plan_of, tree_in}
 use Rattle.lexauto_positions.specs.Signs.{signed}
 use Rattle.lexauto_positions.specs.declared.layout.SizedPattern.TheFolds as L
-use Rattle.lexauto_positions.specs.declared.layout.Sign.TheVariants as S
+use Rattle.lexauto_positions.specs.declared.layout.Operator.TheVariants as S
 use Rattle.lexauto_positions.proofs.SignLaws.{one_sign}
 use Rattle.lexauto_positions.proofs.layout.sign_part.Goals as goal
 
