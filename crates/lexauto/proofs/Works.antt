@@ -7,7 +7,7 @@ use Rattle.std.proofs.lemmas.List.{get_or_push, get_or_append_left}
 use Rattle.lexauto.specs.Keys.{Key, At, Absent, Apart, Finds, Found}
 use Rattle.lex_semantics.specs.ByteSets.{has}
 use Rattle.lex_semantics.specs.Text.{IsText}
-use Rattle.lexauto.specs.Explored.{Changes, run, Reached, IsAutomaton, MoreThan, key_at, Exploring, Held, Tells, TellsSoFar}
+use Rattle.lexauto.specs.Explored.{Changes, run, Reached, IsAutomaton, MoreThan, key_at, Exploring, Held, AreImages, TellsSoFar}
 use Rattle.lex_semantics.specs.Reading.{is_empty}
 use Rattle.lexauto.proofs.Places.{at_longer, at_shorter}
 
@@ -134,7 +134,7 @@ module _ (step : Key → ℕ → Key) where
                   on.1 i h ∙ ap f (sym (key_is new i (key_at keys i) (grown keys new k found i (key_at keys i) (is_key keys i lower)))));
             }
 
-        pub told_done : (told : List A) → length keys ≤ length next / 256 → TellsSoFar none f keys next told → Tells none f keys told
+        pub told_done : (told : List A) → length keys ≤ length next / 256 → TellsSoFar none f keys next told → AreImages none f keys told
         told_done told done on =
             let len = on.len in
             let b = e.behind in

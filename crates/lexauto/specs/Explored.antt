@@ -44,7 +44,7 @@ pub record Exploring (step : Key → ℕ → Key) (roots : List Key) (find : Key
   pub room : length keys ≤ limit
 
 -- for each key, what f tells of it
-pub record Tells {A : Type 0} (none : A) (f : Key → A) (keys : List Key) (told : List A) : Type 0 where
+pub record AreImages {A : Type 0} (none : A) (f : Key → A) (keys : List Key) (told : List A) : Type 0 where
   pub len : length told ≡ length keys
   pub each : (i : ℕ) (k : Key) → At keys i k → slice_index_or told i none ≡ f k
 
@@ -53,7 +53,7 @@ abbrev pub goes_by : (Key → Key) → Key → Bool
 goes_by follow k = not (is_empty (follow k))
 
 abbrev pub GoOn : (Key → Key) → List Key → List Bool → Type 0
-GoOn follow = Tells false (goes_by follow)
+GoOn follow = AreImages false (goes_by follow)
 
 -- what follows a key that has some of its moves, but not all
 abbrev pub Held : (Key → Key) → List Key → List ℕ → Key → Type 0

@@ -16,6 +16,7 @@ pub enum BuildError {
     /// There are more states than their limit.
     #[error("TooManyStates")]
     TooManyStates,
+    /// A request for memory was refused.
     #[error("OutOfMemory")]
     OutOfMemory,
 }
@@ -23,6 +24,7 @@ pub enum BuildError {
 impl From<AllocError> for BuildError {
     ghost from_gives = { λ _ e. e ≡ OutOfMemory };
 
+    /// A request for memory was refused.
     fn from(_e: AllocError) -> Self {
         BuildError::OutOfMemory
     }
@@ -31,6 +33,7 @@ impl From<AllocError> for BuildError {
 impl From<ExploreError> for BuildError {
     ghost from_gives = { λ x e. e ≡ build_error x };
 
+    /// Too many keys are too many states.
     fn from(e: ExploreError) -> Self {
         match e {
             ExploreError::TooMany => BuildError::TooManyStates,

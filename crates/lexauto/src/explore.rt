@@ -6,7 +6,7 @@ ghost use Rattle.lex_semantics.specs.Text.{Ascending};
 ghost use Rattle.lexauto_positions.specs.Cursors.{Increases};
 ghost use Rattle.lexauto.specs.Sets.{lasts_in};
 ghost use Rattle.lexauto.specs.declared.explore.ExploreError.TheVariants.{Memory};
-ghost use Rattle.lexauto.specs.Explored.{Changes, GoOn, IsAutomaton, MoreThan, Reached, Tells, goes_by, step_by};
+ghost use Rattle.lexauto.specs.Explored.{Changes, GoOn, IsAutomaton, MoreThan, Reached, AreImages, goes_by, step_by};
 ghost use Rattle.lexauto.specs.Moving.{HaveNoneAfter};
 ghost use Rattle.lexauto.specs.Keys.{At, Absent, Found, Finds, keys_in};
 ghost use Rattle.lexauto.specs.KeyPacking.{look_kept, kept_in, packed, unpacked};
@@ -18,6 +18,7 @@ use lexre_bytes::ByteSet;
 use std::alloc::{AllocError, AllocFailed, Global};
 use std::collections::BTreeMap;
 
+/// Why the keys that are reached were not all found.
 #[derive(Drop)]
 pub(crate) enum ExploreError {
     TooMany,
@@ -27,6 +28,7 @@ pub(crate) enum ExploreError {
 impl From<AllocError> for ExploreError {
     ghost from_gives = { λ _ e. e ≡ Memory };
 
+    /// A request for memory was refused.
     fn from(_e: AllocError) -> Self {
         ExploreError::Memory
     }
@@ -35,6 +37,7 @@ impl From<AllocError> for ExploreError {
 impl<T: Drop> From<AllocFailed<T>> for ExploreError {
     ghost from_gives = { λ _ e. e ≡ Memory };
 
+    /// A request for memory was refused, and what was handed in is dropped.
     fn from(_e: AllocFailed<T>) -> Self {
         ExploreError::Memory
     }
@@ -278,7 +281,7 @@ pub(crate) fn explore<M: Moves>(
     ensures ok { IfOk result (λ t. IsAutomaton (step_by (M.follow moves.now) (M.read moves.now))
         (kept_in roots.keys.items) (kept_in t.keys.items) t.next.items) }
     ensures room { IfOk result (λ t. length t.keys.items ≤ limit) }
-    ensures accepts { IfOk result (λ t. Tells [] (M.accept moves.now) (kept_in t.keys.items)
+    ensures accepts { IfOk result (λ t. AreImages [] (M.accept moves.now) (kept_in t.keys.items)
         (keys_in t.accepts.items)) }
     ensures goes_on { IfOk result (λ t. GoOn (M.follow moves.now) (kept_in t.keys.items) t.goes_on.items) }
     ensures too_many { IsErrOf result ExploreError.TooMany

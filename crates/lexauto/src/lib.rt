@@ -1,4 +1,31 @@
 //! Automata of lex, by subset construction: the states are the sets of positions that words leave.
+//!
+//! The modules, in an order for reading:
+//! - `error`: why there is no automaton for a specification.
+//! - `sets`: sets of numbers, as lists and as flags, and the keys of states.
+//! - `key_packing`: keys as they are kept, those of many positions as bits.
+//! - `changing`: the bytes at which what a position reads changes.
+//! - `stepping`: how the keys of a specification lead to one another.
+//! - `following`: what follows a key, and the rules that it accepts.
+//! - `explore`: a work list over keys, for whatever leads from one to another.
+//! - `starts`: the active rules of each condition.
+//! - `subsets`: `build`.
+//! - `laws`: the keys that words lead to, and the tables that such keys make.
+//!
+//! `build` promises the automaton that accepts and goes on as the patterns' languages say, with just as many states as
+//! there are subsets. It refuses only where a limit is passed or memory was. Another construction may take its place
+//! under that contract, and nothing else changes.
+//!
+//! Decided here:
+//! - A state's key is a list of numbers. The dead state's is empty. That of a start begins with 0 and has the numbers
+//!   of the active rules. Any other begins with 1 and has the last positions, ascending (`KeyKind`). So a start and a
+//!   set of last positions are never one state, and one table finds both. Starts with the same active rules are one
+//!   state, and a start with none is the dead state.
+//! - A key of many positions is kept as bits, where they take fewer numbers and read back as the key. The reading back
+//!   is a test at run time, so that nothing need be known of keys.
+//! - Bytes that the same positions read are one class, named by its first byte. A state's row is worked out for the
+//!   first bytes and copied for the others, and for a byte that each position that follows reads just where it reads
+//!   the byte before. A byte that no position reads has no marks, and no key is made for it.
 #![tactic(auto)]
 
 mod changing;

@@ -186,15 +186,18 @@ impl Moves for RuleMoves<'_> {
 
     ghost read = { λ m k b. reading_in (rules_in (spec_of m.spec.now)) k b };
 
+    /// What follows a key, and the rules that it accepts: by a walk over the trees of the rules.
     fn walk(&self, alloc: Global, key: &[u32], ascends: bool) -> Result<Walked, AllocError> {
         let walked = walk(alloc, self, key, ascends)?;
         Ok(walked)
     }
 
+    /// The key of those followers that read the byte, as it is kept.
     fn reading(&self, alloc: Global, followers: &[u32], byte: u8) -> Result<Vec<u32>, AllocError> {
         pack_marked(alloc, followers, &self.masks[byte as usize])
     }
 
+    /// The bytes at which what one of the followers reads changes, united.
     fn changes(&self, followers: &[u32]) -> ByteSet {
         let mut changes = ByteSet::empty();
         let mut next = 0;
@@ -208,6 +211,7 @@ impl Moves for RuleMoves<'_> {
         changes
     }
 
+    /// The first byte that the same positions read.
     fn twin(&self, byte: u8) -> u8 {
         self.twins[byte as usize]
     }

@@ -4,7 +4,7 @@ use Rattle.lexauto_dfa.specs.declared.least.blocks.Blocks.{Blocks}
 use Rattle.lexauto_dfa.specs.declared.least.sources.Letter.{Letter}
 use Rattle.lexauto_dfa.specs.Arranged.{Arranged, IsAlone, IsTouched, count, states, block_of}
 use Rattle.lexauto_dfa.specs.Going.{Counts}
-use Rattle.lexauto_dfa.specs.Letters.{AreLetters, Tells, machine, row_of}
+use Rattle.lexauto_dfa.specs.Letters.{AreLetters, IsMembership, machine, row_of}
 use Rattle.lexauto_dfa.specs.Sources.{Has}
 use Rattle.lexauto_dfa.specs.Splits.{Cuts, Using}
 use Rattle.lexauto_dfa.proofs.GoesOn.{both_true}
@@ -29,7 +29,7 @@ pub record CutBy (letters : List Letter) (targets : List ℕ) (old : Blocks) (wa
   pub arranged : Arranged blocks
   pub untouched : (c : ℕ) → c < count blocks → IsTouched blocks c → ⊥
   pub counts : Counts old waited blocks waiting
-  pub used : (labels : List ℕ) (coarse : ℕ → ℕ) (inside : ℕ → Bool) → length labels ≡ states old → Tells inside targets (states old)
+  pub used : (labels : List ℕ) (coarse : ℕ → ℕ) (inside : ℕ → Bool) → length labels ≡ states old → IsMembership inside targets (states old)
       → Using (machine letters labels) (block_of old) (Has waited) coarse inside 0
       → Using (machine letters labels) (block_of blocks) (Has waiting) coarse inside k
 

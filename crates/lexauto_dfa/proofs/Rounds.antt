@@ -7,7 +7,7 @@ use Rattle.lexauto_dfa.specs.declared.least.sources.Letter.{Letter}
 use Rattle.lexauto_dfa.specs.Futures.{IsClosed, IsCoarsest}
 use Rattle.lexauto_dfa.specs.Splits.{Cuts, Using, Refining}
 use Rattle.lexauto_dfa.proofs.Refines.{taken, by_letter, used, finished}
-use Rattle.lexauto_dfa.specs.Letters.{row_of, machine, AreLetters, Tells}
+use Rattle.lexauto_dfa.specs.Letters.{row_of, machine, AreLetters, IsMembership}
 use Rattle.lexauto_dfa.specs.Sources.{Has}
 
 pub row_is : (letters : List Letter) (k : ℕ) (l : Letter) → k < length letters → l ≡ get_or letters k l → row_of letters k ≡ l.row.items
@@ -37,7 +37,7 @@ module _ (letters : List Letter) (labels : List ℕ) (n : ℕ) (len : length lab
   fits = λ a h. fit a h ∙ sym len
 
   pub letter_step : (coarse : ℕ → ℕ) (inside : ℕ → Bool) (block new : ℕ → ℕ) (waiting after : ℕ → Type 0) (targets : List ℕ) (k : ℕ)
-      → k < length letters → Tells inside targets n
+      → k < length letters → IsMembership inside targets n
       → ((m : ℕ → Bool) → ((x : ℕ) → x < n → (m x ≡ true) ↔ Has targets (slice_index (row_of letters k) x)) → Cuts n block new m waiting after)
       → Using (machine letters labels) block waiting coarse inside k
       → Using (machine letters labels) new after coarse inside (k + 1)
@@ -56,7 +56,7 @@ module _ (letters : List Letter) (labels : List ℕ) (n : ℕ) (len : length lab
   -- the last that waits is used
   pub round : (block new : ℕ → ℕ) (waited left after targets : List ℕ) (number : ℕ)
       → waited ≡ left ++ number ∷ [] → ((x : ℕ) → x < n → Has targets x ↔ (block x ≡ number))
-      → ((coarse : ℕ → ℕ) (inside : ℕ → Bool) → Tells inside targets n → Using (machine letters labels) block (Has left) coarse inside 0 → Using (machine letters labels) new (Has after) coarse inside (length letters))
+      → ((coarse : ℕ → ℕ) (inside : ℕ → Bool) → IsMembership inside targets n → Using (machine letters labels) block (Has left) coarse inside 0 → Using (machine letters labels) new (Has after) coarse inside (length letters))
       → (coarse : ℕ → ℕ) × Refining (machine letters labels) block (Has waited) coarse
       → (coarse : ℕ → ℕ) × Refining (machine letters labels) new (Has after) coarse
   round block new waited left after targets number is of step (coarse, r) =

@@ -22,8 +22,8 @@ abbrev pub AreLetters : List Letter → ℕ → Type 0
 AreLetters letters n = (a : ℕ) → a < length letters → length (row_of letters a) ≡ n
 
 -- the truth values say what the list has, of the numbers below n
-abbrev pub Tells : (ℕ → Bool) → List ℕ → ℕ → Type 0
-Tells inside xs n = (x : ℕ) → x < n → (inside x ≡ true) ↔ Has xs x
+abbrev pub IsMembership : (ℕ → Bool) → List ℕ → ℕ → Type 0
+IsMembership inside xs n = (x : ℕ) → x < n → (inside x ≡ true) ↔ Has xs x
 
 -- the machine of a table with 256 places a state
 abbrev pub bytes_machine : List ℕ → List ℕ → Machine

@@ -1,4 +1,4 @@
-//! The least automaton, by Hopcroft's partition refinement in which the smaller half of a block waits, with canonical
+//! The minimal DFA, by Hopcroft's partition refinement in which the smaller half of a block waits, with canonical
 //! numbers.
 //!
 //! The modules, in an order for reading:

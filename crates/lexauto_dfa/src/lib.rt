@@ -5,16 +5,16 @@
 //! - `memory`: the one refusal of all that can fail by want of memory alone.
 //! - `dfa`: the lists of an automaton, the type that keeps what holds of them, and its readers.
 //! - `alike`: for each byte the first one by which all states go alike.
-//! - `least`: the least automaton. Its head lists its modules: labels, letters and their sources, blocks, marks and
-//!   splits, the partition that they come to, its classes numbered, and `minimising`, which puts these together.
+//! - `least`: the minimal DFA. Its head lists its modules: labels, letters and their sources, blocks, marks and splits,
+//!   the partition that they come to, its classes numbered, and `minimising`, which puts these together.
 //! - `laws`: that an automaton of a sound specification is a machine.
 //!
 //! The type promises: numbers in range, a dead state 0, each other state reached, rules ascending, going on exactly
-//! where a longer word is accepted. `minimise` promises the least automaton that accepts and goes on as the one handed
-//! in after every word, with canonical numbers, of which there is just one. That a specification's machine stays one,
-//! and its table one, are clauses of `minimise` for every specification, so a caller needs no law of its own.
+//! where a longer word is accepted. `minimise` promises the minimal DFA that accepts and goes on as the one handed in
+//! after every word, with canonical numbers, of which there is just one. That a specification's machine stays one, and
+//! its table one, are clauses of `minimise` for every specification, so a caller needs no law of its own.
 //!
-//! How the least automaton is found may change alone, under the contract of `minimise`. What the type keeps may not:
+//! How the minimal DFA is found may change alone, under the contract of `minimise`. What the type keeps may not:
 //! `build` makes such automata, and packing, reports and pictures read them.
 //!
 //! Decided here:

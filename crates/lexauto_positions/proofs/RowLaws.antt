@@ -10,7 +10,7 @@ use Rattle.lexauto_positions.specs.Alike.{Alike, AlikeAll, choice_of}
 use Rattle.lexauto_positions.specs.Signs.{signed}
 use Rattle.lexauto_positions.specs.Plans.{plan_of, tree_in, trees_laid}
 use Rattle.lexauto_positions.specs.declared.layout.SizedPattern.{SizedPattern}
-use Rattle.lexauto_positions.specs.declared.layout.Sign.TheVariants as S
+use Rattle.lexauto_positions.specs.declared.layout.Operator.TheVariants as S
 use Rattle.lexauto_positions.proofs.Copies.{or_false}
 use Rattle.lexauto_positions.proofs.AlikeLaws.{alike_on, alike_within, alike_series, alike_choice, alike_repeat}
 use Rattle.lexauto_positions.proofs.SignLaws.{one_sign, alike_signed}

@@ -8,32 +8,32 @@ use Rattle.lexauto_positions.specs.Flow.{exits, enters}
 use Rattle.lexauto_positions.specs.RuleFlow.{reads}
 use Rattle.lexauto_positions.specs.Alike.{Alike}
 use Rattle.lexauto_positions.specs.Signs.{skips, repeats, signed}
-use Rattle.lexauto_positions.specs.declared.layout.Sign.{Sign}
-use Rattle.lexauto_positions.specs.declared.layout.Sign.TheVariants as S
+use Rattle.lexauto_positions.specs.declared.layout.Operator.{Operator}
+use Rattle.lexauto_positions.specs.declared.layout.Operator.TheVariants as S
 use Rattle.lexauto_positions.proofs.Copies.{or_false}
 use Rattle.lexauto_positions.proofs.AlikeLaws.{alike_star, alike_repeat}
 
 module _ (t : Tree) where
-  signed_size : (s : Sign) → positions (signed s t) ≡ positions t
+  signed_size : (s : Operator) → positions (signed s t) ≡ positions t
   signed_size S.Optional = omega arith
   signed_size S.Plus = omega arith
   signed_size S.Star = refl
 
-  signed_reads : (s : Sign) (b q base : ℕ) → reads (signed s t) b q base ≡ reads t b q base
+  signed_reads : (s : Operator) (b q base : ℕ) → reads (signed s t) b q base ≡ reads t b q base
   signed_reads S.Optional b q base = or_false (reads t b q base)
   signed_reads S.Plus b q base = or_false (reads t b q base)
   signed_reads S.Star b q base = refl
 
   module _ (on : ℕ → Bool) (base : ℕ) where
     -- it is left where it is, or where it is skipped
-    signed_left : (s : Sign) (i : Bool) → exits (signed s t) on base i ≡ ((skips s && i) || exits t on base i)
+    signed_left : (s : Operator) (i : Bool) → exits (signed s t) on base i ≡ ((skips s && i) || exits t on base i)
     signed_left S.Optional i = refl
     signed_left S.Plus i = refl
     signed_left S.Star true = refl
     signed_left S.Star false = refl
 
     -- it is entered from outside, or from its own end
-    signed_next : (s : Sign) (q : ℕ) (i : Bool) → enters (signed s t) on q base i ≡ enters t on q base (i || (repeats s && exits t on base false))
+    signed_next : (s : Operator) (q : ℕ) (i : Bool) → enters (signed s t) on q base i ≡ enters t on q base (i || (repeats s && exits t on base false))
     signed_next S.Optional q i = or_false (enters t on q base (i || false))
     signed_next S.Plus q i = or_false (enters t on q base (i || exits t on base false))
     signed_next S.Star q i = refl
@@ -55,7 +55,7 @@ entered true false false false false = refl
 entered false b c false x = refl
 
 -- The sign r is both signs in one.
-pub one_sign : (r s u : Sign) → skips r ≡ (skips s || skips u) → repeats r ≡ (repeats s || repeats u) → (t : Tree) → Alike (signed r t) (signed s (signed u t))
+pub one_sign : (r s u : Operator) → skips r ≡ (skips s || skips u) → repeats r ≡ (repeats s || repeats u) → (t : Tree) → Alike (signed r t) (signed s (signed u t))
 one_sign r s u skip again t = record {
   size = signed_size t r ∙ sym (signed_size t u) ∙ sym (signed_size (signed u t) s);
   left = fun_ext (λ on. fun_ext (λ base. fun_ext (λ i.
@@ -75,7 +75,7 @@ one_sign r s u skip again t = record {
       signed_reads t r b q base ∙ sym (signed_reads t u b q base) ∙ sym (signed_reads (signed u t) s b q base))));
 }
 
-pub alike_signed : (s : Sign) (t u : Tree) → Alike t u → Alike (signed s t) (signed s u)
+pub alike_signed : (s : Operator) (t u : Tree) → Alike t u → Alike (signed s t) (signed s u)
 alike_signed S.Optional t u h = alike_repeat 0 (Some 1) t u h
 alike_signed S.Plus t u h = alike_repeat 1 None t u h
 alike_signed S.Star t u h = alike_star t u h

@@ -57,7 +57,7 @@ impl SizedPattern {
 
 /// A sign on an item.
 #[derive(Clone, Copy)]
-enum Sign {
+enum Operator {
     /// The item may be left out: `?`.
     Optional,
     /// It may be repeated: `+`.
@@ -66,16 +66,16 @@ enum Sign {
     Star,
 }
 
-impl Sign {
+impl Operator {
     /// The sign that does what this one does on another.
-    fn on(self, other: Sign) -> Sign
+    fn on(self, other: Operator) -> Operator
         ensures skips { skips result ≡ (skips self || skips other) }
         ensures repeats { repeats result ≡ (repeats self || repeats other) }
     {
         match (self, other) {
-            (Sign::Optional, Sign::Optional) => Sign::Optional,
-            (Sign::Plus, Sign::Plus) => Sign::Plus,
-            _ => Sign::Star,
+            (Operator::Optional, Operator::Optional) => Operator::Optional,
+            (Operator::Plus, Operator::Plus) => Operator::Plus,
+            _ => Operator::Star,
         }
     }
 
@@ -87,24 +87,24 @@ impl Sign {
         ensures tree { tree_in (plan_of result) ≡ signed self (tree_in (plan_of item.value)) }
     {
         match self {
-            Sign::Optional => SizedPattern::Repeat(size, item, 0, Some(1)),
-            Sign::Plus => SizedPattern::Repeat(size, item, 1, None),
-            Sign::Star => SizedPattern::Star(size, item),
+            Operator::Optional => SizedPattern::Repeat(size, item, 0, Some(1)),
+            Operator::Plus => SizedPattern::Repeat(size, item, 1, None),
+            Operator::Star => SizedPattern::Star(size, item),
         }
     }
 }
 
 /// A part under a sign. Where it is under a sign already, one does for both.
-fn sign_part(alloc: Global, part: SizedPattern, sign: Sign) -> Result<SizedPattern, AllocError>
+fn sign_part(alloc: Global, part: SizedPattern, sign: Operator) -> Result<SizedPattern, AllocError>
     requires sized { IsSized (plan_of part) }
     ensures sized { IfOk result (λ p. IsSized (plan_of p)) }
     ensures alike { IfOk result (λ p. Alike (tree_in (plan_of p)) (signed sign (tree_in (plan_of part)))) }
 {
     match part {
-        SizedPattern::Star(size, item) => Ok(sign.on(Sign::Star).over(size, item)),
-        SizedPattern::Repeat(size, item, 1, None) => Ok(sign.on(Sign::Plus).over(size, item)),
+        SizedPattern::Star(size, item) => Ok(sign.on(Operator::Star).over(size, item)),
+        SizedPattern::Repeat(size, item, 1, None) => Ok(sign.on(Operator::Plus).over(size, item)),
         SizedPattern::Repeat(size, item, 0, Some(1)) => Ok(
-            sign.on(Sign::Optional).over(size, item),
+            sign.on(Operator::Optional).over(size, item),
         ),
         part => {
             let size = part.size();
@@ -142,9 +142,9 @@ fn repeat(
     ensures alike { IfOk result (λ p. Alike (tree_in (plan_of p)) (Repeat (tree_in (plan_of part)) least most)) }
 {
     match (least, most) {
-        (0, Some(1)) => sign_part(alloc, part, Sign::Optional),
-        (1, None) => sign_part(alloc, part, Sign::Plus),
-        (0, None) => sign_part(alloc, part, Sign::Star),
+        (0, Some(1)) => sign_part(alloc, part, Operator::Optional),
+        (1, None) => sign_part(alloc, part, Operator::Plus),
+        (0, None) => sign_part(alloc, part, Operator::Star),
         (1, Some(1)) => Ok(part),
         _ => copy_part(alloc, part, least, most),
     }
@@ -234,7 +234,7 @@ fn choice(alloc: Global, row: Row) -> Result<SizedPattern, AllocError>
 {
     let part = one_of(row.size, row.parts);
     if row.has_empty {
-        return sign_part(alloc, part, Sign::Optional);
+        return sign_part(alloc, part, Operator::Optional);
     }
     Ok(part)
 }
@@ -254,6 +254,7 @@ pub(crate) fn lay(alloc: Global, pattern: &Pattern) -> Result<SizedPattern, Allo
     Ok(part)
 }
 
+/// A pattern laid out by its node; it may have no position, where it is not `Nothing`.
 #[cycle(lay)]
 fn lay_node(alloc: Global, pattern: &Pattern) -> Result<SizedPattern, AllocError>
     requires sound { IsSoundTree (tree_of pattern.now) }
@@ -280,7 +281,7 @@ fn lay_node(alloc: Global, pattern: &Pattern) -> Result<SizedPattern, AllocError
         }
         Pattern::Star(inner) => {
             let part = lay(alloc, inner)?;
-            sign_part(alloc, part, Sign::Star)
+            sign_part(alloc, part, Operator::Star)
         }
         Pattern::Repeat(inner, least, most) => {
             let part = lay(alloc, inner)?;
@@ -289,6 +290,7 @@ fn lay_node(alloc: Global, pattern: &Pattern) -> Result<SizedPattern, AllocError
     }
 }
 
+/// The parts of a series or a choice, laid out: those that have positions, and whether there was one without.
 #[cycle(lay)]
 fn lay_all(alloc: Global, parts: &[Pattern]) -> Result<Row, AllocError>
     requires sound { AreSoundTrees (trees (map tree_of parts.now)) }

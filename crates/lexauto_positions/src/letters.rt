@@ -36,6 +36,7 @@ fn list(part: &SizedPattern, letters: &mut Vec<ByteSet>) -> Result<(), AllocErro
     Ok(())
 }
 
+/// Lists the bytes that each position of some parts reads, part by part.
 #[cycle(list)]
 fn list_each(parts: &[SizedPattern], letters: &mut Vec<ByteSet>) -> Result<(), AllocError>
     ensures count { OnOk result (length letters.new.items
@@ -51,6 +52,7 @@ fn list_each(parts: &[SizedPattern], letters: &mut Vec<ByteSet>) -> Result<(), A
     Ok(())
 }
 
+/// Lists the bytes that each position of so many copies of a part reads.
 #[cycle(list)]
 fn list_copies(
     inner: &SizedPattern,

@@ -39,6 +39,7 @@ impl LaidRule {
     }
 }
 
+/// The sides of a rule, laid out.
 fn lay_rule(alloc: Global, rule: &Rule) -> Result<LaidRule, AllocError>
     requires sound { HasSoundSides (rule_of rule.now) }
     requires few { positions_of_rule (rule_of rule.now) < 2 ^ 32 }

@@ -32,6 +32,8 @@ pub(crate) struct Copies {
     pub loops: bool,
 }
 
+/// The copies that a repetition between these bounds counts: as many as its greatest count, and else as its least, but
+/// at least one.
 pub(crate) fn copies_of(least: u8, most: Option<u8>) -> Copies
     ensures least { result.least ≡ least }
     ensures count { result.count ≡ copies least most }
@@ -119,6 +121,7 @@ pub(crate) fn leave(
     }
 }
 
+/// Whether a series is left: each part is entered where the one before it is left.
 #[cycle(leave)]
 fn leave_each(parts: &[SizedPattern], last: &[u32], at: usize, base: usize, entered: bool) -> Passed
     requires sized { AreSized (plans (map plan_of parts.now)) }
@@ -136,6 +139,7 @@ fn leave_each(parts: &[SizedPattern], last: &[u32], at: usize, base: usize, ente
     passed
 }
 
+/// Whether a choice is left: each part is entered where the choice is.
 #[cycle(leave)]
 fn leave_some(parts: &[SizedPattern], last: &[u32], at: usize, base: usize, entered: bool) -> Passed
     requires sized { AreSized (plans (map plan_of parts.now)) }
@@ -156,6 +160,7 @@ fn leave_some(parts: &[SizedPattern], last: &[u32], at: usize, base: usize, ente
     Passed { left, at: cursor }
 }
 
+/// Whether copies of a part are left: after the last one, or after an earlier one where no more are needed.
 #[cycle(leave)]
 fn leave_copies(
     inner: &SizedPattern,
@@ -260,6 +265,7 @@ pub(crate) fn enter(
     }
 }
 
+/// Adds the positions of a series that come next: each part is entered where the one before it is left.
 #[cycle(enter)]
 fn enter_each(
     parts: &[SizedPattern],
@@ -292,6 +298,7 @@ fn enter_each(
     Ok(passed)
 }
 
+/// Adds the positions of a choice that come next: each part is entered where the choice is.
 #[cycle(enter)]
 fn enter_some(
     parts: &[SizedPattern],
@@ -327,6 +334,8 @@ fn enter_some(
     Ok(Passed { left, at: cursor })
 }
 
+/// Adds the positions of copies of a part that come next: each copy is entered where the one before it is left, and the
+/// last one from its own end too where it may be repeated.
 #[cycle(enter)]
 fn enter_copies(
     inner: &SizedPattern,

@@ -35,6 +35,7 @@ pub fn write_backup<K: Sink>(entries: &[BackUp], sink: &mut K) -> Result<(), Wri
     put_all(sink, &["states that back up: ", count, "\n"])
 }
 
+/// Writes the line of a state that backs up.
 fn write_entry<K: Sink>(entry: &BackUp, sink: &mut K) -> Result<(), WriteFault>
     requires { K.failures sink.old < 2 ^ 64 - 1 }
     ensures bytes { Appended (λ xs. K.wrote sink.old xs sink.new) (backup_line entry.now) result }
@@ -51,6 +52,7 @@ fn write_entry<K: Sink>(entry: &BackUp, sink: &mut K) -> Result<(), WriteFault>
     sink.put(b"\"\n")
 }
 
+/// Writes the bytes of a word as they stand between the quotes of a line.
 fn write_word<K: Sink>(word: &[u8], sink: &mut K) -> Result<(), WriteFault>
     requires { K.failures sink.old < 2 ^ 64 - 1 }
     ensures bytes { Appended (λ xs. K.wrote sink.old xs sink.new) (flat_map shown word.now) result }
@@ -64,6 +66,8 @@ fn write_word<K: Sink>(word: &[u8], sink: &mut K) -> Result<(), WriteFault>
     Ok(())
 }
 
+/// Writes a byte of a word: itself, after a backslash where it is a quote or a backslash, or in octal digits where it
+/// cannot be printed.
 fn write_byte<K: Sink>(byte: u8, sink: &mut K) -> Result<(), WriteFault>
     requires { K.failures sink.old < 2 ^ 64 - 1 }
     ensures bytes { Appended (λ xs. K.wrote sink.old xs sink.new) (shown byte) result }

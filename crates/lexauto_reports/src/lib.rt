@@ -1,4 +1,30 @@
-//! The reports: rules that are never carried out, states that back up, and the lines that tell them.
+//! The reports on a specification and its automaton: rules that are never carried out, states that back up, and the
+//! lines of these.
+//!
+//! The modules, in an order for reading:
+//! - `writing`: texts written part by part.
+//! - `useless`: rules that are never carried out.
+//! - `warned`: a warning as a value, and its line.
+//! - `merging`: the warnings of a specification, in order.
+//! - `groups`: words with the states that they are the first to lead to, as values.
+//! - `words`: the words of groups, and a group more.
+//! - `search`: the first word that leads to each state, breadth first.
+//! - `backup`: a state that backs up as a value, and its line.
+//! - `backing`: the states that back up, picked from what was found.
+//!
+//! It promises just the rules and states of the definitions, in order, and each byte of the lines. `write_..` take no
+//! memory. A search may change alone under the contract of `first_words`, which lexlook's texts of rules use too.
+//!
+//! Decided here:
+//! - A rule is useless if no state accepts it. That this is so of an automaton that is a table for the specification is
+//!   a law.
+//! - The search goes over states together with how many bytes were read, counted up to two. So the shortest word of two
+//!   bytes or more is found also where a start leads back to itself.
+//! - The words of states that back up stand in one text. A word that another one continues stands once, as its prefix.
+//! - States are named by their numbers in the tables, which are canonical. So a report is the same for the same
+//!   specification.
+//! - Warnings are sorted by line, skipped code before a rule of the same line. No other order is left, since a line has
+//!   one rule at most.
 #![tactic(auto)]
 
 mod backing;

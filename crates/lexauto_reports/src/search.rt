@@ -16,7 +16,9 @@ use std::alloc::{AllocError, Global};
 /// Groups in the order of their words, and for each state the place of the group that it is in.
 #[derive(Drop)]
 pub struct Found {
+    /// The groups.
     pub groups: Groups,
+    /// For each state, with how many bytes were read, the place of its group; None where no word leads there.
     pub places: Vec<Option<usize>>,
 }
 

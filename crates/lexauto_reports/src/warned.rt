@@ -30,6 +30,7 @@ pub fn write_warnings<K: Sink>(warnings: &[Warning], sink: &mut K) -> Result<(),
     Ok(())
 }
 
+/// Writes the line of a warning.
 fn write_warning<K: Sink>(warning: Warning, sink: &mut K) -> Result<(), WriteFault>
     requires { K.failures sink.old < 2 ^ 64 - 1 }
     ensures bytes { Appended (λ xs. K.wrote sink.old xs sink.new) (warning_line warning) result }
@@ -41,6 +42,7 @@ fn write_warning<K: Sink>(warning: Warning, sink: &mut K) -> Result<(), WriteFau
     put_all(sink, &["lex: line ", line, ": warning: ", words, "\n"])
 }
 
+/// What a warning says: of skipped code, or of a rule that cannot be matched.
 fn warning_text(code: bool) -> &'static str
     ensures { result.now ≡ warning_words code }
 {

@@ -11,9 +11,9 @@ abbrev pub out_of_memory : Failure
 out_of_memory = Scan (scans.Generate gens.OutOfMemory)
 
 -- the failure is told so
-abbrev pub Tells : Failure → Fault → Type 0
-Tells Usage fault = fault ≡ faults.Usage
-Tells (Scan e) fault = fault ≡ faults.Scan e
-Tells (File name) (faults.File told) = told.now ≡ string_bytes name
-Tells (File name) other = ⊥
-Tells Output fault = fault ≡ faults.Output
+abbrev pub IsReportedAs : Failure → Fault → Type 0
+IsReportedAs Usage fault = fault ≡ faults.Usage
+IsReportedAs (Scan e) fault = fault ≡ faults.Scan e
+IsReportedAs (File name) (faults.File told) = told.now ≡ string_bytes name
+IsReportedAs (File name) other = ⊥
+IsReportedAs Output fault = fault ≡ faults.Output

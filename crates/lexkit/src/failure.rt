@@ -1,6 +1,6 @@
 //! What ends a program before its work is done.
 ghost use Rattle.std.specs.Prelude.{◌≡◌};
-ghost use Rattle.lexkit.specs.Failures.{Tells, out_of_memory};
+ghost use Rattle.lexkit.specs.Failures.{IsReportedAs, out_of_memory};
 
 use crate::errors::{GenError, ScanError};
 use crate::faults::Fault;
@@ -38,7 +38,7 @@ impl Failure {
 
     /// The fault that is reported.
     pub fn fault(&self) -> Fault<'_>
-        ensures { Tells self.now result }
+        ensures { IsReportedAs self.now result }
     {
         match self {
             Failure::Usage => Fault::Usage,

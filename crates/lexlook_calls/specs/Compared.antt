@@ -51,9 +51,9 @@ abbrev pub IsToldOf : {K : Type 0} → (K → List ℕ → K → Type 0) → Opt
 IsToldOf wrote options g h s t answer = (a b : Side) × IsSideOf options g a × IsSideOf options h b × SaysOf wrote a b s t answer
 
 -- What was told of two files, and whether they do the same. Files that are refused leave the sink as it was.
-abbrev pub Tells : {K : Type 0} → (K → List ℕ → K → Type 0) → Options → Given → Given → K → K → Result Bool LookError → Type 0
-Tells wrote options g h s t (Ok same) = IsToldOf wrote options g h s t (Ok same)
-Tells wrote options g h s t (Err Write) = IsToldOf wrote options g h s t (Err Write)
-Tells wrote options g h s t (Err OutOfMemory) = t ≡ s
-Tells wrote options g h s t (Err (Refused e)) = (IsRefused options g.bytes.now (Refused e) ⊎ IsRefused options h.bytes.now (Refused e)) × (t ≡ s)
-Tells wrote options g h s t (Err (Table e)) = (IsRefused options g.bytes.now (Table e) ⊎ IsRefused options h.bytes.now (Table e)) × (t ≡ s)
+abbrev pub TellsSame : {K : Type 0} → (K → List ℕ → K → Type 0) → Options → Given → Given → K → K → Result Bool LookError → Type 0
+TellsSame wrote options g h s t (Ok same) = IsToldOf wrote options g h s t (Ok same)
+TellsSame wrote options g h s t (Err Write) = IsToldOf wrote options g h s t (Err Write)
+TellsSame wrote options g h s t (Err OutOfMemory) = t ≡ s
+TellsSame wrote options g h s t (Err (Refused e)) = (IsRefused options g.bytes.now (Refused e) ⊎ IsRefused options h.bytes.now (Refused e)) × (t ≡ s)
+TellsSame wrote options g h s t (Err (Table e)) = (IsRefused options g.bytes.now (Table e) ⊎ IsRefused options h.bytes.now (Table e)) × (t ≡ s)

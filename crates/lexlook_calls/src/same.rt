@@ -2,7 +2,7 @@
 ghost use Rattle.std.specs.Prelude.{◌≡◌, ◌≤◌, ◌<◌, ◌+◌, ◌-◌, ◌^◌, List, ℕ, None, IfOk, IfSome};
 ghost use Rattle.lex_semantics.specs.Limits.{max_positions, max_states};
 ghost use Rattle.lexlook_tables.specs.declared.same.tables.Comparison.TheVariants.{Same, Conditions, Ends, Texts};
-ghost use Rattle.lexlook_calls.specs.Compared.{Holds, SaysOf, Tells, is_same};
+ghost use Rattle.lexlook_calls.specs.Compared.{Holds, SaysOf, TellsSame, is_same};
 ghost use Rattle.lexlook_calls.specs.Errors.{write_fault_count};
 ghost use Rattle.lexlook_calls.specs.Lines.{IsLabelled, side_as};
 ghost use Rattle.lexlook_calls.specs.Naming.{ArePaired};
@@ -125,7 +125,7 @@ pub fn tell_same<K: Sink>(
     requires few_positions { options.limits.positions ≤ max_positions }
     requires few_states { options.limits.states ≤ max_states }
     requires few { K.failures sink.old < 2 ^ 64 - 1 }
-    ensures told { Tells K.wrote options left.entry right.entry sink.old sink.new result }
+    ensures told { TellsSame K.wrote options left.entry right.entry sink.old sink.new result }
     ensures failures { K.failures sink.new ≡ K.failures sink.old + write_fault_count result }
 {
     let first = match side_of(alloc, left.bytes, options) {

@@ -30,9 +30,9 @@ pub record AreTakers (m : Matches) (i : ℕ) (js : List ℕ) : Type 0 where
   pub takers : (j : ℕ) → Among js j ↔ TakesOf m i j
 
 -- what is told of a rule: the first text that it takes, or by which rules its texts are taken
-abbrev pub Tells : Matches → ℕ → Word → Type 0
-Tells m i (Taken p) = IsFirst m (λ c line w. Takes m c line w i) p
-Tells m i (Never js) = AreTakers m i js.items
+abbrev pub IsWordOf : Matches → ℕ → Word → Type 0
+IsWordOf m i (Taken p) = IsFirst m (λ c line w. Takes m c line w i) p
+IsWordOf m i (Never js) = AreTakers m i js.items
 
 -- what is told of the default rule: the first text of which it copies a byte, which is one byte long
 abbrev pub TellsDefault : Matches → Option Place → Type 0
@@ -41,5 +41,5 @@ TellsDefault m (Some p) = IsFirst m (IsCopied m) p × (length p.text.items ≡ 1
 
 pub record AreWords (m : Matches) (v : Words) : Type 0 where
   pub each : length v.rules.items ≡ m.count
-  pub rules : (i : ℕ) (x : Word) → slice_get v.rules.items i ≡ Some x → Tells m i x
+  pub rules : (i : ℕ) (x : Word) → slice_get v.rules.items i ≡ Some x → IsWordOf m i x
   pub default : TellsDefault m v.default

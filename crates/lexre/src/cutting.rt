@@ -2,8 +2,8 @@
 //!
 //! A pattern is said by the texts from each piece on (`specs/Cutting`): what such a text begins with is its piece, and
 //! its length says where it stands. The code goes by kinds and places, and both are proved to say the same. What is
-//! wrong inside a class is passed over, but for a class without an end: the reader of classes, which comes later, tells
-//! the rest.
+//! wrong inside a class is passed over, but for a class without an end: the reader of classes, which comes later,
+//! reports the rest.
 ghost use Rattle.std.specs.Prelude.{◌≡◌, ◌+◌, ◌^◌, ◌<◌, ◌≤◌, ℕ, Bool, ◌∷◌, List, length, Option, Some, None};
 ghost use Rattle.std.specs.Prelude.{IfOk, IfErr, IfSome, OnErr, MatchOption, MatchResult};
 ghost use Rattle.lexre.specs.Cutting.{IsCutting, IsCuttingFault};

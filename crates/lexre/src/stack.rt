@@ -3,8 +3,8 @@
 //!
 //! Nodes are counted in the tree of the text so far. A series has its own node from its second item on, and a choice
 //! from the first item after its first bar. The node of an operator is counted at the item that it stands after, and
-//! that of an operator on a series is told at the operator. One count goes through all names, and each item is refused
-//! as soon as it passes 65,536.
+//! that of an operator on a series is reported at the operator. One count goes through all names, and each item is
+//! refused as soon as it passes 65,536.
 ghost use Rattle.std.specs.Prelude.{◌≡◌, ◌+◌, ◌≤◌, ◌<◌, ℕ, List, Option, [], Some, None};
 ghost use Rattle.std.specs.Prelude.{map, MatchResult, IfOk, IfErr, IfSome, IfNone, IsSome};
 ghost use Rattle.lex_semantics.specs.Tree.{Repeat, Tree};

@@ -145,7 +145,7 @@ impl<T: Drop> From<AllocFailed<T>> for SpecErrorKind {
 impl From<AllocError> for SpecError {
     ghost from_gives = { λ _ e. e ≡ record { line = 0; kind = OutOfMemory } };
 
-    /// A request for memory was refused where no line is at hand: it is told of line 0.
+    /// A request for memory was refused where no line is at hand: it is reported at line 0.
     fn from(_error: AllocError) -> SpecError {
         OUT_OF_MEMORY
     }

@@ -10,7 +10,7 @@ use Rattle.lexspec_lines.specs.Runs.{split_before}
 use Rattle.lexspec_lines.proofs.TextLaws.{Other, decide}
 use Rattle.lexspec_actions.specs.Comments.{after_star}
 use Rattle.lexspec_actions.specs.ByteSteps.{slash, block, star, line, after_byte}
-use Rattle.lexspec.specs.ActionSteps.{Place, code, string, escaped, outside, action_in, with_byte}
+use Rattle.lexspec.specs.ActionSteps.{ActionPlace, code, string, escaped, outside, action_in, with_byte}
 use Rattle.lexspec.specs.Items.{after_string, after_piece, action_end, action_at}
 use Rattle.lexspec.proofs.ActionLaws.{at_outside, with_front}
 
@@ -26,18 +26,18 @@ front_none None = refl
 front_none (Some x) = refl
 
 -- a piece of which the bytes at the place p are the last ones, up to a text
-abbrev Passed : Place → ℕ → List ℕ → Option (List ℕ) → Type 0
+abbrev Passed : ActionPlace → ℕ → List ℕ → Option (List ℕ) → Type 0
 Passed p n t None = ◌≡◌ {A = Option Split} (action_in p n t) None
 Passed p n t (Some u) = (front : List ℕ) × (t ≡ front ++ u) × (action_in p n t ≡ with_front front (action_in outside n u))
 
-more : (c n : ℕ) (p q : Place) (t : List ℕ) (o : Option (List ℕ)) → action_in q n (c ∷ t) ≡ with_byte c (action_in p n t) → Passed p n t o → Passed q n (c ∷ t) o
+more : (c n : ℕ) (p q : ActionPlace) (t : List ℕ) (o : Option (List ℕ)) → action_in q n (c ∷ t) ≡ with_byte c (action_in p n t) → Passed p n t o → Passed q n (c ∷ t) o
 more c n p q t None e h = e ∙ ap (with_byte c) h
 more c n p q t (Some u) e (front, is, found) = (c ∷ front, ap (λ z. c ∷ z) is, e ∙ ap (with_byte c) found ∙ front_one c front (action_in outside n u))
 
-done : (n : ℕ) (p : Place) (t : List ℕ) → action_in p n t ≡ action_in outside n t → Passed p n t (Some t)
+done : (n : ℕ) (p : ActionPlace) (t : List ℕ) → action_in p n t ≡ action_in outside n t → Passed p n t (Some t)
 done n p t e = ([], refl, e ∙ front_none (action_in outside n t))
 
-last : (c n : ℕ) (p : Place) (t : List ℕ) → action_in p n (c ∷ t) ≡ with_byte c (action_in outside n t) → Passed p n (c ∷ t) (Some t)
+last : (c n : ℕ) (p : ActionPlace) (t : List ℕ) → action_in p n (c ∷ t) ≡ with_byte c (action_in outside n t) → Passed p n (c ∷ t) (Some t)
 last c n p t e = more c n outside p t (Some t) e (done n outside t refl)
 
 -- strings
@@ -218,7 +218,7 @@ ends_pass (suc bound) n (c ∷ t) h = from (λ m u k. ends_pass bound m u k) (de
         at_outside (suc n) 10 t ∙ ap (λ b. if b then Some ([], t) else with_byte 10 (action_in outside (suc n) t)) (some_open n) in
         subst (Found (suc n) (10 ∷ t)) (sym read) (one 10 (suc n) (suc n) t (action_end bound (suc n) t) step (later (suc n) t less))
 
-    piece : Later → (p : Place) (c : ℕ) (t : List ℕ) (o : Option (List ℕ)) → length t < bound → action_in outside n (c ∷ t) ≡ with_byte c (action_in p n t) → Passed p n t o → Found n (c ∷ t) (o >>= action_end bound n)
+    piece : Later → (p : ActionPlace) (c : ℕ) (t : List ℕ) (o : Option (List ℕ)) → length t < bound → action_in outside n (c ∷ t) ≡ with_byte c (action_in p n t) → Passed p n t o → Found n (c ∷ t) (o >>= action_end bound n)
     piece later p c t None k e h = e ∙ ap (with_byte c) h
     piece later p c t (Some u) k e (front, is, found) =
         onto n n (c ∷ front) (c ∷ t) u (action_end bound n u) (ap (λ z. c ∷ z) is) (e ∙ ap (with_byte c) found ∙ front_one c front (action_in outside n u)) (later n u (shorter t front u bound is k))

@@ -7,7 +7,7 @@ use Rattle.lexspec_actions.specs.ByteSteps as C
 use Rattle.lexspec_actions.specs.ByteSteps.{slash, block, star, line, after_byte}
 use Rattle.lexspec_lines.specs.Lines.{line_in}
 use Rattle.lexspec.specs.ItemRuns.{Item, skipped, skipped_line, skipped_block, rule, IsLine, Subject, at_end, matching, IsSubject}
-use Rattle.lexspec.specs.ActionSteps.{Place, code, outside, string, escaped, action_in, with_byte, next_place, depth_after}
+use Rattle.lexspec.specs.ActionSteps.{ActionPlace, code, outside, string, escaped, action_in, with_byte, next_place, depth_after}
 use Rattle.lexspec.proofs.ActionPieces.{action_is}
 use Rattle.lexspec.proofs.SubjectLaws.{to_cut}
 use Rattle.lex_semantics.specs.Active.{lists}
@@ -53,7 +53,7 @@ nothing t = each_none (λ (x : Split). EndsWith t x.1)
 either : (t : List ℕ) (b : Bool) (x y : Option Split) → Ends t x → Ends t y → Ends t (if b then x else y)
 either t b x y h k = each_if (λ (z : Split). EndsWith t z.1) b x y h k
 
-pub action_ends : (t : List ℕ) (p : Place) (n : ℕ) → Ends t (action_in p n t)
+pub action_ends : (t : List ℕ) (p : ActionPlace) (n : ℕ) → Ends t (action_in p n t)
 action_ends [] (code C.outside) zero = closed [] []
 action_ends [] (code slash) zero = closed [] []
 action_ends [] (code line) zero = closed [] []

@@ -4,12 +4,12 @@ use Rattle.lexspec_actions.specs.ByteSteps as Comments
 use Rattle.lexspec_actions.specs.ByteSteps.{slash, line, after_byte}
 
 -- where an action stands: in or outside comments of C, in a string, or after a backslash in one
-pub data Place : Type 0 where
-  code : Comments.Place → Place
-  string : Place
-  escaped : Place
+pub data ActionPlace : Type 0 where
+  code : Comments.BytePlace → ActionPlace
+  string : ActionPlace
+  escaped : ActionPlace
 
-abbrev pub outside : Place
+abbrev pub outside : ActionPlace
 outside = code Comments.outside
 
 abbrev pub with_byte : ℕ → Option (List ℕ × List ℕ) → Option (List ℕ × List ℕ)
@@ -17,14 +17,14 @@ with_byte c None = None
 with_byte c (Some found) = Some (c ∷ found.0, found.1)
 
 -- outside all, at a byte that opens no comment
-abbrev pub next_place : ℕ → Place
+abbrev pub next_place : ℕ → ActionPlace
 next_place c = if c == 34 then string else code (after_byte Comments.outside c)
 
 abbrev pub depth_after : ℕ → ℕ → ℕ
 depth_after n c = if c == 123 then suc n else if c == 125 then n - 1 else n
 
 -- the action up to the first newline outside strings, comments and n open braces, or to the end, and what follows that newline
-abbrev pub action_in : Place → ℕ → List ℕ → Option (List ℕ × List ℕ)
+abbrev pub action_in : ActionPlace → ℕ → List ℕ → Option (List ℕ × List ℕ)
 action_in (code Comments.outside) zero [] = Some ([], [])
 action_in (code slash) zero [] = Some ([], [])
 action_in (code line) zero [] = Some ([], [])

@@ -13,7 +13,7 @@ use lexspec_lines::is_all_blank;
 
 /// Where the text of an action stands.
 #[derive(Clone, Copy)]
-enum Place {
+enum ActionPlace {
     /// Outside strings and comments.
     Outside,
     /// After a slash there.
@@ -32,99 +32,99 @@ enum Place {
 
 /// Where the text of an action stands, and how many braces are open there.
 #[derive(Clone, Copy)]
-struct ActionState {
-    place: Place,
+struct ActionCursor {
+    place: ActionPlace,
     depth: usize,
 }
 
 /// What a byte does.
 #[derive(Clone, Copy)]
-enum Step {
+enum ActionStep {
     /// The action goes on from there.
-    Goes(ActionState),
+    Goes(ActionCursor),
     /// The action ended before it.
     Ends,
     /// A string is not closed.
     Refused,
 }
 
-impl ActionState {
+impl ActionCursor {
     /// What the byte does outside strings and comments, where it is not the second byte of a comment's opening.
-    fn past_outside(self, byte: u8) -> Step
+    fn past_outside(self, byte: u8) -> ActionStep
         requires { self.depth + 1 < 2 ^ 64 }
         ensures step { (t : List ℕ) → IsStep result outside self.depth byte t }
         ensures few { MostOpen (self.depth + 1) result }
     {
         let depth = match byte {
-            b'\n' if self.depth == 0 => return Step::Ends,
+            b'\n' if self.depth == 0 => return ActionStep::Ends,
             b'{' => self.depth + 1,
             b'}' => self.depth.saturating_sub(1),
             _ => self.depth,
         };
         let place = match byte {
-            b'"' => Place::String,
-            b'/' => Place::Slash,
-            _ => Place::Outside,
+            b'"' => ActionPlace::String,
+            b'/' => ActionPlace::Slash,
+            _ => ActionPlace::Outside,
         };
-        Step::Goes(ActionState { place, depth })
+        ActionStep::Goes(ActionCursor { place, depth })
     }
 
     /// What the byte does after a slash outside strings and comments.
-    fn past_slash(self, byte: u8) -> Step
+    fn past_slash(self, byte: u8) -> ActionStep
         requires { self.depth + 1 < 2 ^ 64 }
         ensures step { (t : List ℕ) → IsStep result (code slash) self.depth byte t }
         ensures few { MostOpen (self.depth + 1) result }
     {
         if byte == b'*' {
-            self.at(Place::Block)
+            self.at(ActionPlace::Block)
         } else if byte == b'/' {
-            self.at(Place::Line)
+            self.at(ActionPlace::Line)
         } else {
             self.past_outside(byte)
         }
     }
 
     /// What the byte does.
-    fn past(self, byte: u8) -> Step
+    fn past(self, byte: u8) -> ActionStep
         requires { self.depth + 1 < 2 ^ 64 }
         ensures step { (t : List ℕ) → IsStep result (place_of self.place) self.depth byte t }
         ensures few { MostOpen (self.depth + 1) result }
     {
         match self.place {
-            Place::Outside => self.past_outside(byte),
-            Place::Slash => self.past_slash(byte),
-            Place::Block => match byte {
-                b'*' => self.at(Place::Star),
-                _ => self.at(Place::Block),
+            ActionPlace::Outside => self.past_outside(byte),
+            ActionPlace::Slash => self.past_slash(byte),
+            ActionPlace::Block => match byte {
+                b'*' => self.at(ActionPlace::Star),
+                _ => self.at(ActionPlace::Block),
             },
-            Place::Star => match byte {
-                b'/' => self.at(Place::Outside),
-                b'*' => self.at(Place::Star),
-                _ => self.at(Place::Block),
+            ActionPlace::Star => match byte {
+                b'/' => self.at(ActionPlace::Outside),
+                b'*' => self.at(ActionPlace::Star),
+                _ => self.at(ActionPlace::Block),
             },
-            Place::Line => match byte {
-                b'\n' if self.depth == 0 => Step::Ends,
-                b'\n' => self.at(Place::Outside),
-                _ => self.at(Place::Line),
+            ActionPlace::Line => match byte {
+                b'\n' if self.depth == 0 => ActionStep::Ends,
+                b'\n' => self.at(ActionPlace::Outside),
+                _ => self.at(ActionPlace::Line),
             },
-            Place::String => match byte {
-                b'\n' => Step::Refused,
-                b'"' => self.at(Place::Outside),
-                b'\\' => self.at(Place::Escaped),
-                _ => self.at(Place::String),
+            ActionPlace::String => match byte {
+                b'\n' => ActionStep::Refused,
+                b'"' => self.at(ActionPlace::Outside),
+                b'\\' => self.at(ActionPlace::Escaped),
+                _ => self.at(ActionPlace::String),
             },
-            Place::Escaped => match byte {
-                b'\n' => Step::Refused,
-                _ => self.at(Place::String),
+            ActionPlace::Escaped => match byte {
+                b'\n' => ActionStep::Refused,
+                _ => self.at(ActionPlace::String),
             },
         }
     }
 
     /// The step to a place, where as many braces are open.
-    fn at(self, place: Place) -> Step
-        ensures { result ≡ Step.Goes (record { place = place; depth = self.depth }) }
+    fn at(self, place: ActionPlace) -> ActionStep
+        ensures { result ≡ ActionStep.Goes (record { place = place; depth = self.depth }) }
     {
-        Step::Goes(ActionState {
+        ActionStep::Goes(ActionCursor {
             place,
             depth: self.depth,
         })
@@ -134,7 +134,7 @@ impl ActionState {
     fn is_closed(self) -> bool
         ensures { action_in (place_of self.place) self.depth [] ≡ (if result then Some ([], []) else None) }
     {
-        self.depth == 0 && matches!(self.place, Place::Outside | Place::Slash | Place::Line)
+        self.depth == 0 && matches!(self.place, ActionPlace::Outside | ActionPlace::Slash | ActionPlace::Line)
     }
 }
 
@@ -143,18 +143,18 @@ impl ActionState {
 pub(crate) fn split_action(text: &[u8]) -> Option<(&[u8], &[u8])>
     ensures { option_map (λ x. (x.0.now, x.1.now)) result ≡ action_at text.now }
 {
-    let mut progress = ActionState {
-        place: Place::Outside,
+    let mut progress = ActionCursor {
+        place: ActionPlace::Outside,
         depth: 0,
     };
     for (i, byte) in text.iter().enumerate() {
         match progress.past(*byte) {
-            Step::Goes(next) => progress = next,
-            Step::Ends => {
+            ActionStep::Goes(next) => progress = next,
+            ActionStep::Ends => {
                 let (front, rest) = text.split_at(i);
                 return Some((front, skip_first(rest)));
             }
-            Step::Refused => return None,
+            ActionStep::Refused => return None,
         }
     }
     if progress.is_closed() {

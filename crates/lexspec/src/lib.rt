@@ -24,8 +24,8 @@
 //!
 //! Decided here:
 //! - A rule that is one too many, and a second `<<EOF>>` rule of a condition, are refused where they stand. So their
-//!   own lines are told, and the rest of the file is not looked at. `^<<EOF>>` counts as a rule with a pattern until it
-//!   is refused.
+//!   own lines are reported, and the rest of the file is not looked at. `^<<EOF>>` counts as a rule with a pattern
+//!   until it is refused.
 //! - An action ends where what strings, comments and braces of C are says so (`specs/Items`). The code goes over the
 //!   bytes once, by places (`specs/ActionSteps`), and a proof says that both find the same end.
 //! - The rules section is said for readers (`specs/Items`, `specs/RuleItems`), where a `$` stands for the trailing

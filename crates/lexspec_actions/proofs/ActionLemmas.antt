@@ -57,17 +57,17 @@ module _ (known : Known) where
       rw (e, ne_eqb c 59 one, ne_eqb c 123 two, ne_eqb c 125 three, at) refl
 
   -- what is left after a piece
-  pub record Step (n : ℕ) (before : List Statement) (p : Piece) (n' : ℕ) (before' : List Statement) : Type 0 where
+  pub record PieceStep (n : ℕ) (before : List Statement) (p : Piece) (n' : ℕ) (before' : List Statement) : Type 0 where
     pub braces : (ps : List Piece) → are_balanced n (p ∷ ps) ≡ are_balanced n' ps
     pub said : (ps : List Piece) → then_all before (statements_of (p ∷ ps)) ≡ then_all before' (statements_of ps)
 
   pub goes_on : (n n' : ℕ) (before before' : List Statement) (rest after : List ℕ) (p : Piece) (ss : List Statement)
-      → piece_at known rest ≡ Some (p, after) → Step n before p n' before' → Goes n' before' after ss → Goes n before rest ss
+      → piece_at known rest ≡ Some (p, after) → PieceStep n before p n' before' → Goes n' before' after ss → Goes n before rest ss
   goes_on n n' before before' rest after p ss here step (ps, cut, balanced, same) =
       (p ∷ ps, (after, here, cut), step.braces ps ∙ balanced, same ∙ sym (step.said ps))
 
   pub goes_back : (n n' : ℕ) (before before' : List Statement) (rest after : List ℕ) (p : Piece) (ss : List Statement)
-      → piece_at known rest ≡ Some (p, after) → Step n before p n' before' → Goes n before rest ss → Goes n' before' after ss
+      → piece_at known rest ≡ Some (p, after) → PieceStep n before p n' before' → Goes n before rest ss → Goes n' before' after ss
   goes_back n n' before before' rest after p ss here step ([], done, balanced, same) = absurd (no_piece rest p after here done)
   goes_back n n' before before' rest after p ss here step (q ∷ ps, (left, there, cut), balanced, same) =
       let is = pair_is q p left after (sym there ∙ here) in
@@ -78,23 +78,23 @@ module _ (known : Known) where
       (ps, subst P is.1 cut, sym (step.braces ps) ∙ subst Q piece balanced, subst R piece same ∙ step.said ps)
 
   pub agree_step : (n n' : ℕ) (before before' : List Statement) (rest after text : List ℕ) (p : Piece)
-      → piece_at known rest ≡ Some (p, after) → Step n before p n' before' → Agree n before rest text → Agree n' before' after text
+      → piece_at known rest ≡ Some (p, after) → PieceStep n before p n' before' → Agree n before rest text → Agree n' before' after text
   agree_step n n' before before' rest after text p here step agree = record {
     on = λ ss goes. agree.on ss (goes_on n n' before before' rest after p ss here step goes);
     back = λ ss spells. goes_back n n' before before' rest after p ss here step (agree.back ss spells);
   }
 
-  pub step_semicolon : (n : ℕ) (before : List Statement) → Step n before semicolon n before
+  pub step_semicolon : (n : ℕ) (before : List Statement) → PieceStep n before semicolon n before
   step_semicolon n before = record { braces = λ ps. refl; said = λ ps. refl }
 
-  pub step_opens : (n : ℕ) (before : List Statement) → Step n before opens (n + 1) before
+  pub step_opens : (n : ℕ) (before : List Statement) → PieceStep n before opens (n + 1) before
   step_opens n before = record { braces = λ ps. let e : suc n ≡ n + 1 = omega arith in ap (λ k. are_balanced k ps) e; said = λ ps. refl }
 
-  pub step_closes : (n : ℕ) (before : List Statement) → (n ≡ 0 → ⊥) → Step n before closes (n - 1) before
+  pub step_closes : (n : ℕ) (before : List Statement) → (n ≡ 0 → ⊥) → PieceStep n before closes (n - 1) before
   step_closes zero before some = absurd (some refl)
   step_closes (suc n) before some = record { braces = λ ps. let e : n ≡ suc n - 1 = omega arith in ap (λ k. are_balanced k ps) e; said = λ ps. refl }
 
-  pub step_says : (n : ℕ) (before : List Statement) (s : Said) → Step n before (says s) n (then_all before (said_by s))
+  pub step_says : (n : ℕ) (before : List Statement) (s : Said) → PieceStep n before (says s) n (then_all before (said_by s))
   step_says n before s = record { braces = λ ps. refl; said = λ ps. then_more before (said_by s) (statements_of ps) }
 
   -- what is refused spells nothing

@@ -12,15 +12,15 @@ digits_at = run_at is_digit
 
 -- Comments by where a text stands: outside comments, after a slash there, in a `/* .. */` comment, after a star there, or in a `//`
 -- comment.
-pub data Place : Type 0 where
-  outside : Place
-  slash : Place
-  block : Place
-  star : Place
-  line : Place
+pub data BytePlace : Type 0 where
+  outside : BytePlace
+  slash : BytePlace
+  block : BytePlace
+  star : BytePlace
+  line : BytePlace
 
 -- where a byte leads
-abbrev pub after_byte : Place → ℕ → Place
+abbrev pub after_byte : BytePlace → ℕ → BytePlace
 after_byte outside c = if c == 47 then slash else outside
 after_byte slash c = if c == 42 then block else if c == 47 then line else outside
 after_byte block c = if c == 42 then star else block
@@ -28,7 +28,7 @@ after_byte star c = if c == 47 then outside else if c == 42 then star else block
 after_byte line c = if c == 10 then outside else line
 
 -- what follows blanks, newlines and comments
-abbrev pub skip_in : Place → List ℕ → List ℕ
+abbrev pub skip_in : BytePlace → List ℕ → List ℕ
 skip_in slash [] = 47 ∷ []
 skip_in p [] = []
 skip_in outside (c ∷ t) = if is_white c then skip_in outside t else if c == 47 then skip_in slash t else c ∷ t
@@ -36,7 +36,7 @@ skip_in slash (c ∷ t) = if c == 42 || c == 47 then skip_in (after_byte slash c
 skip_in p (c ∷ t) = skip_in (after_byte p c) t
 
 -- in a comment, after a star or not
-abbrev pub in_block : Bool → Place
+abbrev pub in_block : Bool → BytePlace
 in_block true = star
 in_block false = block
 

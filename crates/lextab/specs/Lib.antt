@@ -15,5 +15,5 @@ pub mod Packing
 pub mod Columns
 pub mod PackingExamples
 pub mod Searching
-pub mod Views
+pub mod PackingViews
 pub mod Assembled

@@ -1,5 +1,34 @@
-//! Tables: the packing of an automaton, with what a scan goes by and where it writes: the trait `Machine`, the tables
-//! that are one, their file, and sinks.
+//! Tables: the packing of an automaton with the actions of its specification. It exports the rooms below it too: packed
+//! tables, their file, the trait `Machine` and sinks.
+//!
+//! The modules, in an order for reading:
+//! - `classes`: the classes of bytes that no state distinguishes.
+//! - `rows`: the targets of a state, class by class, its default and its entries.
+//! - `slots`: which slots are taken, a bit each, and the first place that fits.
+//! - `placing`: the base of each state in turn.
+//! - `filling`: the checks and the nexts.
+//! - `packing`: these together.
+//! - `assembling`: the conditions, rules and rows of a table.
+//! - `tables`: `pack`.
+//! - `plain`: the automaton as it was built, with the actions of its specification, and `plain_machine`: what it
+//!   answers. Tests use it alone.
+//! - `laws`: an automaton has one packing, which goes as it does and keeps the limits; a worked example.
+//!
+//! `pack` promises the packing of the automaton, of which there is one, and that the machine of the tables is the
+//! automaton's. Another packing may take its place as far as `specs/Packing` says it: readers of table files need no
+//! change.
+//!
+//! Decided here:
+//! - Classes come before rows. They are numbered in order of their first bytes, and rows are packed over classes. So a
+//!   row has fewer entries.
+//! - The default of a state is the target of most of its classes, of equals the smallest number.
+//! - Row displacement by first fit, in order of state number: each state takes the least base at which its entries are
+//!   free. With the canonical numbers of the minimal DFA that leaves no choice, so a specification has one packing, and
+//!   one file.
+//! - Bases without a shift: a state's row of slots is as long as there are classes, also past its last entry. So no
+//!   step leaves the slots, and an engine needs no test of bounds.
+//! - What is packed is said of a table. `IsPacked` speaks of the rows and slots that a file has. The steps make
+//!   columns, and `IsPacking` says the same of those, with a proof that both agree.
 #![tactic(auto)]
 
 mod assembling;

@@ -2,7 +2,7 @@
 ghost use Rattle.std.specs.Prelude.{◌≡◌, ℕ, ◌*◌, ◌<◌, ◌≤◌, length, slice_index, IfOk};
 ghost use Rattle.lextab.specs.Columns.{IsPacking};
 ghost use Rattle.lexauto_dfa.specs.Alike.{moves};
-ghost use Rattle.lextab.specs.Views.{packing_of};
+ghost use Rattle.lextab.specs.PackingViews.{packing_of};
 ghost use Rattle.lex_semantics.specs.Limits.{max_states};
 
 use crate::classes::classes_of;

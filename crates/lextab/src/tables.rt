@@ -9,7 +9,7 @@ ghost use Rattle.lextab_packed.specs.Views.{table_of};
 ghost use Rattle.lextab_packed.specs.Machines.{table_machine, table_parts};
 ghost use Rattle.lextab.specs.Assembled.{assembled, HasTexts};
 ghost use Rattle.lextab.specs.Packing.{IsPacked};
-ghost use Rattle.lextab.specs.Views.{packing_of};
+ghost use Rattle.lextab.specs.PackingViews.{packing_of};
 
 use crate::assembling::{table_conditions, table_rows, table_rules};
 use crate::packing::{Packed, pack_rows};

@@ -33,6 +33,7 @@ pub enum TableError {
 impl From<AllocError> for TableError {
     ghost from_gives = { λ _ e. e ≡ out_of_memory };
 
+    /// A request for memory was refused.
     fn from(_error: AllocError) -> TableError {
         TableError::OutOfMemory
     }
@@ -52,6 +53,7 @@ pub enum ReadError {
 impl From<AllocError> for ReadError {
     ghost from_gives = { λ _ e. e ≡ OutOfMemory };
 
+    /// A request for memory was refused.
     fn from(_error: AllocError) -> ReadError {
         ReadError::OutOfMemory
     }
@@ -60,6 +62,7 @@ impl From<AllocError> for ReadError {
 impl<T: Drop> From<AllocFailed<T>> for ReadError {
     ghost from_gives = { λ _ e. e ≡ OutOfMemory };
 
+    /// A request for memory was refused, and what was handed in is dropped.
     fn from(_error: AllocFailed<T>) -> ReadError {
         ReadError::OutOfMemory
     }

@@ -1,5 +1,35 @@
-//! The file of a table: each table has one, and each file is one table's. Reading finds which states are live: those
-//! from which some text that is not empty leads to a state that accepts.
+//! The file of a table (docs/TABLE-FORMAT.md): each table has one, and each file is one table's.
+//!
+//! The modules, in an order for reading:
+//! - `error`: why bytes are no table file.
+//! - `tag`: the bytes that stand for kinds of cuts and statements.
+//! - `version`: which version of the file rules need.
+//! - `writing`: the writer. Inside it `fields`, `conditions`, `actions` and `states` write these parts.
+//! - `reading`: the reader of the parts. Inside it `fields`, `header`, `conditions`, `actions`, `states` and `slots`
+//!   have a part each, in the order of the file.
+//! - `inverse`: the inverse transitions of a table, as chains.
+//! - `live`: which states are live: some text that is not empty leads from them to one that accepts.
+//! - `tables`: `read_tables`, which adds which states are live.
+//! - `laws`: tables and their files are one to one.
+//!
+//! It promises that what is written is the table's file, and that what is read is a table's file and all of it. A
+//! refusal means that the bytes are no table's file, unless memory ran out.
+//!
+//! A field, a version and a refusal change the format, and with it lextab_packed's parts and the page of the format.
+//! How live states are found may change alone.
+//!
+//! Decided here:
+//! - Which states are live is not in the file. It follows from the steps, and a flag that could be wrong would be one
+//!   more thing to check. The reader finds it backwards: from the states that accept to those that lead to them, each
+//!   taken once.
+//! - Of two faults the one at the first field from the left is reported. Each field is judged when it was read, by what
+//!   stands before it: each byte of the class map, a tag before its arguments, a length before its bytes, a count
+//!   before what it counts, a check before its next. A field that is cut short is `Truncated`. `TrailingBytes` comes
+//!   only after a whole table.
+//! - A literal that passes the bytes of its action is a fault of its tag, if it has at most 4,096: the same bytes could
+//!   stand in another action.
+//! - A version has no room for additions. What a later version adds has a number of its own, and a number that is not
+//!   known is refused as `BadVersion`.
 #![tactic(auto)]
 
 mod error;

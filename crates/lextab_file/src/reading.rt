@@ -25,6 +25,8 @@ use slots::slots;
 use states::{class_map, states};
 use std::alloc::Global;
 
+/// The parts of the table at the front of the bytes, and the bytes after it. The first field from the left that is not
+/// as it must be is reported.
 #[tactic(auto, unfolding(crate::specs::Reading::table_at))]
 fn table(alloc: Global, bytes: &[u8]) -> Result<(TableParts, &[u8]), ReadError>
     ensures { Gives (λ x. (table_of x.0, x.1.now)) result (table_at bytes.now) }

@@ -45,6 +45,7 @@ fn put_header<K: Sink>(sink: &mut K, parts: &TableParts) -> Result<(), WriteFaul
     put_long(sink, slot_count(parts) as u32)
 }
 
+/// Writes the parts of a table, in the order of the file.
 fn put_parts<K: Sink>(sink: &mut K, parts: &TableParts) -> Result<(), WriteFault>
     requires few { K.failures sink.old < 2 ^ 64 - 1 }
     requires fits { FitsParts parts.now }

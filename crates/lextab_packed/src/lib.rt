@@ -5,14 +5,14 @@
 //! - `parts`: the lists of which a table is made, as a file has them.
 //! - `tables`: a table that keeps to all that a table file is checked for.
 //! - `steps`: the state after one byte more, and rows of 256 targets for each state.
-//! - `machine`: what a table tells a scanner.
+//! - `machine`: what a table answers a scanner.
 //! - `kinds`: what is known of the first rule that each state accepts.
 //! - `flat`: a table with a row of 256 marked targets for each state, so that a step is one look-up. It is the machine
 //!   of a scan.
 //!
 //! It promises that a table keeps to `IsTable`, and is a machine by its laws; and that the flat one is the same
-//! machine. The marks of `flat` and the kinds may change alone, under the trait's contract: they are how a scan tells
-//! at a glance what a match does. The parts may not: they are the fields of the file.
+//! machine. The marks of `flat` and the kinds may change alone, under the trait's contract: they are how a scan sees at
+//! a glance what a match does. The parts may not: they are the fields of the file.
 //!
 //! Decided here:
 //! - Check and next are two columns. In the code the slots are two lists of numbers, as a step wants them. In the

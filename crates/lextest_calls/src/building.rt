@@ -17,6 +17,7 @@ const MOST: Limits = Limits {
     states: 8_192,
 };
 
+/// The automaton of a specification, within the greatest limits.
 pub(crate) fn built(alloc: Global, spec: &Spec) -> Result<Dfa, BuildError>
     ensures conditions { IfOk result (λ d. conditions_of d ≡ length (conditions_in (spec_of spec.now))) }
     ensures laws { IfOk result (λ d. MachineLaws (machine_of d (spec_of spec.now))) }
@@ -25,6 +26,7 @@ pub(crate) fn built(alloc: Global, spec: &Spec) -> Result<Dfa, BuildError>
     build(alloc, spec, MOST)
 }
 
+/// The specification of a text, with patterns as they stand.
 pub(crate) fn read(alloc: Global, text: &[u8]) -> Result<Spec, SpecError> {
     read_spec(alloc, text, PLAIN)
 }

@@ -1,19 +1,19 @@
 //! What a program in C calls, by liblex_calls: once each on its happy path, and refused.
 use liblex_calls::{
-    Answer, Fault, TextToken, generate_into, options_of, rule_lines_into, scan_into, tokens_into,
+    Answer, TextFault, TextToken, generate_into, options_of, rule_lines_into, scan_into, tokens_into,
 };
 use std::alloc::Global;
 
 const TEXT: &[u8] = b"%%\n[0-9]+ printf(\"N\");\nstop exit(3);\n";
 
-const NONE: Fault = Fault {
+const NONE: TextFault = TextFault {
     line: 0,
     kind: 0,
     place: 0,
 };
 
 /// A table file made into this many bytes, with what was answered and how many there are.
-fn made(alloc: Global, text: &[u8], buffer: &mut [u8], fault: &mut Fault) -> (Answer, usize) {
+fn made(alloc: Global, text: &[u8], buffer: &mut [u8], fault: &mut TextFault) -> (Answer, usize) {
     let mut count = 0;
     let answer = generate_into(alloc, text, options_of(0), buffer, &mut count, fault);
     (answer, count)
@@ -63,7 +63,7 @@ fn tells_the_count_that_is_needed(rt: HostRuntime) {
 }
 
 /// Whether a text is refused with this line and this fault.
-fn is_refused(alloc: Global, text: &[u8], line: &[u8], wanted: Fault) -> bool {
+fn is_refused(alloc: Global, text: &[u8], line: &[u8], wanted: TextFault) -> bool {
     let mut buffer = [0u8; 40];
     let mut fault = NONE;
     let (answer, count) = made(alloc, text, &mut buffer, &mut fault);
@@ -72,7 +72,7 @@ fn is_refused(alloc: Global, text: &[u8], line: &[u8], wanted: Fault) -> bool {
 
 #[test]
 fn tells_a_refusal(rt: HostRuntime) {
-    let fault = Fault {
+    let fault = TextFault {
         line: 2,
         kind: 109,
         place: 1,

@@ -163,6 +163,7 @@ fn is_want_in_a_scan(error: ScanError, calls: u64, written: &[u8]) -> bool {
 /// What a scan answers, and whether it wrote all, or a beginning of it where memory ran out.
 type Scanned = (Result<u8, ScanError>, bool);
 
+/// A scan of a row: what is answered, and whether what was written is as it has to be.
 fn scanned(alloc: Global, row: &Scan) -> Result<Scanned, AllocError> {
     let (text, input, want, status) = *row;
     let mut source = MemorySource::new(input);
@@ -196,6 +197,7 @@ fn is_want_by_table(error: ScanError, calls: u64, written: &[u8]) -> bool {
     }
 }
 
+/// A scan by a table file: the same.
 fn scanned_by_table(alloc: Global, file: &[u8]) -> Result<Scanned, AllocError> {
     let mut source = MemorySource::new(b"if iff");
     let mut sink = ToWrite::new(Vec::with_capacity(alloc, 16)?);

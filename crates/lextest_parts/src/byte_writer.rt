@@ -16,6 +16,7 @@ struct Tally {
 }
 
 impl Tally {
+    /// Nothing taken yet, and room for so many bytes.
     fn new(alloc: Global, room: usize) -> Tally {
         Tally {
             taken: RefCell::new(Vec::new(alloc)),
@@ -32,6 +33,7 @@ impl Tally {
         }
     }
 
+    /// Whether nothing was taken.
     fn is_empty(&self) -> bool {
         self.has(b"", b"")
     }

@@ -2,14 +2,17 @@
 use crate::counted::{Answer, Asked};
 use lex_io::{MemorySource, ReadFault};
 
+/// A source that gives all bytes, and then its end.
 fn whole(bytes: &[u8]) -> Asked<MemorySource<'_>> {
     Asked::new(MemorySource::new(bytes))
 }
 
+/// A source that fails once after so many bytes.
 fn failing_after(bytes: &[u8], count: usize) -> Asked<MemorySource<'_>> {
     Asked::new(MemorySource::failing_after(bytes, count))
 }
 
+/// A source that answers an end once after so many bytes.
 fn ending_after(bytes: &[u8], count: usize) -> Asked<MemorySource<'_>> {
     Asked::new(MemorySource::ending_after(bytes, count))
 }

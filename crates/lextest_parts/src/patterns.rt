@@ -12,12 +12,14 @@ use std::alloc::{AllocError, Global};
 use std::rc::Rc;
 use std::test::Fail;
 
+/// The pattern of one byte.
 fn byte(byte: u8) -> Pattern
     ensures { IsSoundTree (tree_of result) }
 {
     Pattern::Set(ByteSet::of(byte))
 }
 
+/// Any number of times.
 fn star(alloc: Global, inner: Pattern) -> Result<Pattern, AllocError>
     requires { IsSoundTree (tree_of inner) }
     ensures { IfOk result (λ p. IsSoundTree (tree_of p)) }
@@ -25,6 +27,7 @@ fn star(alloc: Global, inner: Pattern) -> Result<Pattern, AllocError>
     Ok(Pattern::Star(Rc::new(alloc, inner)?))
 }
 
+/// From m to n times, or from m times on.
 fn repeat(alloc: Global, inner: Pattern, m: u8, n: Option<u8>) -> Result<Pattern, AllocError>
     requires sound { IsSoundTree (tree_of inner) }
     requires in_order { ForSome n (λ n. (m ≤ n) × (1 ≤ n)) }
@@ -33,6 +36,7 @@ fn repeat(alloc: Global, inner: Pattern, m: u8, n: Option<u8>) -> Result<Pattern
     Ok(Pattern::Repeat(Rc::new(alloc, inner)?, m, n))
 }
 
+/// One after the other.
 fn cat(alloc: Global, first: Pattern, second: Pattern) -> Result<Pattern, AllocError>
     requires first { IsSoundTree (tree_of first) }
     requires second { IsSoundTree (tree_of second) }
@@ -42,6 +46,7 @@ fn cat(alloc: Global, first: Pattern, second: Pattern) -> Result<Pattern, AllocE
     Ok(Pattern::series(alloc, parts)?)
 }
 
+/// One or the other.
 fn alt(alloc: Global, first: Pattern, second: Pattern) -> Result<Pattern, AllocError>
     requires first { IsSoundTree (tree_of first) }
     requires second { IsSoundTree (tree_of second) }
@@ -54,6 +59,7 @@ fn alt(alloc: Global, first: Pattern, second: Pattern) -> Result<Pattern, AllocE
 /// How long the words of a pattern are, at least and at most.
 type Bounds = (u32, Option<u32>);
 
+/// The least and the greatest length of its texts.
 fn bounds_of(pattern: &Pattern) -> Option<Bounds>
     requires { IsSoundTree (tree_of pattern.now) }
 {
@@ -75,11 +81,13 @@ fn laws() {
     one_cutting();
 }
 
+/// Whether letters get their other case, and no others.
 fn folds_letters() -> bool {
     let letters = ByteSet::range(b'a', b'c').fold_case();
     letters.contains(b'B') && letters.contains(b'c') && !letters.contains(b'd')
 }
 
+/// Whether signs beside the letters stay as they are.
 fn folds_signs() -> bool {
     let signs = ByteSet::range(b'@', b'[');
     signs.fold_case() == signs.union(&ByteSet::range(b'a', b'z'))
@@ -143,7 +151,7 @@ fn classes(rt: HostRuntime) {
     }
 }
 
-// a{2,3}b?
+/// a{2,3}b?.
 fn repeated_and_maybe(alloc: Global) -> Result<Pattern, AllocError>
     ensures { IfOk result (λ p. IsSoundTree (tree_of p)) }
 {
@@ -152,7 +160,7 @@ fn repeated_and_maybe(alloc: Global) -> Result<Pattern, AllocError>
     cat(alloc, twice, maybe)
 }
 
-// (ab)*
+/// (ab)*.
 fn pairs(alloc: Global) -> Result<Pattern, AllocError>
     ensures { IfOk result (λ p. IsSoundTree (tree_of p)) }
 {
@@ -176,7 +184,7 @@ fn counts(rt: HostRuntime) -> Result<(), Fail> {
     Ok(())
 }
 
-// 255 times 255 times .. the byte a, as many times as given
+/// 255 times 255 times .. the byte a, as many times as given.
 fn huge(alloc: Global, times: u8) -> Result<Pattern, AllocError>
     ensures { IfOk result (λ p. IsSoundTree (tree_of p)) }
 {
@@ -187,7 +195,7 @@ fn huge(alloc: Global, times: u8) -> Result<Pattern, AllocError>
     Ok(pattern)
 }
 
-// More than can be counted, or any number of times b
+/// More than can be counted, or any number of times b.
 fn huge_or_any(alloc: Global) -> Result<Pattern, AllocError>
     ensures { IfOk result (λ p. IsSoundTree (tree_of p)) }
 {
@@ -208,7 +216,7 @@ fn counts_past_the_limit(rt: HostRuntime) -> Result<(), Fail> {
     Ok(())
 }
 
-// One more pair of parentheses: ((..)**..*a|b), with 64 signs
+/// One more pair of parentheses: ((..)**..*a|b), with 64 signs.
 fn nested(alloc: Global, inner: Pattern) -> Result<Pattern, AllocError>
     requires { IsSoundTree (tree_of inner) }
     ensures { IfOk result (λ p. IsSoundTree (tree_of p)) }
@@ -221,7 +229,7 @@ fn nested(alloc: Global, inner: Pattern) -> Result<Pattern, AllocError>
     alt(alloc, series, byte(b'b'))
 }
 
-// The deepest tree that 64 parentheses and 64 signs on each item give
+/// The deepest tree that 64 parentheses and 64 signs on each item give.
 fn deepest(alloc: Global) -> Result<Pattern, AllocError>
     ensures { IfOk result (λ p. IsSoundTree (tree_of p)) }
 {
@@ -232,7 +240,7 @@ fn deepest(alloc: Global) -> Result<Pattern, AllocError>
     Ok(pattern)
 }
 
-// A tree and this many bytes behind it
+/// A tree and this many bytes behind it.
 fn lengthened(alloc: Global, first: Pattern, bytes: u32) -> Result<Pattern, AllocError>
     requires { IsSoundTree (tree_of first) }
     ensures { IfOk result (λ p. IsSoundTree (tree_of p)) }
@@ -301,6 +309,7 @@ fn is_pair(pattern: &Pattern, bare: bool) -> bool {
     }
 }
 
+/// A list of both.
 fn pair(alloc: Global, first: Pattern, second: Pattern) -> Result<Vec<Pattern>, AllocError> {
     let parts = vec![in alloc; first, second]?;
     Ok(parts)

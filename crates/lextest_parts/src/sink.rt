@@ -40,6 +40,7 @@ impl Write for Drip {
     }
 }
 
+/// A writer with room for so many bytes, that answers this where it is full.
 fn dripping(alloc: Global, room: usize, full: Full) -> Drip {
     let taken = Vec::new(alloc);
     Drip { taken, room, full }

@@ -81,6 +81,7 @@ fn parts(alloc: Global) -> Result<TableParts, AllocError>
     })
 }
 
+/// The tables of the rule, made by hand.
 fn tables(alloc: Global) -> Result<Tables, AllocError>
     ensures conditions { IfOk result (λ t. (table_machine t).conditions ≡ 1) }
     ensures rules { IfOk result (λ t. (table_machine t).count ≡ 1) }

@@ -7,6 +7,7 @@ use lexspec::{Condition, EndAction, SpecErrorKind, Statement};
 use lexspec_actions::{read_action, read_end_action};
 use std::alloc::{AllocError, Global};
 
+/// A condition of this name; C is exclusive.
 fn condition(alloc: Global, name: &str) -> Result<Condition, AllocError> {
     Ok(Condition {
         name: Vec::from_slice(alloc, name.as_bytes())?,

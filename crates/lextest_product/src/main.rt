@@ -122,6 +122,7 @@ fn run(rt: &HostRuntime) -> Result<bool> {
     Ok(so)
 }
 
+/// Goes over the files, with status 1 where a row is answered otherwise.
 fn main(rt: HostRuntime) -> Result<ExitCode> {
     Ok(if run(&rt)? {
         ExitCode::SUCCESS

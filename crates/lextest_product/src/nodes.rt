@@ -105,6 +105,7 @@ fn after_tree<'a>(row: &Row<'_>, pattern: &Pattern, nodes: &'a [Node]) -> Option
     }
 }
 
+/// The nodes behind those of these patterns, one after another, where theirs are these.
 #[cycle(nodes)]
 fn after_trees<'a>(row: &Row<'_>, patterns: &[Pattern], nodes: &'a [Node]) -> Option<&'a [Node]> {
     let mut rest = nodes;

@@ -18,6 +18,7 @@ const NAMES: &[&str] = &[
     "words", "written",
 ];
 
+/// Whether a word names a field.
 fn is_name(word: &[u8]) -> bool {
     for name in NAMES {
         if name.as_bytes() == word {

@@ -23,7 +23,7 @@ ghost use Rattle.liblex_calls.specs.Progress.{fed_with};
 ghost use Rattle.liblex_calls.specs.Pieces.{Scanning, OpensScan, FeedsInto, FinishesInto, StaysClosed};
 
 use liblex_calls::{
-    Fault, Scan, TextToken, close_scan, feed_into, finish_into, generate_into, open_scan,
+    Scan, TextFault, TextToken, close_scan, feed_into, finish_into, generate_into, open_scan,
     options_of, rule_lines_into, scan_into, tokens_into,
 };
 use std::alloc::Global;
@@ -36,7 +36,7 @@ pub extern "C" fn lex_generate(
     flags: u32,
     buffer: &mut [u8],
     count: &mut usize,
-    fault: &mut Fault,
+    fault: &mut TextFault,
 ) -> i32
     ensures { (answer : Answer) × (result ≡ number_of answer)
         × Generates (options_of flags) text.now buffer.old buffer.new count.new fault.new answer }

@@ -54,7 +54,7 @@ abbrev pub TellsTable : TableError → List ℕ → List ℕ → ℕ → Answer 
 TellsTable tables.OutOfMemory old new count answer = (answer ≡ answers.OutOfMemory) × NothingOut old new count
 TellsTable other old new count answer = (answer ≡ answers.Refused) × NothingOut old new count
 
-abbrev pub Tells : ScanError → List ℕ → List ℕ → List ℕ → ℕ → Answer → Type 0
-Tells (scans.Run e) written old new count answer = TellsRun e written old new count answer
-Tells (scans.Table e) written old new count answer = TellsTable e old new count answer
-Tells (scans.Generate e) written old new count answer = (answer ≡ answers.Refused) × NothingOut old new count
+abbrev pub TellsScan : ScanError → List ℕ → List ℕ → List ℕ → ℕ → Answer → Type 0
+TellsScan (scans.Run e) written old new count answer = TellsRun e written old new count answer
+TellsScan (scans.Table e) written old new count answer = TellsTable e old new count answer
+TellsScan (scans.Generate e) written old new count answer = (answer ≡ answers.Refused) × NothingOut old new count

@@ -21,7 +21,7 @@ use std::alloc::Global;
 /// All are 0 where nothing is refused.
 #[repr(C)]
 #[derive(Clone, Copy, Debug, PartialEq, Eq)]
-pub struct Fault {
+pub struct TextFault {
     /// The line, from 1.
     pub line: u32,
     /// The number of the kind, as in include/lex.h.
@@ -31,19 +31,19 @@ pub struct Fault {
 }
 
 /// What is told where nothing is refused.
-const NONE: Fault = Fault {
+const NONE: TextFault = TextFault {
     line: 0,
     kind: 0,
     place: 0,
 };
 
 /// What a refusal is told as.
-fn fault_of(error: GenError) -> Fault
+fn fault_of(error: GenError) -> TextFault
     ensures { result ≡ fault_of error }
 {
     match error {
         GenError::Spec(error) => spec_fault(error),
-        GenError::Build(error) => Fault {
+        GenError::Build(error) => TextFault {
             line: 0,
             kind: build_number(error),
             place: 0,
@@ -53,14 +53,14 @@ fn fault_of(error: GenError) -> Fault
 }
 
 /// What a refusal of the text is told as.
-fn spec_fault(error: SpecError) -> Fault
+fn spec_fault(error: SpecError) -> TextFault
     ensures { result ≡ fault_of (GenError.Spec error) }
 {
     let place = match error.kind {
         SpecErrorKind::Pattern(pattern) => pattern.at,
         _ => 0,
     };
-    Fault {
+    TextFault {
         line: error.line,
         kind: kind_number(error.kind),
         place,
@@ -91,7 +91,7 @@ fn refuse(
     error: GenError,
     buffer: &mut [u8],
     count: &mut usize,
-    fault: &mut Fault,
+    fault: &mut TextFault,
 ) -> Answer
     requires fresh_count { count.old ≡ 0 }
     requires fresh_fault { fault.old ≡ no_fault }
@@ -119,7 +119,7 @@ pub fn generate_into(
     options: Options,
     buffer: &mut [u8],
     count: &mut usize,
-    fault: &mut Fault,
+    fault: &mut TextFault,
 ) -> Answer
     requires few_positions { options.limits.positions ≤ max_positions }
     requires few_states { options.limits.states ≤ max_states }

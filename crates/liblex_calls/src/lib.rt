@@ -46,7 +46,7 @@ mod stage;
 pub use answer::Answer;
 pub use by_pieces::{close_scan, feed_into, finish_into, open_scan};
 pub use flags::options_of;
-pub use generating::{Fault, generate_into};
+pub use generating::{TextFault, generate_into};
 pub use handle::Scan;
 pub use listing::{TextToken, rule_lines_into, tokens_into};
 pub use scanning::scan_into;

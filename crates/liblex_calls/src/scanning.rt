@@ -1,10 +1,11 @@
 //! Scans of whole inputs, into a buffer of the caller.
 ghost use Rattle.std.specs.Prelude.{◌≡◌};
-ghost use Rattle.liblex_calls.specs.Scanning.{ScansInto, Tells};
+ghost use Rattle.liblex_calls.specs.Scanning.{ScansInto, TellsScan};
 
 use crate::answer::Answer;
 use crate::buffers::hand_out;
-use crate::memory::{Kept, Slice};
+use crate::memory::Kept;
+use lex_io::SliceSource;
 use lexkit::{RunError, ScanError, TableError, scan_table};
 use std::alloc::Global;
 
@@ -12,7 +13,7 @@ use std::alloc::Global;
 /// memory fails only where memory is refused, and a source over memory never does.
 fn tell(error: ScanError, written: &[u8], buffer: &mut [u8], count: &mut usize) -> Answer
     requires { count.old ≡ 0 }
-    ensures { Tells error written.now buffer.old buffer.new count.new result }
+    ensures { TellsScan error written.now buffer.old buffer.new count.new result }
 {
     match error {
         ScanError::Run(RunError::Stack) => {
@@ -39,7 +40,7 @@ pub fn scan_into(
 {
     *count = 0;
     *status = 0;
-    let mut source = Slice::new(input);
+    let mut source = SliceSource::new(input);
     let mut sink = Kept::new(alloc);
     match scan_table(alloc, file, &mut source, &mut sink) {
         Ok(end) => {

@@ -2,7 +2,7 @@
 ghost use Rattle.std.specs.Prelude.{◌≡◌, ◌↔◌, ℕ, ◌<◌, Bool, true, List, length, slice_index, IfOk, OnOk};
 ghost use Rattle.lexauto_dfa.specs.Arranged.{Arranged, IsTouched, block_of, count, states};
 ghost use Rattle.lexauto_dfa.specs.Going.{Counts};
-ghost use Rattle.lexauto_dfa.specs.Letters.{AreLetters, Tells, machine};
+ghost use Rattle.lexauto_dfa.specs.Letters.{AreLetters, IsMembership, machine};
 ghost use Rattle.lexauto_dfa.specs.Predecessors.{AllowMoves, AreBelow};
 ghost use Rattle.lexauto_dfa.specs.Sources.{Has};
 ghost use Rattle.lexauto_dfa.specs.Splits.{Cuts, Refining, Using};
@@ -65,7 +65,7 @@ fn split_by_all(
     ensures untouched { OnOk result ((c : ℕ) → c < count blocks.new → IsTouched blocks.new c → ⊥) }
     ensures counts { OnOk result (Counts blocks.old waiting.old.items blocks.new waiting.new.items) }
     ensures used { OnOk result ((labels : List ℕ) (coarse : ℕ → ℕ) (inside : ℕ → Bool)
-        → length labels ≡ states blocks.old → Tells inside targets.now (states blocks.old)
+        → length labels ≡ states blocks.old → IsMembership inside targets.now (states blocks.old)
         → Using (machine letters.now labels) (block_of blocks.old) (Has waiting.old.items) coarse inside 0
         → Using (machine letters.now labels) (block_of blocks.new) (Has waiting.new.items) coarse inside
         (length letters.now)) }

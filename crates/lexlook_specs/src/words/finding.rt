@@ -5,7 +5,7 @@ ghost use Rattle.lexauto_dfa.specs.Automata.{accepts_of, conditions_of, lists_of
 ghost use Rattle.lexauto_reports.specs.Searching.{words_of, AreFound};
 ghost use Rattle.lexlook_specs.specs.Matches.{matches_in};
 ghost use Rattle.lexlook_specs.specs.Placing.{IsLeastOf, TakesAt};
-ghost use Rattle.lexlook_specs.specs.Words.{AreWords, Tells};
+ghost use Rattle.lexlook_specs.specs.Words.{AreWords, IsWordOf};
 
 use crate::words::copying::first_copied;
 use crate::words::placing::{first_places, takers};
@@ -69,7 +69,7 @@ fn word_of(
     requires found { AreFound (lists_of dfa.now) (words_of found.now.groups) found.now.places.items }
     requires first { IsLeastOf
         (TakesAt (lists_of dfa.now) rejects.now found.now.places.items (states_of dfa.now) rule) first }
-    ensures { IfOk result (Tells (matches_in (lists_of dfa.now) rejects.now) rule) }
+    ensures { IfOk result (IsWordOf (matches_in (lists_of dfa.now) rejects.now) rule) }
 {
     if let Some(place) = first {
         let conditions = dfa.parts().starts.len() as u8;

@@ -74,6 +74,7 @@ impl Before {
     }
 }
 
+/// How much of a match of a rule is the text: a tag and a number.
 #[tactic(auto, unfolding(crate::specs::Reading::cut_at))]
 fn rule_cut(bytes: &[u8]) -> Result<(Cut, &[u8]), ReadError>
     ensures gives { Gives (λ x. (cut_of x.0, x.1.now)) result (cut_at bytes.now) }
@@ -162,6 +163,7 @@ fn arguments(
     }
 }
 
+/// A statement, by its tag, judged by what stands before it in its action.
 #[tactic(auto, unfolding(crate::specs::Reading::statement_at))]
 fn statement(
     alloc: Global,
@@ -182,6 +184,7 @@ fn statement(
     }
 }
 
+/// So many statements of one action.
 fn statements(
     alloc: Global,
     bytes: &[u8],
@@ -211,6 +214,7 @@ fn statements(
     Ok((read, rest))
 }
 
+/// A rule: its cut, the number of its statements, and these.
 #[tactic(auto, unfolding(crate::specs::Reading::rule_at))]
 fn rule(
     alloc: Global,

@@ -13,6 +13,7 @@ use lex_semantics::{MAX_LITERAL_BYTES, MAX_STATUS};
 use lextab_packed::TableCondition;
 use std::alloc::Global;
 
+/// What is done at the end of the input: what is printed, and the status, which is at most 63.
 #[tactic(auto, unfolding(crate::specs::Reading::end_at))]
 fn end_action(alloc: Global, bytes: &[u8]) -> Result<(EndAction, &[u8]), ReadError>
     ensures gives { Gives (λ x. (end_action_of x.0, x.1.now)) result (end_at bytes.now) }
@@ -23,6 +24,7 @@ fn end_action(alloc: Global, bytes: &[u8]) -> Result<(EndAction, &[u8]), ReadErr
     Ok((EndAction { print, status }, rest))
 }
 
+/// A condition: its two start states, each below the number of states, and its end action.
 #[tactic(auto, unfolding(crate::specs::Reading::condition_at))]
 fn condition(alloc: Global, bytes: &[u8], states: u32) -> Result<(TableCondition, &[u8]), ReadError>
     ensures gives { Gives (λ x. (condition_of x.0, x.1.now)) result (condition_at states bytes.now) }

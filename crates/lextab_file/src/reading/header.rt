@@ -12,10 +12,15 @@ use lex_semantics::{MAX_CLASSES, MAX_CONDITIONS, MAX_RULES, MAX_SLOTS, MAX_STATE
 /// How many there are of each kind.
 #[derive(Clone, Copy)]
 pub struct Counts {
+    /// How many conditions, from 1.
     pub conditions: u32,
+    /// How many rules.
     pub rules: u32,
+    /// How many states, from 1.
     pub states: u32,
+    /// How many byte classes, 1 to 256.
     pub classes: u32,
+    /// How many slots, no fewer than classes.
     pub slots: u32,
 }
 

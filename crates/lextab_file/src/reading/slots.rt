@@ -59,6 +59,7 @@ fn next_of(bytes: &[u8], states: u32, check: u32) -> Result<(u32, &[u8]), ReadEr
     Ok((next, rest))
 }
 
+/// A slot: the state that has it, and the target that stands there.
 #[tactic(auto, unfolding(crate::specs::Reading::slot_at))]
 fn slot<'a>(
     bytes: &'a [u8],

@@ -40,6 +40,7 @@ fn accepted_one(bytes: &[u8], rules: u32, low: u32) -> Result<(u32, &[u8]), Read
     Ok((number, rest))
 }
 
+/// The numbers of so many rules that a state accepts, ascending.
 fn accepted(
     alloc: Global,
     bytes: &[u8],
@@ -97,6 +98,7 @@ fn count_of(bytes: &[u8], rejects: bool, state: u32) -> Result<(u32, &[u8]), Rea
     Ok((count, rest))
 }
 
+/// A state: its default, its base, and the rules that it accepts.
 #[tactic(auto, unfolding(crate::specs::Reading::row_at))]
 fn row(
     alloc: Global,

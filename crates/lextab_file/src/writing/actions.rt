@@ -24,6 +24,7 @@ fn put_tagged<K: Sink>(sink: &mut K, tag: CutTag, number: u32) -> Result<(), Wri
     put_long(sink, number)
 }
 
+/// Writes how much of a match is the text: a tag and a number, 0 for the whole.
 fn put_cut<K: Sink>(sink: &mut K, cut: Cut) -> Result<(), WriteFault>
     requires few { K.failures sink.old < 2 ^ 64 - 1 }
     ensures bytes { Appended (λ xs. K.wrote sink.old xs sink.new) (cut_text (cut_of cut)) result }
@@ -54,6 +55,7 @@ fn put_tag_with<K: Sink>(sink: &mut K, tag: StatementTag, byte: u8) -> Result<()
     sink.put(&[tag.byte(), byte])
 }
 
+/// Writes a statement: its tag, and its argument where it has one.
 fn put_statement<K: Sink>(sink: &mut K, statement: &Statement) -> Result<(), WriteFault>
     requires few { K.failures sink.old < 2 ^ 64 - 1 }
     requires fits { FitsStatement statement.now }
@@ -79,6 +81,7 @@ fn put_statement<K: Sink>(sink: &mut K, statement: &Statement) -> Result<(), Wri
     }
 }
 
+/// Writes the statements of an action, one after another.
 fn put_statements<K: Sink>(sink: &mut K, statements: &[Statement]) -> Result<(), WriteFault>
     requires few { K.failures sink.old < 2 ^ 64 - 1 }
     requires fits { All FitsStatement statements.now }
@@ -92,6 +95,7 @@ fn put_statements<K: Sink>(sink: &mut K, statements: &[Statement]) -> Result<(),
     Ok(())
 }
 
+/// Writes a rule: its cut, the number of its statements, and these.
 fn put_rule<K: Sink>(sink: &mut K, rule: &TableRule) -> Result<(), WriteFault>
     requires few { K.failures sink.old < 2 ^ 64 - 1 }
     requires fits { FitsRule rule.now }

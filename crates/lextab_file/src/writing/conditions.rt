@@ -13,6 +13,7 @@ use lex_io::{Sink, WriteFault};
 use lex_machine::EndAction;
 use lextab_packed::TableCondition;
 
+/// Writes what is done at the end of the input: what is printed, and the status.
 fn put_end<K: Sink>(sink: &mut K, end: &EndAction) -> Result<(), WriteFault>
     requires few { K.failures sink.old < 2 ^ 64 - 1 }
     requires short { length end.now.print.items ≤ max_literal_bytes }
@@ -23,6 +24,7 @@ fn put_end<K: Sink>(sink: &mut K, end: &EndAction) -> Result<(), WriteFault>
     sink.put(&[end.status])
 }
 
+/// Writes a condition: its two start states and its end action.
 fn put_condition<K: Sink>(sink: &mut K, condition: &TableCondition) -> Result<(), WriteFault>
     requires few { K.failures sink.old < 2 ^ 64 - 1 }
     requires fits { FitsCondition condition.now }

@@ -11,6 +11,7 @@ use super::fields::{put_long, put_longs};
 use lex_io::{Sink, WriteFault};
 use lextab_packed::Row;
 
+/// Writes a state: its default, its base, and the number of rules that it accepts, with these.
 fn put_row<K: Sink>(sink: &mut K, row: &Row) -> Result<(), WriteFault>
     requires few { K.failures sink.old < 2 ^ 64 - 1 }
     requires fits { FitsRow row.now }
@@ -37,6 +38,7 @@ pub fn put_rows<K: Sink>(sink: &mut K, rows: &[Row]) -> Result<(), WriteFault>
     Ok(())
 }
 
+/// Writes a slot: the state that has it, and the target that stands there.
 fn put_slot<K: Sink>(sink: &mut K, check: u32, next: u32) -> Result<(), WriteFault>
     requires few { K.failures sink.old < 2 ^ 64 - 1 }
     ensures bytes { Appended (λ xs. K.wrote sink.old xs sink.new) (slot_text (slot_from (check, next))) result }

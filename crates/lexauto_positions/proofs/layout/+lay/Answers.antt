@@ -1,3 +1,4 @@
+use Rattle.std.proofs.lemmas.Grind.{common_steps}
 use Rattle.std.proofs.Common.{rules, ◌≡◌, ◌+◌, ◌≤◌, ◌++◌, ◌∷◌, List, length, map, drop, arith, sym, ap, subst, ◌∙◌}
 use Rattle.lex_semantics.specs.Positions.{positions, positions_of}
 use Rattle.lex_semantics.specs.Tree.{Tree, trees, Cat, Alt, Star, Repeat}
@@ -101,3 +102,9 @@ lay_node-returns-then-is_bare-2-clause-alike t c =
     let none : positions (tree_of c.args.pattern.now) ≡ 0 = rw c.in-Alt.is (rw (choice_tree_of c.in-Alt.parts) (marked_positions _ _ marked)) in
     let a = alike_nothing (tree_of c.args.pattern.now) c.requires.sound none in
     search (rules, L.the_lemmas, a)
+
+pub lay_all-add-requires-clause-few : goal.lay_all-add-requires-clause-few
+lay_all-add-requires-clause-few = grind (arith, common_steps)
+
+pub lay_all-loop-part-init : goal.lay_all-loop-part-init
+lay_all-loop-part-init = grind (arith, common_steps)

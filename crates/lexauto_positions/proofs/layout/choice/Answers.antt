@@ -3,7 +3,7 @@ use Rattle.lex_semantics.specs.Tree.{trees, Alt}
 use Rattle.lexauto_positions.specs.Alike.{Alike, choice_of}
 use Rattle.lexauto_positions.specs.Signs.{signed}
 use Rattle.lexauto_positions.specs.Plans.{plan_of, tree_in, trees_laid}
-use Rattle.lexauto_positions.specs.declared.layout.Sign.TheVariants as S
+use Rattle.lexauto_positions.specs.declared.layout.Operator.TheVariants as S
 use Rattle.lexauto_positions.proofs.AlikeLaws.{alike_on, if_ok_by}
 use Rattle.lexauto_positions.proofs.SignLaws.{alike_signed}
 use Rattle.lexauto_positions.proofs.layout.choice.Goals as goal

@@ -1,3 +1,4 @@
+use Rattle.std.proofs.lemmas.Grind.{common_steps}
 use Rattle.std.proofs.Common.{◌≡◌, ℕ, Bool, ◌+◌, ◌-◌, ◌<◌, ◌||◌, ◌==◌, true, sym, ap, ◌∙◌, arith}
 use Rattle.lex_semantics.specs.Active.{lists}
 use Rattle.lexauto_positions.specs.Flow.{comes}
@@ -24,3 +25,12 @@ loop-k-preserved c =
           ∙ ap (λ (j : Bool). lists c.loop-k.all.items q || j) (sym (comes_step (letter_enters q) (letter_exits true S) loops at 1 true c.args.count k lt))
           ∙ c.loop-k.invariant.told S loops q);
     }
+
+pub add_letter-requires-clause-front : goal.add_letter-requires-clause-front
+add_letter-requires-clause-front = grind (arith, common_steps)
+
+pub loop-k-init : goal.loop-k-init
+loop-k-init = grind (arith, common_steps)
+
+pub returns-clause-front : goal.returns-clause-front
+returns-clause-front = grind (arith, common_steps)

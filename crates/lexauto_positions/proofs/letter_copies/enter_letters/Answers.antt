@@ -1,3 +1,4 @@
+use Rattle.std.proofs.lemmas.Grind.{common_steps}
 use Rattle.std.proofs.Common.{◌≡◌, ℕ, Bool, ◌+◌, ◌-◌, ◌<◌, ◌||◌, ◌&&◌, ◌==◌, false, sym, ap, ◌∙◌, arith}
 use Rattle.lex_semantics.specs.Active.{lists}
 use Rattle.lexauto_positions.specs.Flow.{is_zero, comes}
@@ -42,3 +43,27 @@ loop-k-preserved c =
           ∙ ap (λ (j : Bool). lists c.loop-k.next.items q || j) (sym (comes_step (letter_enters q) (letter_exits skips S) loops at 1 c.loop-k.left count k lt))
           ∙ c.loop-k.invariant.told q);
     }
+
+pub add_letter-requires-clause-front : goal.add_letter-requires-clause-front
+add_letter-requires-clause-front = grind (arith, common_steps)
+
+pub leave_letter-here-requires-clause-cursor : goal.leave_letter-here-requires-clause-cursor
+leave_letter-here-requires-clause-cursor = grind (arith, common_steps)
+
+pub loop-k-init : goal.loop-k-init
+loop-k-init = grind (arith, common_steps)
+
+pub returns-clause-cursor : goal.returns-clause-cursor
+returns-clause-cursor = grind (arith, common_steps)
+
+pub returns-clause-front : goal.returns-clause-front
+returns-clause-front = grind (arith, common_steps)
+
+pub returns-clause-left : goal.returns-clause-left
+returns-clause-left = grind (arith, common_steps)
+
+pub returns-then-entered-clause-left : goal.returns-then-entered-clause-left
+returns-then-entered-clause-left = grind (arith, common_steps)
+
+pub returns-then-entered-clause-next : goal.returns-then-entered-clause-next
+returns-then-entered-clause-next = grind (arith, common_steps)

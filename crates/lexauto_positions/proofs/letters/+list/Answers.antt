@@ -44,3 +44,15 @@ list_each-loop-part-preserved t c = record {
   count = grind (arith, common_steps, c.loop-part.invariant.count);
   told = λ b q. grind (arith, common_steps, c.loop-part.invariant.told b q, c.in_ok-list.ensures.letters b q);
 }
+
+pub list_copies-returns-clause-count : goal.list_copies-returns-clause-count
+list_copies-returns-clause-count = grind (arith, common_steps)
+
+pub list_copies-returns-clause-letters : goal.list_copies-returns-clause-letters
+list_copies-returns-clause-letters = grind (arith, common_steps)
+
+pub list_each-returns-clause-count : goal.list_each-returns-clause-count
+list_each-returns-clause-count = grind (arith, common_steps)
+
+pub list_each-returns-clause-letters : goal.list_each-returns-clause-letters
+list_each-returns-clause-letters = grind (arith, common_steps)

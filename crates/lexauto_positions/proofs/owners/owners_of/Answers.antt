@@ -1,4 +1,5 @@
 use Rattle.std.proofs.Common.{rules, ◌≡◌, ◌+◌, ◌<◌, ℕ, suc, List, [], ◌∷◌, Some, length, map, drop, refl, sym, ap, subst, ◌∙◌, arith}
+use Rattle.std.proofs.lemmas.Grind.{common_steps}
 use Rattle.std.specs.Prelude.{slice_get}
 use Rattle.std.proofs.lemmas.List.{drop_more}
 use Rattle.lex_semantics.specs.Spec.{Rule}
@@ -55,5 +56,14 @@ loop-i-preserved c =
           c.loop-i.invariant.owners;
     }
 
+pub returns-clause-len : goal.returns-clause-len
+returns-clause-len c = grind (arith, common_steps)
+
 pub returns-clause-owners : goal.returns-clause-owners
 returns-clause-owners c = c.loop-i.invariant.owners
+
+pub overflow_add-base : goal.overflow_add-base
+overflow_add-base = grind (arith, common_steps)
+
+pub size-base-requires : goal.size-base-requires
+size-base-requires = grind (arith, common_steps)

@@ -1,3 +1,4 @@
+use Rattle.std.proofs.lemmas.Grind.{common_steps}
 use Rattle.std.proofs.Common.{◌≡◌, ◌+◌, ◌≤◌, ◌||◌, ℕ, Bool, [], refl, sym, ap, ◌∙◌, arith}
 use Rattle.std.proofs.Math.Path.{fun_ext}
 use Rattle.lex_semantics.specs.Active.{lists}
@@ -21,3 +22,9 @@ returns c =
       next = λ q. c.in_ok-enter.ensures.next q
           ∙ ap (λ (b : Bool). lists old q || b) (ap (λ (S : ℕ → Bool). enters r.head S q base c.args.entered) none ∙ sym (first_of_rule r q base c.args.entered));
     }
+
+pub returns-in_err-enter-clause-front : goal.returns-in_err-enter-clause-front
+returns-in_err-enter-clause-front = grind (arith, common_steps)
+
+pub returns-in_err-enter-clause-next : goal.returns-in_err-enter-clause-next
+returns-in_err-enter-clause-next = grind (arith, common_steps)

@@ -34,3 +34,18 @@ loop-i-preserved c = record {
   front = grind (arith, common_steps);
   told = λ q. grind (arith, common_steps, c.loop-i.invariant.told q);
 }
+
+pub enter_rule-requires-clause-few : goal.enter_rule-requires-clause-few
+enter_rule-requires-clause-few = grind (arith, common_steps)
+
+pub enter_rule-requires-clause-sized : goal.enter_rule-requires-clause-sized
+enter_rule-requires-clause-sized = grind (arith, common_steps)
+
+pub loop-i-init : goal.loop-i-init
+loop-i-init = grind (arith, common_steps)
+
+pub overflow_add-base : goal.overflow_add-base
+overflow_add-base = grind (arith, common_steps)
+
+pub size-base-requires : goal.size-base-requires
+size-base-requires = grind (arith, common_steps)

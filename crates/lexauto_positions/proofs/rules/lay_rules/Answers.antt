@@ -1,4 +1,5 @@
-use Rattle.std.proofs.Common.{rules, ◌≡◌, ◌+◌, ◌++◌, ◌∷◌, [], List, map, drop, sym, subst}
+use Rattle.std.proofs.lemmas.Grind.{common_steps}
+use Rattle.std.proofs.Common.{rules, ◌≡◌, ◌+◌, ◌++◌, ◌∷◌, [], List, map, drop, sym, subst, arith}
 use Rattle.lex_semantics.specs.Spec.{Rule}
 use Rattle.lexspec.specs.RuleViews.{rule_of}
 use Rattle.lexauto_positions.specs.Laid.{shape_of, AlikeRules, HaveSized}
@@ -24,3 +25,15 @@ loop-rule-preserved c =
           (rule_alike (shape_of rule) (rule_of c.rule-item.result) c.in_ok-rule.ensures.head c.in_ok-rule.ensures.trail)
           (subst (λ (rs : List Rule). AlikeRules (map shape_of laid ++ rs) all) rest c.loop-rule.invariant.alike));
     }
+
+pub lay_rule-requires-clause-few : goal.lay_rule-requires-clause-few
+lay_rule-requires-clause-few = grind (arith, common_steps)
+
+pub lay_rule-requires-clause-sound : goal.lay_rule-requires-clause-sound
+lay_rule-requires-clause-sound = grind (arith, common_steps)
+
+pub loop-rule-init : goal.loop-rule-init
+loop-rule-init = grind (arith, common_steps)
+
+pub returns-clause-alike : goal.returns-clause-alike
+returns-clause-alike = grind (arith, common_steps)

@@ -1,3 +1,4 @@
+use Rattle.std.proofs.lemmas.Grind.{common_steps}
 use Rattle.std.proofs.Common.{rules, ◌≡◌, [], map, arith}
 use Rattle.lexauto_positions.specs.Laid.{shape_of}
 use Rattle.lexauto_positions.proofs.Passing.{none_passed, owner_within, owner_cursor, owner_front, owner_sized, owner_few, owner_further, owner_passed, all_next, all_left}
@@ -48,3 +49,6 @@ returns c = record {
   followers = all_next (map shape_of c.args.rules.now) c.args.last.now c.loop-at.at c.loop-at.walked.followers.items c.loop-at.walked.accepted.items c.loop-at.invariant c.loop-at-test.false;
   accepted = all_left (map shape_of c.args.rules.now) c.args.last.now c.loop-at.at c.loop-at.walked.followers.items c.loop-at.walked.accepted.items c.loop-at.invariant c.loop-at-test.false;
 }
+
+pub bounds-owners-last : goal.bounds-owners-last
+bounds-owners-last = grind (arith, common_steps)

@@ -1,4 +1,5 @@
-use Rattle.std.proofs.Common.{◌≡◌, ℕ, Bool, ◌+◌, ◌-◌, ◌<◌, ◌≤◌, ◌⊎◌, ◌||◌, ◌&&◌, false, length, sym, ap, subst, ◌∙◌}
+use Rattle.std.proofs.lemmas.Grind.{common_steps}
+use Rattle.std.proofs.Common.{◌≡◌, ℕ, Bool, ◌+◌, ◌-◌, ◌<◌, ◌≤◌, ◌⊎◌, ◌||◌, ◌&&◌, false, length, sym, ap, subst, ◌∙◌, arith}
 use Rattle.std.specs.Prelude.{slice_index}
 use Rattle.lex_semantics.specs.Active.{lists}
 use Rattle.lex_semantics.specs.Positions.{positions}
@@ -101,3 +102,117 @@ enter_copies-loop-k-preserved t c =
           ∙ ap (λ (j : Bool). lists c.loop-k.next.items q || j) (sym (comes_step (enters tree S q) (exits tree S) c.args.copies.loops c.loop-k.after (positions tree) c.loop-k.left count k lt))
           ∙ c.loop-k.invariant.told q);
     }
+
+pub enter-enter_letter-requires-clause-cursor : goal.enter-enter_letter-requires-clause-cursor
+enter-enter_letter-requires-clause-cursor = grind (arith, common_steps)
+
+pub enter-leave-again-requires-clause-cursor : goal.enter-leave-again-requires-clause-cursor
+enter-leave-again-requires-clause-cursor = grind (arith, common_steps)
+
+pub enter-returns-in-Nothing-clause-front : goal.enter-returns-in-Nothing-clause-front
+enter-returns-in-Nothing-clause-front = grind (arith, common_steps)
+
+pub enter-returns-then-is_quiet-clause-front : goal.enter-returns-then-is_quiet-clause-front
+enter-returns-then-is_quiet-clause-front = grind (arith, common_steps)
+
+pub enter_copies-enter_copy-requires : goal.enter_copies-enter_copy-requires
+enter_copies-enter_copy-requires = grind (arith, common_steps)
+
+pub enter_copies-enter_letters-requires-clause-cursor : goal.enter_copies-enter_letters-requires-clause-cursor
+enter_copies-enter_letters-requires-clause-cursor = grind (arith, common_steps)
+
+pub enter_copies-enter_letters-requires-clause-few : goal.enter_copies-enter_letters-requires-clause-few
+enter_copies-enter_letters-requires-clause-few = grind (arith, common_steps)
+
+pub enter_copies-loop-k-init : goal.enter_copies-loop-k-init
+enter_copies-loop-k-init = grind (arith, common_steps)
+
+pub enter_copies-overflow_add-after : goal.enter_copies-overflow_add-after
+enter_copies-overflow_add-after = grind (arith, common_steps)
+
+pub enter_copies-returns-else-needed-eq0-2-clause-cursor : goal.enter_copies-returns-else-needed-eq0-2-clause-cursor
+enter_copies-returns-else-needed-eq0-2-clause-cursor = grind (arith, common_steps)
+
+pub enter_copies-returns-else-needed-eq0-2-clause-front : goal.enter_copies-returns-else-needed-eq0-2-clause-front
+enter_copies-returns-else-needed-eq0-2-clause-front = grind (arith, common_steps)
+
+pub enter_copies-returns-else-needed-eq0-2-clause-next : goal.enter_copies-returns-else-needed-eq0-2-clause-next
+enter_copies-returns-else-needed-eq0-2-clause-next = grind (arith, common_steps)
+
+pub enter_copies-returns-in-Some-clause-cursor : goal.enter_copies-returns-in-Some-clause-cursor
+enter_copies-returns-in-Some-clause-cursor = grind (arith, common_steps)
+
+pub enter_copies-returns-in-Some-clause-front : goal.enter_copies-returns-in-Some-clause-front
+enter_copies-returns-in-Some-clause-front = grind (arith, common_steps)
+
+pub enter_copies-returns-then-needed-eq0-2-clause-cursor : goal.enter_copies-returns-then-needed-eq0-2-clause-cursor
+enter_copies-returns-then-needed-eq0-2-clause-cursor = grind (arith, common_steps)
+
+pub enter_copies-returns-then-needed-eq0-2-clause-front : goal.enter_copies-returns-then-needed-eq0-2-clause-front
+enter_copies-returns-then-needed-eq0-2-clause-front = grind (arith, common_steps)
+
+pub enter_copies-returns-then-needed-eq0-2-clause-next : goal.enter_copies-returns-then-needed-eq0-2-clause-next
+enter_copies-returns-then-needed-eq0-2-clause-next = grind (arith, common_steps)
+
+pub enter_copies-returns-then-out-2-clause-cursor : goal.enter_copies-returns-then-out-2-clause-cursor
+enter_copies-returns-then-out-2-clause-cursor = grind (arith, common_steps)
+
+pub enter_copies-returns-then-out-2-clause-front : goal.enter_copies-returns-then-out-2-clause-front
+enter_copies-returns-then-out-2-clause-front = grind (arith, common_steps)
+
+pub enter_copies-returns-then-out-2-clause-next : goal.enter_copies-returns-then-out-2-clause-next
+enter_copies-returns-then-out-2-clause-next = grind (arith, common_steps)
+
+pub enter_copy-enter-requires : goal.enter_copy-enter-requires
+enter_copy-enter-requires = grind (arith, common_steps)
+
+pub enter_copy-enter-requires-2 : goal.enter_copy-enter-requires-2
+enter_copy-enter-requires-2 = grind (arith, common_steps)
+
+pub enter_copy-returns-clause-cursor : goal.enter_copy-returns-clause-cursor
+enter_copy-returns-clause-cursor = grind (arith, common_steps)
+
+pub enter_copy-returns-clause-next : goal.enter_copy-returns-clause-next
+enter_copy-returns-clause-next = grind (arith, common_steps)
+
+pub enter_copy-returns-then-is_quiet-clause-front : goal.enter_copy-returns-then-is_quiet-clause-front
+enter_copy-returns-then-is_quiet-clause-front = grind (arith, common_steps)
+
+pub enter_copy-returns-then-not-loops-clause-next : goal.enter_copy-returns-then-not-loops-clause-next
+enter_copy-returns-then-not-loops-clause-next = grind (arith, common_steps)
+
+pub enter_each-loop-part-preserved : goal.enter_each-loop-part-preserved
+enter_each-loop-part-preserved = grind (arith, common_steps)
+
+pub enter_each-returns-clause-cursor : goal.enter_each-returns-clause-cursor
+enter_each-returns-clause-cursor = grind (arith, common_steps)
+
+pub enter_each-returns-clause-front : goal.enter_each-returns-clause-front
+enter_each-returns-clause-front = grind (arith, common_steps)
+
+pub enter_each-returns-clause-left : goal.enter_each-returns-clause-left
+enter_each-returns-clause-left = grind (arith, common_steps)
+
+pub enter_each-returns-clause-next : goal.enter_each-returns-clause-next
+enter_each-returns-clause-next = grind (arith, common_steps)
+
+pub enter_each-size-requires : goal.enter_each-size-requires
+enter_each-size-requires = grind (arith, common_steps)
+
+pub enter_some-loop-part-preserved : goal.enter_some-loop-part-preserved
+enter_some-loop-part-preserved = grind (arith, common_steps)
+
+pub enter_some-returns-clause-cursor : goal.enter_some-returns-clause-cursor
+enter_some-returns-clause-cursor = grind (arith, common_steps)
+
+pub enter_some-returns-clause-front : goal.enter_some-returns-clause-front
+enter_some-returns-clause-front = grind (arith, common_steps)
+
+pub enter_some-returns-clause-left : goal.enter_some-returns-clause-left
+enter_some-returns-clause-left = grind (arith, common_steps)
+
+pub enter_some-returns-clause-next : goal.enter_some-returns-clause-next
+enter_some-returns-clause-next = grind (arith, common_steps)
+
+pub enter_some-size-requires : goal.enter_some-size-requires
+enter_some-size-requires = grind (arith, common_steps)

@@ -1,4 +1,5 @@
-use Rattle.std.proofs.Common.{◌≡◌, ℕ, ◌+◌, ◌<◌, ◌≤◌, ◌⊎◌, ◌||◌, ◌&&◌, length, sym, ap, subst, ◌∙◌}
+use Rattle.std.proofs.lemmas.Grind.{common_steps}
+use Rattle.std.proofs.Common.{◌≡◌, ℕ, ◌+◌, ◌<◌, ◌≤◌, ◌⊎◌, ◌||◌, ◌&&◌, length, sym, ap, subst, ◌∙◌, arith}
 use Rattle.std.specs.Prelude.{slice_index}
 use Rattle.lex_semantics.specs.Active.{lists}
 use Rattle.lex_semantics.specs.Positions.{positions}
@@ -33,3 +34,42 @@ leave_copies-loop-k-preserved t c =
       flow = rw (step, c.leave-passed.ensures.left, c.saturating_sub-needed.ensures, out)
           (sym (passes_step (exits tree S) c.loop-k.after (positions tree) c.loop-k.needed c.loop-k.out c.loop-k.left c.args.copies.count c.loop-k.k lt) ∙ c.loop-k.invariant.flow);
     }
+
+pub leave-leave_letter-requires-clause-cursor : goal.leave-leave_letter-requires-clause-cursor
+leave-leave_letter-requires-clause-cursor = grind (arith, common_steps)
+
+pub leave_copies-leave-passed-requires : goal.leave_copies-leave-passed-requires
+leave_copies-leave-passed-requires = grind (arith, common_steps)
+
+pub leave_copies-returns-else-needed-eq0-2-clause-cursor : goal.leave_copies-returns-else-needed-eq0-2-clause-cursor
+leave_copies-returns-else-needed-eq0-2-clause-cursor = grind (arith, common_steps)
+
+pub leave_copies-returns-then-needed-eq0-2-clause-cursor : goal.leave_copies-returns-then-needed-eq0-2-clause-cursor
+leave_copies-returns-then-needed-eq0-2-clause-cursor = grind (arith, common_steps)
+
+pub leave_copies-returns-then-out-2-clause-cursor : goal.leave_copies-returns-then-out-2-clause-cursor
+leave_copies-returns-then-out-2-clause-cursor = grind (arith, common_steps)
+
+pub leave_each-loop-part-preserved : goal.leave_each-loop-part-preserved
+leave_each-loop-part-preserved = grind (arith, common_steps)
+
+pub leave_each-returns-clause-cursor : goal.leave_each-returns-clause-cursor
+leave_each-returns-clause-cursor = grind (arith, common_steps)
+
+pub leave_each-returns-clause-left : goal.leave_each-returns-clause-left
+leave_each-returns-clause-left = grind (arith, common_steps)
+
+pub leave_each-size-requires : goal.leave_each-size-requires
+leave_each-size-requires = grind (arith, common_steps)
+
+pub leave_some-loop-part-preserved : goal.leave_some-loop-part-preserved
+leave_some-loop-part-preserved = grind (arith, common_steps)
+
+pub leave_some-returns-clause-cursor : goal.leave_some-returns-clause-cursor
+leave_some-returns-clause-cursor = grind (arith, common_steps)
+
+pub leave_some-returns-clause-left : goal.leave_some-returns-clause-left
+leave_some-returns-clause-left = grind (arith, common_steps)
+
+pub leave_some-size-requires : goal.leave_some-size-requires
+leave_some-size-requires = grind (arith, common_steps)

@@ -14,7 +14,7 @@ use Rattle.lextab.specs.Assembled.{assembled, HasTexts}
 use Rattle.lextab.specs.Columns.{Packing, IsPacking}
 use Rattle.lexauto_dfa.specs.Alike.{moves}
 use Rattle.lextab.specs.Columns.{packing_in}
-use Rattle.lextab.specs.Views.{packing_of}
+use Rattle.lextab.specs.PackingViews.{packing_of}
 use Rattle.lexauto_dfa.proofs.Fitting.{fitting_laws}
 use Rattle.lextab.proofs.Bounds.{class_count_low}
 use Rattle.lextab.proofs.Firsts.{first_alone}

@@ -1,6 +1,6 @@
 use Rattle.std.proofs.Common.{subst, arith}
 use Rattle.liblex_calls.specs.Buffers.{HandedOut, Fits}
-use Rattle.liblex_calls.specs.Scanning.{Tells}
+use Rattle.liblex_calls.specs.Scanning.{TellsScan}
 use Rattle.lex_machine.proofs.Growing.{is_text_from}
 use Rattle.liblex_calls.proofs.Telling.{ended_out, stopped_out}
 use Rattle.liblex_calls.proofs.scanning.scan_into.Goals as goal
@@ -17,4 +17,4 @@ pub returns : goal.returns
 returns c =
     stopped_out c.args.file.now c.args.input.now c.args.buffer.now c.tell.new.buffer c.tell.new.count c.new-source.result c.scan_table.new.source c.new-sink.result c.scan_table.new.sink
     c.new-source.ensures.bytes c.new-sink.ensures.bytes (is_text_from c.args.input.now (λ k. omega (arith, c.type_inv.input k))) c.in-Err.error c.tell.result c.in-Err.ensures.told
-    (subst (λ l. Tells c.in-Err.error l c.args.buffer.now c.tell.new.buffer c.tell.new.count c.tell.result) c.as_slice-in-Err.ensures.value c.tell.ensures)
+    (subst (λ l. TellsScan c.in-Err.error l c.args.buffer.now c.tell.new.buffer c.tell.new.count c.tell.result) c.as_slice-in-Err.ensures.value c.tell.ensures)

@@ -2,7 +2,7 @@ use Rattle.std.proofs.Common.{◌≡◌, ◌∙◌, ◌++◌, ◌∷◌, [], ℕ
 use Rattle.std.specs.Prelude.{slice_get}
 use Rattle.std.proofs.lemmas.List.{length_push}
 use Rattle.lexlook_specs.specs.Matches.{matches_in}
-use Rattle.lexlook_specs.specs.Words.{Tells}
+use Rattle.lexlook_specs.specs.Words.{IsWordOf}
 use Rattle.lexlook_specs.specs.declared.words.finding.Word.{Word}
 use Rattle.lexlook_specs.proofs.words.finding.find_words.Goals as goal
 
@@ -21,7 +21,7 @@ loop-rule-preserved c =
     let p = length_push c.loop-rule.rules.items c.in_ok-word.word in
     record {
       len = ap length is ∙ (omega (arith, len, p));
-      each = subst (λ (l : List Word). (i : ℕ) (x : Word) → slice_get l i ≡ Some x → Tells (matches_in c.args.dfa.now.parts c.args.rejects.now) i x) (sym is)
-          (pushed (Tells (matches_in c.args.dfa.now.parts c.args.rejects.now)) c.loop-rule.rules.items c.in_ok-word.word v.each
-          (subst (λ (k : ℕ). Tells (matches_in c.args.dfa.now.parts c.args.rejects.now) k c.in_ok-word.word) (sym len) c.in_ok-word.ensures));
+      each = subst (λ (l : List Word). (i : ℕ) (x : Word) → slice_get l i ≡ Some x → IsWordOf (matches_in c.args.dfa.now.parts c.args.rejects.now) i x) (sym is)
+          (pushed (IsWordOf (matches_in c.args.dfa.now.parts c.args.rejects.now)) c.loop-rule.rules.items c.in_ok-word.word v.each
+          (subst (λ (k : ℕ). IsWordOf (matches_in c.args.dfa.now.parts c.args.rejects.now) k c.in_ok-word.word) (sym len) c.in_ok-word.ensures));
     }
