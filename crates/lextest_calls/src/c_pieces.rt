@@ -1,6 +1,6 @@
 //! Scans by pieces as a program in C calls them: what each piece hands out, and what is answered.
 use liblex_calls::{
-    Answer, Fault, Scan, close_scan, feed_into, finish_into, generate_into, open_scan, options_of,
+    Answer, Scan, TextFault, close_scan, feed_into, finish_into, generate_into, open_scan, options_of,
 };
 use std::alloc::Global;
 
@@ -37,7 +37,7 @@ fn finishes(alloc: Global, scan: &mut Scan, answer: Answer, out: &[u8], status: 
 /// The table file of the text in the front of a buffer: how many bytes it has.
 fn made(alloc: Global, buffer: &mut [u8]) -> usize {
     let mut count = 0;
-    let mut fault = Fault {
+    let mut fault = TextFault {
         line: 0,
         kind: 0,
         place: 0,
