@@ -5,7 +5,7 @@ it writes on standard error.
     scripts/campaigns/failing-ends.py LEX
 
 LEX is the program, as crates/lex/out/lex. The ends are a pipe that nobody reads any more, a full disk (/dev/full), a folder in
-the place of a file, a closed standard input or output, and files that are not there or may not be read. It is no part of the gate."""
+the place of a file, a closed standard input or output, and files that are not there or may not be read. The gate (.ci/run) ends with it."""
 import os
 import shutil
 import subprocess

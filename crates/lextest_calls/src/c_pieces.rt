@@ -1,10 +1,12 @@
 //! Scans by pieces as a program in C calls them: what each piece hands out, and what is answered.
 use liblex_calls::{
-    Answer, Scan, TextFault, close_scan, feed_into, finish_into, generate_into, open_scan, options_of,
+    Answer, Scan, TextFault, close_scan, feed_into, finish_into, generate_into, open_scan,
+    options_of,
 };
 use std::alloc::Global;
 
-const TEXT: &[u8] = b"%option stack\n%x C\n%%\n[0-9]+ printf(\"N\");\nstop exit(3);\n\"(\" yy_push_state(C);\n<C>. yy_pop_state();\n\")\" yy_pop_state();\n";
+const TEXT: &[u8] =
+    b"%option stack\n%x C\n%%\n[0-9]+ printf(\"N\");\nstop exit(3);\n\"(\" yy_push_state(C);\n<C>. yy_pop_state();\n\")\" yy_pop_state();\n";
 
 /// Whether a piece is answered so, and hands these bytes out into a buffer of this room.
 fn feeds(
