@@ -1,7 +1,7 @@
 //! The lines and statuses of faults.
 use lexkit::{
-    BuildError, Fault, GenError, MemorySink, PatternError, PatternErrorKind, RunError,
-    ScanError, SpecError, SpecErrorKind, TableError, WriteFault, write_fault,
+    BuildError, Fault, GenError, MemorySink, PatternError, PatternErrorKind, RunError, ScanError,
+    SpecError, SpecErrorKind, TableError, WriteFault, write_fault,
 };
 use std::alloc::Global;
 

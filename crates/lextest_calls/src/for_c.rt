@@ -1,6 +1,7 @@
 //! What a program in C calls, by liblex_calls: once each on its happy path, and refused.
 use liblex_calls::{
-    Answer, TextFault, TextToken, generate_into, options_of, rule_lines_into, scan_into, tokens_into,
+    Answer, TextFault, TextToken, generate_into, options_of, rule_lines_into, scan_into,
+    tokens_into,
 };
 use std::alloc::Global;
 

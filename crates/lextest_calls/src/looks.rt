@@ -8,10 +8,12 @@ use std::alloc::Global;
 const WORDS: &[u8] = b"%%\nif ;\n[a-z]+ ;\n";
 
 /// Its picture, worked by hand.
-const PICTURE: &[u8] = b"digraph lex {\n  rankdir=LR;\n  node [shape=circle];\n  \"<INITIAL>\" [shape=plaintext];\n  \"<INITIAL>\" -> 1;\n  1;\n  1 -> 2 [label=\"[a-hj-z]\"];\n  1 -> 3 [label=\"[i]\"];\n  2 [shape=doublecircle, label=\"2\\nline 3\"];\n  2 -> 2 [label=\"[a-z]\"];\n  3 [shape=doublecircle, label=\"3\\nline 3\"];\n  3 -> 2 [label=\"[a-eg-z]\"];\n  3 -> 4 [label=\"[f]\"];\n  4 [shape=doublecircle, label=\"4\\nline 2\"];\n  4 -> 2 [label=\"[a-z]\"];\n}\n";
+const PICTURE: &[u8] =
+    b"digraph lex {\n  rankdir=LR;\n  node [shape=circle];\n  \"<INITIAL>\" [shape=plaintext];\n  \"<INITIAL>\" -> 1;\n  1;\n  1 -> 2 [label=\"[a-hj-z]\"];\n  1 -> 3 [label=\"[i]\"];\n  2 [shape=doublecircle, label=\"2\\nline 3\"];\n  2 -> 2 [label=\"[a-z]\"];\n  3 [shape=doublecircle, label=\"3\\nline 3\"];\n  3 -> 2 [label=\"[a-eg-z]\"];\n  3 -> 4 [label=\"[f]\"];\n  4 [shape=doublecircle, label=\"4\\nline 2\"];\n  4 -> 2 [label=\"[a-z]\"];\n}\n";
 
 /// The lines of the texts that its rules take, worked by hand.
-const LINES: &[u8] = b"at line 2: \"if\" in INITIAL\nat line 3: \"a\" in INITIAL\ndefault rule: \"\\000\" in INITIAL\n";
+const LINES: &[u8] =
+    b"at line 2: \"if\" in INITIAL\nat line 3: \"a\" in INITIAL\ndefault rule: \"\\000\" in INITIAL\n";
 
 /// What is answered of a picture, and what is written of it.
 fn drawn(alloc: Global, mut sink: MemorySink) -> (Result<(), LookError>, Vec<u8>)

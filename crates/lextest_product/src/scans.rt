@@ -4,9 +4,9 @@ ghost use Rattle.std.specs.Prelude.{◌≤◌};
 use crate::answer::{Answer, lines_of};
 use crate::row::Row;
 use lexkit::{
-    Fault, GenError, Generated, MAX_POSITIONS, MAX_STATES, MemorySink, MemorySource, Options, ReadOptions,
-    ScanError, Source, Tables, generate, read_spec, scan_by, scan_made, scan_spec, scan_table,
-    write_tables,
+    Fault, GenError, Generated, MAX_POSITIONS, MAX_STATES, MemorySink, MemorySource, Options,
+    ReadOptions, ScanError, Source, Tables, generate, read_spec, scan_by, scan_made, scan_spec,
+    scan_table, write_tables,
 };
 use std::alloc::{AllocError, Global};
 
