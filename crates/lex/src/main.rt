@@ -5,7 +5,7 @@
 //! - `generating`: where warnings, the table file, the report of states that back up and the statistics go.
 //!
 //! What is asked for is read by lex_command. What is made, scanned and reported is lexkit's, and proved there. So here it is
-//! decided alone which file is read or made, and in which order. `data/` and the rows of scripts/ try that.
+//! decided alone which file is read or made, and in which order. `args` and `data/` try that, and scripts in scripts/.
 //!
 //! - **All is made before anything is written**, so a refusal leaves the files of an earlier run alone. The table file is
 //!   written under its own name, and not under another one first: a reader refuses one that was cut short.

@@ -134,7 +134,11 @@ impl ActionCursor {
     fn is_closed(self) -> bool
         ensures { action_in (place_of self.place) self.depth [] ≡ (if result then Some ([], []) else None) }
     {
-        self.depth == 0 && matches!(self.place, ActionPlace::Outside | ActionPlace::Slash | ActionPlace::Line)
+        self.depth == 0
+            && matches!(
+                self.place,
+                ActionPlace::Outside | ActionPlace::Slash | ActionPlace::Line
+            )
     }
 }
 

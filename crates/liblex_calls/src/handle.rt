@@ -30,7 +30,6 @@ impl Scan {
         }
     }
 
-<<<<<<< HEAD
     /// Closes it, and gives its memory back: for callers in Rattle, who have to end what they own.
     pub fn close(self, alloc: Global) {
         match self.into_box(alloc) {
@@ -39,9 +38,7 @@ impl Scan {
         }
     }
 
-=======
     /// One that holds an open scan.
->>>>>>> all
     fn holding(scan: Box<PieceScan>) -> Scan
         ensures { result.place.value ≡ Some scan.value }
     {
