@@ -82,6 +82,8 @@ fn scan(rt: &HostRuntime, by: By<'_>) -> Result<u8, Failure> {
 fn options_of(patterns: PatternFlags) -> Options
     ensures few_positions { result.limits.positions ≤ MAX_POSITIONS }
     ensures few_states { result.limits.states ≤ MAX_STATES }
+    ensures fold { result.fold ≡ patterns.fold }
+    ensures posix { result.posix ≡ patterns.posix }
 {
     Options::reading(patterns.fold, patterns.posix)
 }

@@ -254,6 +254,9 @@ impl<M: Machine> PushScanner<M> {
             → RunHandedOn (K.flushed sink.new) result }
         ensures too_many { IsErrOf result RunError.TooManyReads →
             2 ^ 64 - 1 ≤ (push_state self.old).reading.taken + length (push_waiting self.old) }
+        ensures kept { (push_state self.new).failed ≡ false
+            → OnErr result ((push_state self.new ≡ push_state self.old)
+            × (push_waiting self.new ≡ push_waiting self.old) × (sink.new ≡ sink.old)) }
         ensures refused { IsErrOf result RunError.Failed → (push_state self.old).failed ≡ true }
         ensures after_refusal { (push_state self.old).failed ≡ true → (result ≡ Err RunError.Failed)
             × (sink.new ≡ sink.old) × (self.new ≡ self.old) }

@@ -1,8 +1,9 @@
 //! Worked scans by pieces: what each feed writes, and what the end.
 use crate::building::machine_of;
-use lexkit::{Flat, MemorySink, RunError};
+use lexkit::{Flat, MemorySink, RunError, ToWrite};
 use lexscan::{PushScanner, Turn};
 use std::alloc::Global;
+use std::io::{self, Write};
 use std::test::Fail;
 
 /// Whether each piece writes this, and the end writes the rest with this status.
@@ -73,5 +74,45 @@ fn an_ended_scan_stays_ended(rt: HostRuntime) -> Result<(), Fail> {
     assert!(rt; feed(rt.alloc(), &mut scanner, "a") == Ok(Turn::Went));
     assert!(rt; feed(rt.alloc(), &mut scanner, "bXY") == Ok(Turn::Ended(7)));
     assert!(rt; feed(rt.alloc(), &mut scanner, "Z") == Ok(Turn::Ended(7)));
+    Ok(())
+}
+
+/// Takes all that it is given. Its first flush fails, and no other one.
+#[derive(Drop)]
+struct FlushesLater {
+    taken: Vec<u8>,
+    failed: bool,
+}
+
+impl Write for FlushesLater {
+    fn write(&mut self, buf: &[u8]) -> io::Result<usize> {
+        self.taken.extend_from_slice(buf)?;
+        Ok(buf.len())
+    }
+
+    fn flush(&mut self) -> io::Result<()> {
+        if self.failed {
+            return Ok(());
+        }
+        self.failed = true;
+        Err(io::Error::from(io::ErrorKind::Interrupted))
+    }
+}
+
+/// After an end whose flush failed each call answers so, though the sink would work again, and nothing is written twice.
+#[test]
+fn a_failed_flush_at_the_end_is_the_last(rt: HostRuntime) -> Result<(), Fail> {
+    let machine = machine_of(rt.alloc(), "%%\n[a-z]+ ECHO;\n")?;
+    let mut scanner = PushScanner::new(rt.alloc(), machine);
+    let taken = Vec::new(rt.alloc());
+    let mut sink = ToWrite::new(FlushesLater {
+        taken,
+        failed: false,
+    });
+    assert!(rt; scanner.feed(b"ab", &mut sink) == Ok(Turn::Went));
+    assert!(rt; scanner.finish(&mut sink) == Err(RunError::Write));
+    assert!(rt; scanner.finish(&mut sink) == Err(RunError::Failed));
+    assert!(rt; scanner.feed(b"c", &mut sink) == Err(RunError::Failed));
+    assert!(rt; sink.into_inner().taken.as_slice() == b"ab".as_slice());
     Ok(())
 }
