@@ -3,7 +3,7 @@ use Rattle.std.proofs.Common.{◌≡◌, ◌↔◌, ◌≤◌, ℕ, Bool, List, 
 use Rattle.std.proofs.lemmas.List.{length-take-le}
 use Rattle.lex_semantics.proofs.Texts.{is_text_take}
 use Rattle.lexlook_specs.specs.Matches.{Matches, IsInput, IsCopied, Takes}
-use Rattle.lexlook_specs.specs.Words.{AreTakers, AreWords, IsFirst, TellsSame, TellsDefault}
+use Rattle.lexlook_specs.specs.Words.{AreTakers, AreWords, IsFirst, IsWordOf, TellsDefault}
 use Rattle.lexlook_specs.specs.declared.words.finding.Place.{Place}
 use Rattle.lexlook_specs.specs.declared.words.finding.Word.{Word}
 use Rattle.lexlook_specs.specs.declared.words.finding.Word.TheVariants.{Taken, Never}
@@ -59,7 +59,7 @@ module _ (m n : Matches) (a : AreAlike m n) where
     );
   }
 
-  to_tells : (i : ℕ) (x : Word) → TellsSame m i x → TellsSame n i x
+  to_tells : (i : ℕ) (x : Word) → IsWordOf m i x → IsWordOf n i x
   to_tells i (Taken q) t = to_first (λ c line w. Takes m c line w i) (λ c line w. Takes n c line w i) (λ c line w h. (to_takes c line w i h, from_takes c line w i h)) q t
   to_tells i (Never js) t = to_takers i js.items t
 

@@ -19,7 +19,7 @@ use Rattle.lexauto_dfa.specs.declared.dfa.Parts.{Parts}
 use Rattle.lexauto_dfa.proofs.Machinery.{walk_after}
 use Rattle.lexlook_specs.specs.Matches.{matches_in, matches_of}
 use Rattle.lexlook_specs.specs.Rejecting.{rejecting, rejecting_rule}
-use Rattle.lexlook_specs.specs.Words.{AreWords, TellsSame, TellsDefault}
+use Rattle.lexlook_specs.specs.Words.{AreWords, IsWordOf, TellsDefault}
 use Rattle.lexlook_specs.specs.declared.words.finding.Place.{Place}
 use Rattle.lexlook_specs.specs.declared.words.finding.Word.{Word}
 use Rattle.lexlook_specs.specs.declared.words.finding.Word.TheVariants.{Taken, Never}
@@ -65,7 +65,7 @@ labelled S v a = record {
     m : length (lines_of S.rules) ≡ length S.rules
     m = length-map S.rules (λ (r : Rule). r.line)
 
-    label : (i : ℕ) (x : Word) → TellsSame (matches_of S) i x → HasLabels (names_of S.conditions) (lines_of S.rules) x
+    label : (i : ℕ) (x : Word) → IsWordOf (matches_of S) i x → HasLabels (names_of S.conditions) (lines_of S.rules) x
     label i (Taken q) t = (let low = t.input.condition in omega (arith, low, n))
     label i (Never js) t = λ j b. (let r = (t.takers j).0 b in let low = known_rule S.rules j (r.5.0.1).rule (r.5.0.1).at in omega (arith, low, m))
 

@@ -1,5 +1,5 @@
 //! The line that tells of what two files do not do the same.
-ghost use Rattle.std.specs.Prelude.{◌≡◌, ◌<◌, ℕ, List, ◌++◌, length, IfOk, IfSome, OnOk, codes};
+ghost use Rattle.std.specs.Prelude.{◌≡◌, ◌<◌, ℕ, Bool, List, ◌++◌, length, IfOk, IfSome, OnOk, codes};
 ghost use Rattle.lex_semantics.specs.Text.{Among};
 ghost use Rattle.lextab_packed.specs.Machines.{table_machine};
 ghost use Rattle.lexspec.specs.Views.{conditions_in, rules_in};
