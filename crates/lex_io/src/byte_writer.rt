@@ -1,5 +1,5 @@
 //! A writer with a buffer, made for short writes.
-ghost use Rattle.std.specs.Prelude.{◌≡◌, ◌+◌, ◌-◌, ◌≤◌, [], ◌++◌, length, take, drop, IfOk};
+ghost use Rattle.std.specs.Prelude.{◌≡◌, ◌+◌, ◌-◌, ◌≤◌, [], ◌++◌, length, take, drop, IfOk, true, false, nat_le};
 ghost use Rattle.std.specs.Prelude.{OnOk, OnErr, IfSome, IfNone, IsSome, MatchOption, vec_len};
 ghost use Rattle.std.specs.Io.{WritesAtMost};
 ghost use Rattle.std.specs.Io.KnownBytes.{Appends, Keeps, WriteAppends};
@@ -70,7 +70,7 @@ pub struct ByteWriter<W: Write + Drop> {
 }
 
 impl<W: Write + Drop> ByteWriter<W> {
-    ghost use Rattle.lex_io.specs.ByteWriters.{writer_behind, bytes_held, bytes_written, room_in, EndsWith};
+    ghost use Rattle.lex_io.specs.ByteWriters.{writer_behind, bytes_held, bytes_written, room_in, Holds, EndsWith};
 
     /// Over this writer, with nothing held. All its memory is taken here.
     pub fn new(alloc: Global, writer: W) -> Result<ByteWriter<W>, AllocError>
@@ -108,6 +108,20 @@ impl<W: Write + Drop> ByteWriter<W> {
         result
     }
 
+    /// Holds the bytes, if there is room for them. Else it does nothing.
+    #[inline(always)]
+    pub(crate) fn hold(&mut self, bytes: &[u8]) -> bool
+        ensures fits { result ≡ nat_le (length bytes.now) (room_in self.old) }
+        ensures held { result ≡ true → Holds self.old self.new bytes.now }
+        ensures full { result ≡ false → self.new ≡ self.old }
+    {
+        if bytes.len() <= self.held.room() {
+            self.held.push(bytes);
+            return true;
+        }
+        false
+    }
+
     /// Pours, and then holds the bytes, or hands them on where there are more than may be held. Where it answers
     /// nothing, the error waits.
     #[cold]
@@ -125,8 +139,7 @@ impl<W: Write + Drop> ByteWriter<W> {
             self.error = Some(error);
             return None;
         }
-        if bytes.len() <= self.held.room() {
-            self.held.push(bytes);
+        if self.hold(bytes) {
             return Some(bytes.len());
         }
         match self.writer.write(bytes) {
@@ -168,8 +181,7 @@ impl<W: Write + Drop> Write for ByteWriter<W> {
             × Holds self.old self.new buf.now }
         ensures rest { OnErr result (EndsWith (bytes_held self.old) (bytes_held self.new)) }
     {
-        if buf.len() <= self.held.room() {
-            self.held.push(buf);
+        if self.hold(buf) {
             return Ok(buf.len());
         }
         match self.pour_and_write(buf) {

@@ -1,22 +1,40 @@
 //! Copies of texts, most of them short.
-ghost use Rattle.std.specs.Prelude.{◌≡◌, length};
+ghost use Rattle.std.specs.Prelude.{◌≡◌, ◌+◌, ◌≤◌, length, take};
 
-/// Up to this length bytes are copied one by one.
-const SHORT: usize = 16;
+use std::simd::Simd;
 
-/// Makes the one slice the other. A short one is copied byte by byte.
+/// Makes the one slice the other. A short one is two copies of a fixed size, which overlap.
 #[inline(always)]
 pub fn copy_to(place: &mut [u8], bytes: &[u8])
     requires { length place.old ≡ length bytes.now }
     ensures { place.new ≡ bytes.now }
 {
-    if bytes.len() > SHORT {
+    let len = bytes.len();
+    if len > 32 {
         copy_many(place, bytes);
-        return;
+    } else if len >= 16 {
+        copy_ends::<16>(place, bytes);
+    } else if len >= 8 {
+        copy_ends::<8>(place, bytes);
+    } else if len >= 4 {
+        copy_ends::<4>(place, bytes);
+    } else if len >= 2 {
+        copy_ends::<2>(place, bytes);
+    } else if len == 1 {
+        place[0] = bytes[0];
     }
-    for (index, byte) in bytes.iter().enumerate() {
-        place[index] = *byte;
-    }
+}
+
+/// Copies the first `N` bytes and the last `N`. Between them there is nothing.
+#[inline(always)]
+fn copy_ends<const N: usize>(place: &mut [u8], bytes: &[u8])
+    requires len { length place.old ≡ length bytes.now }
+    requires covers { (N ≤ length bytes.now) × (length bytes.now ≤ N + N) }
+    ensures { place.new ≡ bytes.now }
+{
+    let last = bytes.len() - N;
+    Simd::<u8, N>::from_slice(bytes).copy_to_slice(place);
+    Simd::<u8, N>::from_slice(&bytes[last..]).copy_to_slice(&mut place[last..]);
 }
 
 /// Makes the one slice the other, all at once.

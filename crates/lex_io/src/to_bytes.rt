@@ -25,7 +25,7 @@ pub struct ToBytes<W: Write + Drop> {
 }
 
 impl<W: Write + Drop> ToBytes<W> {
-    ghost use Rattle.lex_io.specs.Adapters.{byte_writer_of};
+    ghost use Rattle.lex_io.specs.Adapters.{byte_writer_of, byte_writer_failures};
 
     /// A sink over this writer, with no failure counted yet.
     pub fn new(writer: ByteWriter<W>) -> ToBytes<W>
@@ -35,6 +35,24 @@ impl<W: Write + Drop> ToBytes<W> {
         ToBytes {
             writer,
             failures: Failures { count: 0 },
+        }
+    }
+
+    /// Puts bytes for which there is no room, by writes of the writer.
+    #[cold]
+    #[inline(never)]
+    fn put_out(&mut self, bytes: &[u8]) -> Result<(), WriteFault>
+        requires { byte_writer_failures self.old < 2 ^ 64 - 1 }
+        ensures bytes { Appended (λ xs. Appends (bytes_written W.contents (byte_writer_of self.old))
+            (bytes_written W.contents (byte_writer_of self.new)) xs) bytes.now result }
+        ensures failures { byte_writer_failures self.new ≡ byte_writer_failures self.old + fault_count result }
+    {
+        match write_whole(&mut self.writer, bytes) {
+            Ok(()) => Ok(()),
+            Err(fault) => {
+                self.failures.count += 1;
+                Err(fault)
+            }
         }
     }
 }
@@ -50,15 +68,12 @@ impl<W: Write + Drop> Sink for ToBytes<W> {
     ghost flushed = { λ s. is_none (bytes_held (byte_writer_of s)) };
 
     /// Holds or writes all of the bytes, or fails after a prefix of them.
-    #[inline]
+    #[inline(always)]
     fn put(&mut self, bytes: &[u8]) -> Result<(), WriteFault> {
-        match write_whole(&mut self.writer, bytes) {
-            Ok(()) => Ok(()),
-            Err(fault) => {
-                self.failures.count += 1;
-                Err(fault)
-            }
+        if self.writer.hold(bytes) {
+            return Ok(());
         }
+        self.put_out(bytes)
     }
 
     /// Pours what the writer holds, and flushes the writer behind it.

@@ -12,8 +12,8 @@
 //! other.
 //!
 //! How actions are copied may be changed alone. A new statement changes lexspec_actions, which reads it,
-//! lexscan_window, which carries it out, and lextab_file, which writes it. Another kind of machine is a type above
-//! that implements the trait.
+//! lexscan_window, which carries it out, and lextab_file, which writes it. What else changes with it is in
+//! docs/ARCHITECTURE.md. Another kind of machine is a type above that implements the trait.
 //!
 //! Decided for this room alone:
 //!

@@ -100,6 +100,30 @@ pub one_by_one : E.Writes E.one_by_one (codes "aaaaa") [] 0
 unfolding has single range_set union complement fold_case other_case set_of perform
 one_by_one = run_is E.one_by_one (codes "aaaaa") 40 [] (Status 0) refl
 
+pub context_counts : E.Writes E.longer_by_context (codes "abc") (codes "1bc") 0
+unfolding has single range_set union complement fold_case other_case set_of perform
+context_counts = run_is E.longer_by_context (codes "abc") 40 (codes "1bc") (Status 0) refl
+
+pub reject_keeps_more : E.Writes E.rejects_after_more (codes "xab") (codes "xab") 0
+unfolding has single range_set union complement fold_case other_case set_of perform
+reject_keeps_more = run_is E.rejects_after_more (codes "xab") 40 (codes "xab") (Status 0) refl
+
+pub echo_after_less : E.Writes (E.echoes_after_less 1) (codes "ab") (codes "ab") 0
+unfolding has single range_set union complement fold_case other_case set_of perform
+echo_after_less = run_is (E.echoes_after_less 1) (codes "ab") 40 (codes "ab") (Status 0) refl
+
+pub less_of_a_shorter_text : E.Writes (E.echoes_after_less 5) (codes "ab") (codes "ab") 0
+unfolding has single range_set union complement fold_case other_case set_of perform
+less_of_a_shorter_text = run_is (E.echoes_after_less 5) (codes "ab") 40 (codes "ab") (Status 0) refl
+
+pub line_of_the_match : E.Writes E.line_after_more (codes "xa") (codes "xa") 0
+unfolding has single range_set union complement fold_case other_case set_of perform
+line_of_the_match = run_is E.line_after_more (codes "xa") 40 (codes "xa") (Status 0) refl
+
+pub reject_keeps_begin : E.Writes E.rejects_after_begin (codes "ab") (codes "AC") 0
+unfolding has single range_set union complement fold_case other_case set_of perform
+reject_keeps_begin = run_is E.rejects_after_begin (codes "ab") 40 (codes "AC") (Status 0) refl
+
 pub end_rule : E.Writes E.says_end (codes "x") (codes "xend" ++ 10 ∷ []) 0
 unfolding has single range_set union complement fold_case other_case set_of perform
 end_rule = run_is E.says_end (codes "x") 40 (codes "xend" ++ 10 ∷ []) (Status 0) refl

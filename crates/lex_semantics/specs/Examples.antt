@@ -209,3 +209,26 @@ parentheses = record {
 -- `ab yy_push_state(0); REJECT;` and `a printf("A"); yy_pop_state();`
 abbrev pub rejects_after_push : Spec
 rejects_after_push = of_rules (rule (string (codes "ab")) (Push 0 ∷ Reject ∷ []) ∷ rule (letter 97) (Print (codes "A") ∷ Pop ∷ []) ∷ [])
+
+-- `a/bc printf("1");` and `ab printf("2");`
+abbrev pub longer_by_context : Spec
+longer_by_context = of_rules (rule_before (letter 97) (string (codes "bc")) (Head 1) (Print (codes "1") ∷ []) ∷ rule (string (codes "ab")) (Print (codes "2") ∷ []) ∷ [])
+
+-- `x yymore();` and `^a printf("A");`
+abbrev pub line_after_more : Spec
+line_after_more = of_rules (rule (letter 120) (More ∷ []) ∷ rule_at_line (letter 97) (Print (codes "A") ∷ []) ∷ [])
+
+-- `%x C`; `ab BEGIN(C); REJECT;`, `a printf("A");` and `<C>b printf("C");`
+abbrev pub rejects_after_begin : Spec
+rejects_after_begin = record {
+  conditions = initial ∷ condition (codes "C") true [] 0 ∷ [];
+  rules = rule (string (codes "ab")) (Begin 1 ∷ Reject ∷ []) ∷ rule (letter 97) (Print (codes "A") ∷ []) ∷ rule_in (1 ∷ []) (letter 98) (Print (codes "C") ∷ []) ∷ [];
+}
+
+-- `x yymore();`, `ab REJECT;` and `a ECHO;`
+abbrev pub rejects_after_more : Spec
+rejects_after_more = of_rules (rule (letter 120) (More ∷ []) ∷ rule (string (codes "ab")) (Reject ∷ []) ∷ rule (letter 97) (Echo ∷ []) ∷ [])
+
+-- `ab yyless(n); ECHO;`
+abbrev pub echoes_after_less : ℕ → Spec
+echoes_after_less n = of_rules (rule (string (codes "ab")) (Less n ∷ Echo ∷ []) ∷ [])

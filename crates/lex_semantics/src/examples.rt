@@ -17,6 +17,7 @@ pub fn examples_of_matching()
     ensures keyword_first { E.Writes E.keyword_or_word (codes "if iff") (codes "K I") 0 }
     ensures backs_up { E.Writes E.abc (codes "abab") (codes "abab") 0 }
     ensures interval_on_item { E.Writes E.two_bs (codes "abbabab") (codes "Xabab") 0 }
+    ensures context_counts { E.Writes E.longer_by_context (codes "abc") (codes "1bc") 0 }
     ensures folded_before_negated { E.Writes E.not_a (codes "bAb") (codes "NAN") 0 }
     ensures ordinary_dollar { E.Writes E.dollar_inside (codes "a$bA") (codes "XY") 0 }
 {}
@@ -31,6 +32,9 @@ pub fn examples_of_actions()
     ensures kept_is_dropped { E.Writes E.only_more (codes "a") [] 0 }
     ensures later_rule_as_long { E.Writes E.rejected (codes "ab") (codes "abW") 0 }
     ensures one_by_one { E.Writes E.one_by_one (codes "aaaaa") [] 0 }
+    ensures reject_keeps_more { E.Writes E.rejects_after_more (codes "xab") (codes "xab") 0 }
+    ensures echo_after_less { E.Writes (E.echoes_after_less 1) (codes "ab") (codes "ab") 0 }
+    ensures less_of_a_shorter_text { E.Writes (E.echoes_after_less 5) (codes "ab") (codes "ab") 0 }
 {}
 
 /// Trailing context, line starts and start conditions.
@@ -39,6 +43,8 @@ pub fn examples_of_places()
     ensures context_returned { E.Writes E.before_cd (codes "abcdab") (codes "[ab]cdab") 0 }
     ensures line_starts { E.Writes E.first_a (codes "aa" ++ 10 ∷ codes "a") (codes "Aa" ++ 10 ∷ codes "A") 0 }
     ensures open_comment { E.Writes E.comments (codes "a/*b*/c/*d") (codes "acopen") 3 }
+    ensures line_of_the_match { E.Writes E.line_after_more (codes "xa") (codes "xa") 0 }
+    ensures reject_keeps_begin { E.Writes E.rejects_after_begin (codes "ab") (codes "AC") 0 }
     ensures exclusive { E.Writes (E.switched true) (codes "abcb") (codes "bB") 0 }
     ensures inclusive { E.Writes (E.switched false) (codes "abcb") (codes "BB") 0 }
 {}

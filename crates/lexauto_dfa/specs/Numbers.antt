@@ -1,6 +1,7 @@
 -- Classes of states get numbers when they are first called.
-use Rattle.std.specs.Prelude.{◌≡◌, ◌⊎◌, ℕ, ◌+◌, ◌-◌, ◌*◌, ◌/◌, ◌%◌, ◌<◌, ◌≤◌, List, [], ◌∷◌, ◌++◌, length, slice_index}
+use Rattle.std.specs.Prelude.{◌≡◌, ◌⊎◌, ℕ, ◌^◌, ◌+◌, ◌-◌, ◌*◌, ◌/◌, ◌%◌, ◌<◌, ◌≤◌, List, [], ◌∷◌, ◌++◌, length, slice_index}
 use Rattle.lexauto_dfa.specs.Numbering.{InOrder}
+use Rattle.lexauto_dfa.specs.Sources.{IsRow}
 use Rattle.lexauto_dfa.specs.declared.least.numbering.Numbers.{Numbers}
 
 -- each number has a state, and its class has the number; a class that has none has a number that is too great
@@ -39,6 +40,21 @@ pub record AreCalled (s : ℕ) (members calls : List ℕ) : Type 0 where
 abbrev pub AreRows : List ℕ → List ℕ → List ℕ → List ℕ → Type 0
 AreRows classes table members rows = (j : ℕ) → j < length rows
     → (j / 256 < length members) × IsNumberOf classes members (slice_index rows j) (slice_index table (slice_index members (j / 256) * 256 + j % 256))
+
+-- a class for each state, and a row of 256 states for each, where it goes by each byte
+pub record HasRows (classes table : List ℕ) : Type 0 where
+  pub few : length classes < 2 ^ 32
+  pub are_classes : IsRow classes
+  pub len : length table ≡ 256 * length classes
+  pub targets : (i : ℕ) → i < length table → slice_index table i < length classes
+
+-- The row of the next number was added. Classes that are called in it have numbers.
+pub record RowAdded (classes table : List ℕ) (old new : Numbers) (rows rows' : List ℕ) : Type 0 where
+  pub numbers : AreNumbers classes new
+  pub len : length rows' ≡ length rows + 256
+  pub each : AreRows classes table new.members.items rows'
+  pub called : (starts : List ℕ) → AreCalled (length starts) old.members.items (starts ++ rows) → AreCalled (length starts) new.members.items (starts ++ rows')
+  pub keeps : Keeps old.members.items new.members.items
 
 -- each start has the number of its state
 abbrev pub AreStarts : List ℕ → List ℕ → List ℕ → List ℕ → Type 0

@@ -12,7 +12,7 @@ use Rattle.lexre_bytes.specs.Lexical.{after_word, run_at, number_at, name_at, es
 use Rattle.lexre_bytes.specs.Symbols.{item, name}
 use Rattle.lexre.specs.Grammar.{SpellsWithin}
 use Rattle.lexre.specs.Limits.{max_nodes, max_open}
-use Rattle.lexre.specs.PatternExamples.{a, b, c, ab, a_or_b, letter, quote, backslash, signed_often, repeated_often, enclosed, Is, IsNone, plain, folding, over_series, Items, Folded, Joined, Operators, OverItems, OverSeries, Named, Bounds, Refused}
+use Rattle.lexre.specs.PatternExamples.{a, b, c, ab, a_or_b, letter, quote, backslash, signed_often, repeated_often, enclosed, Is, IsNone, plain, folding, over_series, Items, Classes, Escapes, Folded, Joined, Operators, OverItems, OverSeries, Named, Bounds, Refused, RefusedItems}
 use Rattle.lexre.specs.Running.{state, fresh, pushed}
 use Rattle.lexre.specs.declared.options.ReadOptions.{ReadOptions}
 use Rattle.lexre.proofs.GrammarLaws.{spelled_runs, runs_spelled}
@@ -38,6 +38,29 @@ items = (
   is_tree plain 20 (quote ++ quote) Empty refl refl,
   is_tree plain 20 (quote ++ codes "a" ++ quote) a refl refl,
   is_tree plain 20 (quote ++ codes "ab" ++ quote) ab refl refl,
+)
+
+pub classes : Classes
+unfolding after_word run_at number_at name_at escape_at quoted_tree class_name_at enclosed_by bracketed_at range_at element_at elements_at class_at span class_set bounded interval_at braces_at symbol_at has set_of empty_set single range_set union complement other_case fold_case is_upper is_lower is_alpha is_digit is_alnum simple_escape octal_at hexadecimal_at until_quote take_up_to
+classes = (
+  is_tree plain 20 (codes "[]a]") (Set (2 ^ 93 + 2 ^ 97)) refl refl,
+  is_tree plain 20 (codes "[a-]") (Set (2 ^ 45 + 2 ^ 97)) refl refl,
+  is_tree plain 20 (codes "[a-c-e]") (Set (2 ^ 45 + 2 ^ 97 + 2 ^ 98 + 2 ^ 99 + 2 ^ 101)) refl refl,
+  is_tree plain 20 (codes "[^\\n]") (Set (complement (single 10))) refl refl,
+  is_tree plain 20 (codes "[[.]") (Set (2 ^ 46 + 2 ^ 91)) refl refl,
+  is_tree plain 20 (codes "[[:digit:]]") (Set (range_set 48 57)) refl refl,
+  is_tree plain 20 (codes "[[:xdigit:]]") (Set (union (range_set 48 57) (union (range_set 65 70) (range_set 97 102)))) refl refl,
+)
+
+pub escapes : Escapes
+unfolding after_word run_at number_at name_at escape_at quoted_tree class_name_at enclosed_by bracketed_at range_at element_at elements_at class_at span class_set bounded interval_at braces_at symbol_at has set_of empty_set single range_set union complement other_case fold_case is_alpha is_digit is_alnum simple_escape octal_at hexadecimal_at until_quote take_up_to
+escapes = (
+  is_tree plain 20 (codes "\\x411") (Cat (trees (letter 65 ∷ letter 49 ∷ []))) refl refl,
+  is_tree plain 20 (codes "\\1011") (Cat (trees (letter 65 ∷ letter 49 ∷ []))) refl refl,
+  is_tree plain 20 (codes "\\x") (letter 120) refl refl,
+  is_tree plain 20 (codes "\\r") (letter 13) refl refl,
+  is_tree plain 20 (codes "\\*") (letter 42) refl refl,
+  is_tree plain 20 (codes "\"a\\\"b\"") (Cat (trees (a ∷ letter 34 ∷ b ∷ []))) refl refl,
 )
 
 pub folded : Folded
@@ -114,6 +137,8 @@ refused = (
   is_none plain 20 (codes "()") refl,
   is_none plain 20 (codes "a{2,1}") refl,
   is_none plain 20 (codes "a{256}") refl,
+  is_none plain 20 (codes "a{,2}") refl,
+  is_none plain 20 (codes "a{0}") refl,
   is_none plain 20 (codes "[a") refl,
   is_none plain 20 (quote ++ codes "a") refl,
   is_none plain 20 (codes "[c-a]") refl,
@@ -133,3 +158,17 @@ named = λ definitions found.
       ),
       leb-true (nodes (Cat (trees (a_or_b ∷ c ∷ [])))) max_nodes refl,
     )
+
+pub refused_items : RefusedItems
+unfolding after_word run_at number_at name_at escape_at quoted_tree class_name_at enclosed_by bracketed_at range_at element_at elements_at class_at span class_set bounded interval_at braces_at symbol_at has set_of empty_set single range_set union complement other_case fold_case is_upper is_lower is_alpha is_digit is_alnum simple_escape octal_at hexadecimal_at until_quote take_up_to
+refused_items = (
+  is_none plain 20 (codes "[]") refl,
+  is_none plain 20 (codes "[^\\0-\\377]") refl,
+  is_none plain 20 (codes "[[:foo:]]") refl,
+  is_none plain 20 (codes "[[:^digit:]]") refl,
+  is_none plain 20 (codes "[[=a=]]") refl,
+  is_none plain 20 (codes "[a-[:digit:]]") refl,
+  is_none plain 20 (codes "\\400") refl,
+  is_none plain 20 backslash refl,
+  is_none plain 20 (codes "a/b") refl,
+)

@@ -2,7 +2,7 @@
 -- flex, Patterns. The bounds are this project's.)
 use Rattle.std.specs.Prelude.{◌≡◌, ℕ, zero, suc, ◌+◌, ◌^◌, true, false, List, [], ◌∷◌, ◌++◌, Some, None, codes, replicate}
 use Rattle.std.specs.FinMap.{get}
-use Rattle.lex_semantics.specs.ByteSets.{single, range_set, complement}
+use Rattle.lex_semantics.specs.ByteSets.{single, range_set, union, complement}
 use Rattle.lex_semantics.specs.Tree.{Tree, Empty, Set, Cat, Alt, Star, Repeat, trees}
 use Rattle.lexre.specs.Definitions.{Definitions}
 use Rattle.lexre.specs.Spelling.{Spells}
@@ -64,6 +64,29 @@ Items =
     × Is plain (quote ++ quote) Empty
     × Is plain (quote ++ codes "a" ++ quote) a
     × Is plain (quote ++ codes "ab" ++ quote) ab
+
+-- Classes: `]` as the first element, `-` as the last one and after a range, an escape, `[` and `.` as they stand, and named
+-- classes.
+abbrev pub Classes : Type 0
+Classes =
+    Is plain (codes "[]a]") (Set (2 ^ 93 + 2 ^ 97))
+    × Is plain (codes "[a-]") (Set (2 ^ 45 + 2 ^ 97))
+    × Is plain (codes "[a-c-e]") (Set (2 ^ 45 + 2 ^ 97 + 2 ^ 98 + 2 ^ 99 + 2 ^ 101))
+    × Is plain (codes "[^\\n]") (Set (complement (single 10)))
+    × Is plain (codes "[[.]") (Set (2 ^ 46 + 2 ^ 91))
+    × Is plain (codes "[[:digit:]]") (Set (range_set 48 57))
+    × Is plain (codes "[[:xdigit:]]") (Set (union (range_set 48 57) (union (range_set 65 70) (range_set 97 102))))
+
+-- Escapes: at most two hexadecimal digits and at most three octal ones, `\x` without a digit, and those of C; in quotes they
+-- are the same.
+abbrev pub Escapes : Type 0
+Escapes =
+    Is plain (codes "\\x411") (Cat (trees (letter 65 ∷ letter 49 ∷ [])))
+    × Is plain (codes "\\1011") (Cat (trees (letter 65 ∷ letter 49 ∷ [])))
+    × Is plain (codes "\\x") (letter 120)
+    × Is plain (codes "\\r") (letter 13)
+    × Is plain (codes "\\*") (letter 42)
+    × Is plain (codes "\"a\\\"b\"") (Cat (trees (a ∷ letter 34 ∷ b ∷ [])))
 
 -- `a` and `[A-B]` stand for both cases where that is asked, and `[^a]` for neither
 abbrev pub Folded : Type 0
@@ -139,8 +162,8 @@ Bounds =
     × Is plain (enclosed 64) a
     × IsNone plain (enclosed 65)
 
--- Nothing, an operator or a bar without an item, parentheses without others, an interval whose bounds are out of order or
--- pass 255, a class and a text in quotes without an end, a range that is out of order, and a blank outside quotes.
+-- Nothing, an operator or a bar without an item, parentheses without others, an interval whose bounds are 0, out of order, above
+-- 255 or without the first, a class and a text in quotes without an end, a range that is out of order, and a blank outside quotes.
 abbrev pub Refused : Type 0
 Refused =
     IsNone plain []
@@ -152,7 +175,23 @@ Refused =
     × IsNone plain (codes "()")
     × IsNone plain (codes "a{2,1}")
     × IsNone plain (codes "a{256}")
+    × IsNone plain (codes "a{,2}")
+    × IsNone plain (codes "a{0}")
     × IsNone plain (codes "[a")
     × IsNone plain (quote ++ codes "a")
     × IsNone plain (codes "[c-a]")
     × IsNone plain (codes "a b")
+
+-- A class without an element, a complement without a byte, a name of no class, a class that is negated by its name, a class of
+-- equal letters, a range up to a class, an octal escape above 255, a backslash at the end, and a slash.
+abbrev pub RefusedItems : Type 0
+RefusedItems =
+    IsNone plain (codes "[]")
+    × IsNone plain (codes "[^\\0-\\377]")
+    × IsNone plain (codes "[[:foo:]]")
+    × IsNone plain (codes "[[:^digit:]]")
+    × IsNone plain (codes "[[=a=]]")
+    × IsNone plain (codes "[a-[:digit:]]")
+    × IsNone plain (codes "\\400")
+    × IsNone plain backslash
+    × IsNone plain (codes "a/b")

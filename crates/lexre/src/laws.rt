@@ -4,8 +4,8 @@ ghost use Rattle.lex_semantics.specs.Positions.{Cell, Reads, positions};
 ghost use Rattle.lex_semantics.specs.Tree.{Tree};
 ghost use Rattle.lexre.specs.Cutting.{IsCutting};
 ghost use Rattle.lexre.specs.Definitions.{Definitions};
-ghost use Rattle.lexre.specs.PatternExamples.{Items, Folded, Joined, Operators, OverItems};
-ghost use Rattle.lexre.specs.PatternExamples.{OverSeries, Named, Bounds, Refused};
+ghost use Rattle.lexre.specs.PatternExamples.{Items, Classes, Escapes, Folded, Joined, Operators, OverItems};
+ghost use Rattle.lexre.specs.PatternExamples.{OverSeries, Named, Bounds, Refused, RefusedItems};
 ghost use Rattle.lexre.specs.Readings.{UsesFrom};
 ghost use Rattle.lexre.specs.Spelling.{Spells};
 ghost use Rattle.lexre.specs.declared.options.ReadOptions.{ReadOptions};
@@ -28,10 +28,12 @@ pub fn one_cutting()
         → (end ≡ end') × (first ≡ first') × (two ≡ two') × (special ≡ special') }
 {}
 
-/// Worked examples of patterns: each kind of item, letters for both cases, series and choices, operators, intervals
-/// over items and over series, a name, the bounds, and texts that spell no tree.
+/// Worked examples of patterns: each kind of item, classes and escapes, letters for both cases, series and choices,
+/// operators, intervals over items and over series, a name, the bounds, and texts that spell no tree.
 pub fn examples_of_patterns()
     ensures items { Items }
+    ensures classes { Classes }
+    ensures escapes { Escapes }
     ensures folded { Folded }
     ensures joined { Joined }
     ensures operators { Operators }
@@ -40,4 +42,5 @@ pub fn examples_of_patterns()
     ensures named { Named }
     ensures bounds { Bounds }
     ensures refused { Refused }
+    ensures refused_items { RefusedItems }
 {}

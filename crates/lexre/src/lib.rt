@@ -2,7 +2,7 @@
 //! Expressions in lex; flex, Patterns.)
 //!
 //! The modules, in an order for reading:
-//! - `options`: how patterns are read.
+//! - `options`: how patterns are read, as a value; the reading of intervals depends on it in `stack`.
 //! - `pattern`: trees, whose parts are shared, and marked where no set stands in them.
 //! - `definitions`: names with their substitutes.
 //! - `bounds`: the least and the greatest length, as a value.

@@ -1,13 +1,13 @@
 //! Which rule a text matches, over the bytes that a scan holds or takes, and what its statements do.
 //!
 //! - `last_states`: looks ahead over the bytes held and those that it takes, and keeps the last two states.
-//! - `pick`: finds the longest match by these, or by one more walk, and carries it out.
+//! - `pick`: finds the longest match of a turn by these, or by one more walk, and carries it out.
 //! - `looking`: looks ahead with the state after each byte, where rules have REJECT.
 //! - `descent`: tries the matches from the longest down, up to the first that is not rejected.
 //! - `glanced`: for bursts: a match that is told by its last state, by the one before it or by a short walk, and what
 //!   it does.
 //! - `back`: a match over many bytes that an earlier one asked for, which stops at a mark.
-//! - `front`: the longest match at the front of a text, for callers that walk a machine themselves.
+//! - `front`: the longest match at the front of a text, for callers that walk a machine themselves; no scan uses it.
 //!
 //! It promises lexscan that the match is the machine's, over the bytes held and taken (`specs/Calls`), and that its
 //! actions are carried out as the definitions say. How a match is found may be changed alone, under these records.

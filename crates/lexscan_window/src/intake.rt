@@ -17,7 +17,7 @@ pub struct Intake<'a, S: Source> {
 }
 
 impl<'a, S: Source> Intake<'a, S> {
-    ghost use Rattle.lexscan_window.specs.Intakes.{source_of, source_name, can_read};
+    ghost use Rattle.lexscan_window.specs.Intakes.{source_of, source_name, can_read, sink_of};
 
     /// A source that has not failed or ended here.
     pub fn new(source: &'a mut S) -> Intake<'a, S>
@@ -39,16 +39,19 @@ impl<'a, S: Source> Intake<'a, S> {
         source
     }
 
-    /// The next byte, or none at the end. After the end or a fault the source is not called again.
+    /// The next byte, or none at the end. Where that may have to be waited for, what was put into the sink has been
+    /// handed on. After the end or a fault the source is not called again.
     #[inline]
-    pub fn next(&mut self) -> Result<Option<u8>, ReadFault>
-        requires { can_read self.old ≡ true }
+    pub fn next<K: Sink>(&mut self, outlet: &Outlet<'_, K>) -> Result<Option<u8>, ReadFault>
+        requires live { can_read self.old ≡ true }
+        requires handed_on { S.waits (source_of self.old) ≡ true → K.flushed (sink_of outlet.now) ≡ true }
         ensures same { source_name self.new ≡ source_name self.old }
         ensures byte { S.gave (source_of self.old) (given result) (source_of self.new) }
         ensures ends { S.ends (source_of self.new) ≡ S.ends (source_of self.old) + end_count result }
         ensures failures { S.failures (source_of self.new) ≡ S.failures (source_of self.old) + fault_count result }
         ensures live { can_read self.new ≡ gives_byte result }
     {
+        let _outlet = outlet;
         match self.source.next() {
             Ok(Some(byte)) => Ok(Some(byte)),
             other => {

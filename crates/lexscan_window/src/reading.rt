@@ -37,7 +37,7 @@ fn take_plain<S: Source, K: Sink>(
     if let Err(fault) = tie(intake, outlet) {
         return Err(fault);
     }
-    match intake.next() {
+    match intake.next(outlet) {
         Err(_) => Err(RunError::Read),
         Ok(None) => {
             reading.at_end = true;

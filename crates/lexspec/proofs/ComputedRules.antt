@@ -12,4 +12,4 @@ condition_lists = (refl, refl)
 
 pub actions_cut : Actions
 unfolding take_up_to is_blank action_at action_end after_piece after_string until_quote
-actions_cut = (refl, refl, refl)
+actions_cut = (refl, refl, refl, refl)

@@ -8,9 +8,10 @@ ConditionLists =
     ◌≡◌ {A = Option (Conditions × List ℕ)} (conditions_at (codes "<a,b>x")) (Some (only (codes "a" ∷ codes "b" ∷ []), codes "x"))
     × ◌≡◌ {A = Option (Conditions × List ℕ)} (conditions_at (codes "<*>x")) (Some (every, codes "x"))
 
--- a brace in a comment counts for nothing; one that stays open has no action; a bar alone takes the next action
+-- a brace in a comment or in a string counts for nothing; one that stays open has no action; a bar alone takes the next action
 abbrev pub Actions : Type 0
 Actions =
     ◌≡◌ {A = Option (List ℕ × List ℕ)} (action_at (codes "{ /* } */ ECHO; }")) (Some (codes "{ /* } */ ECHO; }", []))
+    × ◌≡◌ {A = Option (List ℕ × List ℕ)} (action_at (codes "puts(\"{\");\n")) (Some (codes "puts(\"{\");", []))
     × (action_at (codes "{ ECHO;") ≡ None)
     × (action_of (codes "|  ") ≡ None)

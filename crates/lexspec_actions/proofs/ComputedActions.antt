@@ -47,6 +47,7 @@ several_statements = record {
     refl,
   );
   last = ((([], Echo ∷ []) ∷ ([], Reject ∷ []) ∷ [], (codes " REJECT", refl, ([], refl, refl)), balanced (S.says (does Echo) ∷ S.says (does Reject) ∷ []) refl, refl), refl);
+  line_comment = ((([], Echo ∷ []) ∷ [], (codes " // }\n", refl, refl), one_balanced (does Echo), refl), refl);
 }
 
 nothing_first : (text : List ℕ) → next_piece (known false) text ≡ None → (skip text ≡ [] → ⊥) → (ss : List Statement) → SpellsAction (known false) text ss → ⊥
@@ -76,8 +77,15 @@ no_actions = record {
   status = nothing_first (codes "exit(64);") refl (λ e. cc);
   kept = nothing_first (codes "yyless(0);") refl (λ e. cc);
   format = nothing_first (codes "printf(\"%d\");") refl (λ e. cc);
+  nul = nothing_first (codes "puts(\"\\0\");") refl (λ e. cc);
   brace = unlike (codes "{ ECHO;") ((codes "{", []) ∷ ([], Echo ∷ []) ∷ []) (codes " ECHO;", refl, ([], refl, refl)) (λ matched stands. absurd (omega (arith, matched.0)));
   after_end = unlike (codes "exit(1); ECHO;") (([], End 1 ∷ []) ∷ ([], Echo ∷ []) ∷ []) (codes " ECHO;", refl, ([], refl, refl)) (λ matched stands. cc);
+  no_semicolon = nothing_first (codes "ECHO ECHO;") refl (λ e. cc);
+  less_twice = unlike (codes "yyless(1); yyless(2);") (([], Less 1 ∷ []) ∷ ([], Less 2 ∷ []) ∷ []) (codes " yyless(2);", refl, ([], refl, refl)) (λ matched stands. cc);
+  less_and_more = unlike (codes "yyless(1); yymore();") (([], Less 1 ∷ []) ∷ ([], More ∷ []) ∷ []) (codes " yymore();", refl, ([], refl, refl)) (λ matched stands. cc);
+  less_and_reject = unlike (codes "yyless(1); REJECT;") (([], Less 1 ∷ []) ∷ ([], Reject ∷ []) ∷ []) (codes " REJECT;", refl, ([], refl, refl)) (λ matched stands. cc);
+  more_and_reject = unlike (codes "yymore(); REJECT;") (([], More ∷ []) ∷ ([], Reject ∷ []) ∷ []) (codes " REJECT;", refl, ([], refl, refl)) (λ matched stands. cc);
+  after_reject = unlike (codes "REJECT; ECHO;") (([], Reject ∷ []) ∷ ([], Echo ∷ []) ∷ []) (codes " ECHO;", refl, ([], refl, refl)) (λ matched stands. cc);
   stack = nothing_first (codes "yy_pop_state();") refl (λ e. cc);
 }
 

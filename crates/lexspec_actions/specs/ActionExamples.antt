@@ -29,20 +29,29 @@ pub record EachStatement : Type 0 where
   pub push : SpellsAction (known true) (codes "yy_push_state(A);") (Push 1 ∷ [])
   pub pop : SpellsAction (known true) (codes "yy_pop_state();") (Pop ∷ [])
 
--- nothing; literals in a row, with braces and a comment; a semicolon that is absent at the end
+-- nothing; literals in a row, with braces and a comment; a semicolon that is absent at the end; a comment to the end of its line
 pub record SeveralStatements : Type 0 where
   pub none : Says (codes " ;") []
   pub joined : Says (codes "{ puts(\"a\"); /* b */ printf(\"%%c\") }") (Print (codes "a\n%c") ∷ [])
   pub last : Says (codes "ECHO; REJECT") (Echo ∷ Reject ∷ [])
+  pub line_comment : Says (codes "ECHO; // }\n") (Echo ∷ [])
 
--- a status above 63; no byte kept; a sign of printf's that is none of these; a brace that stays open; something after the
--- end; a statement of the stack without the option
+-- a status above 63; no byte kept; a sign of printf's that is none of these; a NUL by an escape; a brace that stays open; something
+-- after the end; no semicolon between statements; two of yyless, yymore and REJECT, each of which says what becomes of the text;
+-- a statement of the stack without the option
 pub record NoActions : Type 0 where
   pub status : SaysNothing (codes "exit(64);")
   pub kept : SaysNothing (codes "yyless(0);")
   pub format : SaysNothing (codes "printf(\"%d\");")
+  pub nul : SaysNothing (codes "puts(\"\\0\");")
   pub brace : SaysNothing (codes "{ ECHO;")
   pub after_end : SaysNothing (codes "exit(1); ECHO;")
+  pub no_semicolon : SaysNothing (codes "ECHO ECHO;")
+  pub less_twice : SaysNothing (codes "yyless(1); yyless(2);")
+  pub less_and_more : SaysNothing (codes "yyless(1); yymore();")
+  pub less_and_reject : SaysNothing (codes "yyless(1); REJECT;")
+  pub more_and_reject : SaysNothing (codes "yymore(); REJECT;")
+  pub after_reject : SaysNothing (codes "REJECT; ECHO;")
   pub stack : SaysNothing (codes "yy_pop_state();")
 
 -- an end action prints, and ends the scan

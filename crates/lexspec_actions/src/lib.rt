@@ -5,7 +5,7 @@
 //! - `condition`: a start condition as a value, and its number by its name.
 //! - `statement`: what a call of the text says, and how it is put behind others in normal form.
 //! - `bytes`: blanks, comments, names, numbers and strings of an action.
-//! - `format`: the format of printf.
+//! - `format`: the `%s` and `%%` of a string of printf, which `bytes` has read.
 //! - `calls`: one statement, by its first word and its arguments.
 //! - `legal`: which statements may stand in one action.
 //! - `action`: the action of a rule, and that of an `<<EOF>>` rule.

@@ -14,8 +14,9 @@
 //! It promises that what is answered is what the lines declare. A refusal means that they declare nothing, unless
 //! memory ran out, and it names the first line that is at fault.
 //!
-//! A new line or option of the definitions section is a change of `definition` and `specs/DefinitionLines` alone, and
-//! of what it declares. Lines, blanks and blocks are read by lexspec too, by the same functions.
+//! A new line of the definitions section is a change of `definition` and `specs/DefinitionLines` alone, and of what it
+//! declares. A new option is one of `declarations`, `specs/DefinitionLines` and `specs/Declaring`. Lines, blanks and
+//! blocks are read by lexspec too, by the same functions.
 //!
 //! Decided here:
 //! - Lines end where bstr finds a newline. A carriage return before a newline is dropped first, in one pass over the

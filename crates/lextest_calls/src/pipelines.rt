@@ -108,12 +108,13 @@ const PARTS: &[Piece] = &[
     },
 ];
 
-/// Each line is answered by three bytes: by a rule that is told at a glance, by REJECT, by yyless, and in another
-/// condition.
+/// Each line is answered by three bytes: by a rule that is told at a glance, by REJECT, by yyless and in another
+/// condition, and with a text that yymore keeps.
 const FILTERS: &[&[u8]] = &[
     b"%%\n[a-z]+\\n printf(\"ok\\n\");\n",
     b"%%\n[a-z]+\\n REJECT;\n[a-z]+\\n printf(\"ok\\n\");\n",
     b"%x L\n%%\n[a-z] yyless(1); BEGIN(L);\n<L>[a-z]*\\n printf(\"ok\\n\"); BEGIN(INITIAL);\n",
+    b"%%\n[a-z] yymore();\n\\n printf(\"ok\\n\");\n",
 ];
 
 /// Whether some piece was asked for before all was written that the pieces before it bring. A table file, if there is

@@ -122,6 +122,10 @@ const SCANS: &[Scan] = &[
     ),
 ];
 
+/// How many rules each of these has, and how many warnings: of the last its skipped code is told twice, and the rule
+/// that the one before it takes all texts of.
+const COUNTS: &[(usize, usize)] = &[(5, 0), (3, 0), (1, 0), (2, 3)];
+
 /// Whether the fault of a specification says that memory ran out, in the words of its layer.
 fn is_want_of_memory(error: GenError) -> bool {
     match error {
@@ -135,12 +139,15 @@ fn is_want_of_memory(error: GenError) -> bool {
     }
 }
 
-/// Tables are made, or memory ran out.
+/// Tables are made, with their lines and warnings, or memory ran out.
 #[test]
 fn refused_generate(rt: HostRuntime) -> Result<(), Fail> {
-    for &(text, ..) in SCANS {
+    for (&(text, ..), &(rules, warned)) in SCANS.iter().zip(COUNTS) {
         match generate(rt.alloc(), text, Options::new()) {
-            Ok(_) => {}
+            Ok(generated) => {
+                assert!(rt; generated.made.rule_lines.len() == rules);
+                assert!(rt; generated.made.warnings.len() == warned);
+            }
             Err(error) => {
                 assert!(rt; is_want_of_memory(error), "{error:?}");
                 return Err(error)?;

@@ -2,7 +2,8 @@
 ghost use Rattle.std.specs.Prelude.{◌≡◌, ◌^◌, ℕ, ◌+◌, ◌*◌, ◌/◌, ◌%◌, ◌++◌, ◌∷◌};
 ghost use Rattle.std.specs.Prelude.{◌<◌, ◌≤◌, List, [], length, slice_index, IfOk, OnOk};
 ghost use Rattle.lexauto_dfa.specs.Sources.{IsRow};
-ghost use Rattle.lexauto_dfa.specs.Numbers.{AreCalled, AreNumbers, AreRows, AreStarts, Grown, IsNumberOf, Keeps};
+ghost use Rattle.lexauto_dfa.specs.Numbers.{AreCalled, AreNumbers, AreRows, AreStarts, Grown, HasRows, IsNumberOf};
+ghost use Rattle.lexauto_dfa.specs.Numbers.{Keeps, RowAdded};
 
 use std::alloc::{AllocError, Global};
 
@@ -83,21 +84,12 @@ fn number_row(
     table: &[u32],
     rows: &mut Vec<u32>,
 ) -> Result<(), AllocError>
-    requires len { length table.now ≡ 256 * length classes.now }
-    requires table { (i : ℕ) → i < length table.now → slice_index table.now i < length classes.now }
-    requires few { length classes.now < 2 ^ 32 }
-    requires classes { IsRow classes.now }
+    requires has_rows { HasRows classes.now table.now }
     requires numbers { AreNumbers classes.now numbers.old }
     requires whole { length rows.old.items % 256 ≡ 0 }
     requires next { length rows.old.items / 256 < length numbers.old.members.items }
     requires rows { AreRows classes.now table.now numbers.old.members.items rows.old.items }
-    ensures numbers { OnOk result (AreNumbers classes.now numbers.new) }
-    ensures len { OnOk result (length rows.new.items ≡ length rows.old.items + 256) }
-    ensures rows { OnOk result (AreRows classes.now table.now numbers.new.members.items rows.new.items) }
-    ensures called { OnOk result ((starts : List ℕ)
-        → AreCalled (length starts) numbers.old.members.items (starts ++ rows.old.items)
-        → AreCalled (length starts) numbers.new.members.items (starts ++ rows.new.items)) }
-    ensures keeps { OnOk result (Keeps numbers.old.members.items numbers.new.members.items) }
+    ensures { OnOk result (RowAdded classes.now table.now numbers.old numbers.new rows.old.items rows.new.items) }
 {
     let member = numbers.members[rows.len() / 256] as usize;
     for target in &table[member * 256..member * 256 + 256] {

@@ -24,3 +24,12 @@ returns-clause-later_rule_as_long c = Example.later_rule_as_long
 
 pub returns-clause-one_by_one : goal.returns-clause-one_by_one
 returns-clause-one_by_one c = Example.one_by_one
+
+pub returns-clause-reject_keeps_more : goal.returns-clause-reject_keeps_more
+returns-clause-reject_keeps_more c = Example.reject_keeps_more
+
+pub returns-clause-echo_after_less : goal.returns-clause-echo_after_less
+returns-clause-echo_after_less c = Example.echo_after_less
+
+pub returns-clause-less_of_a_shorter_text : goal.returns-clause-less_of_a_shorter_text
+returns-clause-less_of_a_shorter_text c = Example.less_of_a_shorter_text

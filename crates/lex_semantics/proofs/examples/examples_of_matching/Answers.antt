@@ -24,3 +24,6 @@ returns-clause-folded_before_negated c = Example.folded_before_negated
 
 pub returns-clause-ordinary_dollar : goal.returns-clause-ordinary_dollar
 returns-clause-ordinary_dollar c = Example.ordinary_dollar
+
+pub returns-clause-context_counts : goal.returns-clause-context_counts
+returns-clause-context_counts c = Example.context_counts

@@ -18,3 +18,9 @@ returns-clause-exclusive c = Example.exclusive
 
 pub returns-clause-inclusive : goal.returns-clause-inclusive
 returns-clause-inclusive c = Example.inclusive
+
+pub returns-clause-line_of_the_match : goal.returns-clause-line_of_the_match
+returns-clause-line_of_the_match c = Example.line_of_the_match
+
+pub returns-clause-reject_keeps_begin : goal.returns-clause-reject_keeps_begin
+returns-clause-reject_keeps_begin c = Example.reject_keeps_begin

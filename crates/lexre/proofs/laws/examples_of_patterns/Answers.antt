@@ -27,3 +27,12 @@ returns-clause-bounds c = Computed.bounds
 
 pub returns-clause-refused : goal.returns-clause-refused
 returns-clause-refused c = Computed.refused
+
+pub returns-clause-classes : goal.returns-clause-classes
+returns-clause-classes c = Computed.classes
+
+pub returns-clause-escapes : goal.returns-clause-escapes
+returns-clause-escapes c = Computed.escapes
+
+pub returns-clause-refused_items : goal.returns-clause-refused_items
+returns-clause-refused_items c = Computed.refused_items
