@@ -52,7 +52,7 @@ pub use lexspec::{
 };
 pub use lextab::{
     ByteWriter, Cut, EndAction, Flat, Machine, MemorySink, Plain, Sink, Statement, TableError,
-    Tables, ToBytes, ToWrite, WriteFault, read_tables, write_tables,
+    Tables, ToBytes, ToWrite, WriteFault, read_flat, read_tables, write_tables,
 };
 pub use making::{
     Generated, Least, Made, generate, generate_tables, least_automaton, lines_of, read_text,

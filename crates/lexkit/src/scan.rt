@@ -19,7 +19,7 @@ use crate::options::Options;
 use lexauto::Limits;
 use lexscan::{Source, run};
 use lexspec::Spec;
-use lextab::{Flat, Sink, TableError, Tables, pack, read_tables};
+use lextab::{Flat, Sink, TableError, Tables, pack, read_flat};
 use std::alloc::Global;
 
 /// How many reads a scan makes at most: 2^40.
@@ -172,12 +172,8 @@ pub fn scan_table<S: Source, K: Sink>(
     ensures not_failed { IsErrOf result (ScanError.Run Failed) → ⊥ }
     ensures handed_on { HandedOn (K.flushed sink.new) result }
 {
-    let tables = match read_tables(alloc, bytes) {
+    let flat = match read_flat(alloc, bytes) {
         Err(error) => return Err(ScanError::Table(error)),
-        Ok(tables) => tables,
-    };
-    let flat = match Flat::new(alloc, tables) {
-        Err(_) => return Err(ScanError::Table(TableError::OutOfMemory)),
         Ok(flat) => flat,
     };
     match run(alloc, &flat, source, sink, MAX_READS) {

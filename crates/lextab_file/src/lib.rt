@@ -9,7 +9,7 @@
 //!   have a part each, in the order of the file.
 //! - `inverse`: the inverse transitions of a table, as chains.
 //! - `live`: which states are live: some text that is not empty leads from them to one that accepts.
-//! - `tables`: `read_tables`, which adds which states are live.
+//! - `tables`: `read_tables`, which adds which states are live, and `read_flat`, which lays the table flat for a scan.
 //! - `laws`: tables and their files are one to one.
 //!
 //! It promises that what is written is the table's file, and that what is read is a table's file and all of it. A
@@ -45,5 +45,5 @@ mod writing;
 pub use error::TableError;
 pub use laws::{examples_of_files, one_table};
 pub use live::live_states;
-pub use tables::read_tables;
+pub use tables::{read_flat, read_tables};
 pub use writing::write_tables;

@@ -1,6 +1,8 @@
 -- What is known of each state's first rule.
 use Rattle.std.proofs.Common.{◌≡◌, ℕ, zero, suc, ◌+◌, ◌-◌, ◌<◌, ◌≤◌, Bool, true, false, List, [], ◌∷◌, ◌++◌, length, cond, Some, None, inl, inr, refl, sym, ap, subst, ◌∙◌, arith}
 use Rattle.std.specs.Prelude.{slice_get, slice_index, map, ⊤}
+use Rattle.std.proofs.Common.{length-set, slice_set}
+use Rattle.std.proofs.lemmas.List.{get_or-set_same, get_or-set_other}
 use Rattle.std.proofs.lemmas.Bool.{cases_lt}
 use Rattle.lex_semantics.specs.Spec as S
 use Rattle.lex_semantics.specs.Machine.{Machine}
@@ -161,3 +163,14 @@ module _ (M : Machine) (s r : ℕ) (low : s ≤ 8192) where
   marks_other (Print rule) m le = omega (arith, m)
   marks_other (Begin c) m le = omega (arith, m)
   marks_other (Several rule) m le = omega (arith, m)
+
+-- one place more is changed: those up to it are f's, and those after it are g's
+pub set_one : (f g : ℕ → ℕ) (xs : List ℕ) (n y : ℕ) → n < length xs → y ≡ f n → ((k : ℕ) → k < n → slice_index xs k ≡ f k) → ((k : ℕ) → n ≤ k → k < length xs → slice_index xs k ≡ g k) →
+    ((k : ℕ) → k < n + 1 → slice_index (slice_set xs n y) k ≡ f k) × ((k : ℕ) → n + 1 ≤ k → k < length (slice_set xs n y) → slice_index (slice_set xs n y) k ≡ g k)
+set_one f g xs n y inside is before after = (
+  λ k lt. elim (cases_lt k n) [
+    | inl low ↦ get_or-set_other xs n k y 0 (λ e. absurd (omega (arith, e, low))) ∙ before k low
+    | inr high ↦ (let e : n ≡ k = omega (arith, lt, high) in subst (λ i. slice_index (slice_set xs n y) i ≡ f i) e (get_or-set_same xs n y 0 inside ∙ is))
+  ],
+  λ k low lt. get_or-set_other xs n k y 0 (λ e. absurd (omega (arith, e, low))) ∙ after k (omega (arith, low)) (omega (arith, lt, length-set xs n y)),
+)

@@ -3,7 +3,12 @@ use Rattle.std.specs.Prelude.{ℕ, ◌+◌, ◌*◌, ◌^◌, Bool, true, false,
 use Rattle.lex_semantics.specs.Spec as S
 use Rattle.lex_semantics.specs.Machine.{Machine}
 use Rattle.lex_machine.specs.Glances.{are_simple}
+use Rattle.lex_semantics.specs.Text.{flag}
+use Rattle.lextab_packed.specs.Machines.{table_machine}
+use Rattle.lextab_packed.specs.Steps.{step_of}
+use Rattle.lextab_packed.specs.Views.{table_of}
 use Rattle.lextab_packed.specs.declared.kinds.Kind.{Kind}
+use Rattle.lextab_packed.specs.declared.tables.Tables.{Tables}
 use Rattle.lextab_packed.specs.declared.kinds.Kind.TheVariants.{Any, NoRule, Silent, Echo, Print, Begin, Several}
 
 -- what a rule does, where it keeps all of a match and does this
@@ -37,3 +42,8 @@ stop_of other = 2 ^ 31 + 3 * 2 ^ 20
 abbrev pub marked : Bool → Kind → ℕ → ℕ
 marked true kind s = 256 * s
 marked false kind s = stop_of kind + s
+
+-- the marked target of a state by a byte
+abbrev pub marked_target : Tables → ℕ → ℕ → ℕ
+marked_target t s b =
+    let next = step_of (table_of t.parts) s b in marked (flag t.goes_on.items next) (kind_of (table_machine t) next) next

@@ -7,3 +7,4 @@ pub mod Machines
 pub mod Flats
 pub mod FlatViews
 pub mod Runs
+pub mod Leaps

@@ -10,3 +10,10 @@ pub record IsRun (M : Machine) (s : ℕ) (bytes : List ℕ) (start end : ℕ) : 
   pub stays : (i : ℕ) → start ≤ i → i < end → M.next s (slice_index bytes i) ≡ s
   pub goes_on : start < end → M.goes_on s ≡ true
   pub leaves : end < length bytes → M.goes_on s ≡ true → M.next s (slice_index bytes end) ≡ s → ⊥
+
+-- The same, and nothing is said of the byte after them.
+pub record Stays (M : Machine) (s : ℕ) (bytes : List ℕ) (start end : ℕ) : Type 0 where
+  pub order : start ≤ end
+  pub inside : end ≤ length bytes
+  pub stays : (i : ℕ) → start ≤ i → i < end → M.next s (slice_index bytes i) ≡ s
+  pub goes_on : start < end → M.goes_on s ≡ true

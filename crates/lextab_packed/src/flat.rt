@@ -1,21 +1,26 @@
 //! Packed tables with a row of 256 targets for each state, so that a step is one look-up.
 ghost use Rattle.std.specs.Prelude.{◌≡◌, ℕ, ◌+◌, ◌*◌, ◌<◌, ◌≤◌, true, false};
-ghost use Rattle.std.specs.Prelude.{length, slice_index, slice_get, Some, IfOk};
+ghost use Rattle.std.specs.Prelude.{length, slice_index, slice_get, get_or, Some, None, IfOk};
+ghost use Rattle.std.specs.Option.{ForSome};
 ghost use Rattle.lex_machine.specs.Glances.{Leads, Gists};
 ghost use Rattle.lex_semantics.specs.Limits.{max_states};
-ghost use Rattle.lex_semantics.specs.Text.{flag};
-ghost use Rattle.lextab_packed.specs.Flats.{marked, kind_of};
-ghost use Rattle.lextab_packed.specs.Runs.{IsRun};
+ghost use Rattle.lextab_packed.specs.Flats.{marked, marked_target, kind_of};
+ghost use Rattle.lextab_packed.specs.Leaps.{OthersStay};
+ghost use Rattle.lextab_packed.specs.Runs.{Stays, IsRun};
 ghost use Rattle.lextab_packed.specs.declared.kinds.Kind.{Kind};
 ghost use Rattle.lextab_packed.specs.Steps.{step_of};
 ghost use Rattle.lextab_packed.specs.Views.{table_of};
-ghost use Rattle.lextab_packed.specs.Machines.{table_machine, states_of, laws_of, below_of};
+ghost use Rattle.lextab_packed.specs.Machines.{table_machine, table_parts, states_of, laws_of, below_of};
 
 use crate::kinds::{Kind, kinds_of};
-use crate::steps::{STOP, STOP_ECHO, STOP_OTHER, STOP_SILENT, marked_rows};
+use crate::leaps::{Leavers, leaps_of, pass_over};
+use crate::steps::{STOP, STOP_ECHO, STOP_OTHER, STOP_SILENT, flat_rows, mark_rows};
 use crate::tables::Tables;
 use lex_machine::{Cut, EndAction, Gist, Machine, Statement, Way};
 use std::alloc::{AllocError, Global};
+
+/// How many bytes of a run are tried one by one.
+const NEAR: usize = 16;
 
 /// Packed tables, and 1 KB of marked targets for each state. It is the same machine. No reader takes memory.
 #[derive(Drop)]
@@ -23,14 +28,16 @@ pub struct Flat {
     pub(crate) tables: Tables,
     rows: Vec<u32>,
     kinds: Vec<Kind>,
+    leaps: Vec<Option<Leavers>>,
     ghost sizes: { length rows.items ≡ 256 * length tables.parts.rows.items },
     ghost targets: { (s b : ℕ) → s < length tables.parts.rows.items → b < 256
-        → slice_index rows.items (256 * s + b) ≡ marked
-        (flag tables.goes_on.items (step_of (table_of tables.parts) s b))
-        (kind_of (table_machine tables) (step_of (table_of tables.parts) s b)) (step_of (table_of tables.parts) s b) },
+        → slice_index rows.items (256 * s + b) ≡ marked_target tables s b },
     ghost column: { length kinds.items ≡ length tables.parts.rows.items },
     ghost told: { (s : ℕ) → s < length tables.parts.rows.items
         → slice_get kinds.items s ≡ Some (kind_of (table_machine tables) s) },
+    ghost leap_column: { length leaps.items ≡ length tables.parts.rows.items },
+    ghost leap_told: { (s : ℕ) → s < length tables.parts.rows.items
+        → ForSome (get_or leaps.items s None) (λ leavers. OthersStay rows.items (256 * s) leavers) },
 }
 
 impl Flat {
@@ -41,12 +48,26 @@ impl Flat {
         ensures machine { IfOk result (λ f. table_machine (tables_of f) ≡ table_machine tables) }
         ensures states { IfOk result (λ f. states_of (tables_of f) ≡ states_of tables) }
     {
+        let rows = flat_rows(alloc, &tables.parts)?;
+        Flat::of_rows(alloc, tables, rows)
+    }
+
+    /// The same by rows that were laid out before: the state after each byte, 256 to a state.
+    pub fn of_rows(alloc: Global, tables: Tables, rows: Vec<u32>) -> Result<Flat, AllocError>
+        requires len { length rows.items ≡ 256 * length (table_parts tables).rows.items }
+        requires steps { (s b : ℕ) → s < length (table_parts tables).rows.items → b < 256
+            → slice_index rows.items (256 * s + b) ≡ step_of (table_of (table_parts tables)) s b }
+        ensures { IfOk result (λ f. tables_of f ≡ tables) }
+    {
         let kinds = kinds_of(alloc, &tables)?;
-        let rows = marked_rows(alloc, &tables, &kinds)?;
+        let mut rows = rows;
+        mark_rows(&tables, &kinds, &mut rows);
+        let leaps = leaps_of(alloc, &rows, kinds.len())?;
         Ok(Flat {
             tables,
             rows,
             kinds,
+            leaps,
         })
     }
 
@@ -55,9 +76,7 @@ impl Flat {
     fn target(&self, place: u32, byte: u8) -> u32
         requires { (s : ℕ) × (s < states_of self.now.tables) × (place ≡ 256 * s) }
         ensures { (s : ℕ) → place ≡ 256 * s → s < states_of self.now.tables
-            → result ≡ marked (flag self.now.tables.goes_on.items (step_of (table_of self.now.tables.parts) s byte))
-            (kind_of (table_machine self.now.tables) (step_of (table_of self.now.tables.parts) s byte))
-            (step_of (table_of self.now.tables.parts) s byte) }
+            → result ≡ marked_target self.now.tables s byte }
     {
         self.rows[place as usize + usize::from(byte)]
     }
@@ -70,7 +89,40 @@ impl Flat {
         ensures { (s : ℕ) → place ≡ 256 * s → s < states_of self.now.tables
             → IsRun (table_machine self.now.tables) s bytes.now start result }
     {
+        let near = start + (bytes.len() - start).min(NEAR);
         let mut end = start;
+        'run: while end < near && self.target(place, bytes[end]) == place {
+            end += 1;
+        }
+        if end < near {
+            return end;
+        }
+        self.far_end(place, bytes, end)
+    }
+
+    /// The end of some of the bytes of such a run, which are found many at a time where few bytes lead away from the state.
+    #[inline(always)]
+    fn leap_end(&self, place: u32, bytes: &[u8], start: usize) -> usize
+        requires place { (s : ℕ) × (s < states_of self.now.tables) × (place ≡ 256 * s) }
+        requires start { start ≤ length bytes.now }
+        ensures { (s : ℕ) → place ≡ 256 * s → s < states_of self.now.tables
+            → Stays (table_machine self.now.tables) s bytes.now start result }
+    {
+        match self.leaps[(place / 256) as usize] {
+            Some(leavers) => pass_over(leavers, bytes, start),
+            None => start,
+        }
+    }
+
+    /// The same for a run that may be a long one.
+    #[inline(never)]
+    fn far_end(&self, place: u32, bytes: &[u8], start: usize) -> usize
+        requires place { (s : ℕ) × (s < states_of self.now.tables) × (place ≡ 256 * s) }
+        requires start { start ≤ length bytes.now }
+        ensures { (s : ℕ) → place ≡ 256 * s → s < states_of self.now.tables
+            → IsRun (table_machine self.now.tables) s bytes.now start result }
+    {
+        let mut end = self.leap_end(place, bytes, start);
         'run: while end < bytes.len() && self.target(place, bytes[end]) == place {
             end += 1;
         }

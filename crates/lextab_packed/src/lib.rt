@@ -7,6 +7,7 @@
 //! - `steps`: the state after one byte more, and rows of 256 targets for each state.
 //! - `machine`: what a table answers a scanner.
 //! - `kinds`: what is known of the first rule that each state accepts.
+//! - `leaps`: states that at most three bytes lead away from; runs of the others are passed 16 bytes at a time.
 //! - `flat`: a table with a row of 256 marked targets for each state, so that a step is one look-up. It is the machine
 //!   of a scan.
 //!
@@ -17,6 +18,8 @@
 //! Decided here:
 //! - Check and next are two columns. In the code the slots are two lists of numbers, as a step wants them. In the
 //!   definitions and in the file they are pairs.
+//! - A run at a state is looked at byte by byte first, since most are short. After 16 bytes it is passed in steps of 16, if
+//!   few bytes lead away from the state.
 //! - A flat row takes 1 KB a state, at most 8.4 MB for 8,192 states. The packed tables stay beside it, for the rules
 //!   and the conditions. A target at which the machine stops is marked with what its first rule does; any other is the
 //!   place of its row.
@@ -24,6 +27,7 @@
 
 mod flat;
 mod kinds;
+mod leaps;
 mod machine;
 mod parts;
 mod steps;

@@ -1,8 +1,7 @@
 //! How a table goes from state to state.
 ghost use Rattle.std.specs.Prelude.{◌≡◌, ℕ, ◌+◌, ◌*◌, ◌^◌, ◌<◌, ◌≤◌, length, slice_index, slice_get, Some, IfOk};
 ghost use Rattle.lex_semantics.specs.Limits.{max_states};
-ghost use Rattle.lex_semantics.specs.Text.{flag};
-ghost use Rattle.lextab_packed.specs.Flats.{marked, stop_of, kind_of};
+ghost use Rattle.lextab_packed.specs.Flats.{marked, marked_target, stop_of, kind_of};
 ghost use Rattle.lextab_packed.specs.Machines.{table_machine, states_of};
 ghost use Rattle.lextab_packed.specs.Checks.{IsTable};
 ghost use Rattle.lextab_packed.specs.Steps.{step_of};
@@ -80,29 +79,21 @@ fn mark(state: u32, kind: Kind, goes_on: bool) -> u32
     }
 }
 
-/// The marked state after each byte, 256 to a state: the row of state 0, then that of state 1, and so on.
-pub(crate) fn marked_rows(
-    alloc: Global,
-    tables: &Tables,
-    kinds: &[Kind],
-) -> Result<Vec<u32>, AllocError>
+/// Marks the targets of rows, each in its place.
+pub(crate) fn mark_rows(tables: &Tables, kinds: &[Kind], rows: &mut Vec<u32>)
     requires kinds { length kinds.now ≡ states_of tables.now }
     requires told { (s : ℕ) → s < states_of tables.now
         → slice_get kinds.now s ≡ Some (kind_of (table_machine tables.now) s) }
-    ensures len { IfOk result (λ v. length v.items ≡ 256 * length tables.now.parts.rows.items) }
-    ensures each { IfOk result (λ v. (s b : ℕ) → s < length tables.now.parts.rows.items → b < 256
-        → slice_index v.items (256 * s + b)
-        ≡ marked (flag tables.now.goes_on.items (step_of (table_of tables.now.parts) s b))
-        (kind_of (table_machine tables.now) (step_of (table_of tables.now.parts) s b))
-        (step_of (table_of tables.now.parts) s b)) }
+    requires len { length rows.old.items ≡ 256 * length tables.now.parts.rows.items }
+    requires steps { (s b : ℕ) → s < length tables.now.parts.rows.items → b < 256
+        → slice_index rows.old.items (256 * s + b) ≡ step_of (table_of tables.now.parts) s b }
+    ensures len { length rows.new.items ≡ 256 * length tables.now.parts.rows.items }
+    ensures each { (s b : ℕ) → s < length tables.now.parts.rows.items → b < 256
+        → slice_index rows.new.items (256 * s + b) ≡ marked_target tables.now s b }
 {
-    let parts = &tables.parts;
-    let places = 256 * parts.rows.len();
-    let mut rows = Vec::with_capacity(alloc, places)?;
-    for place in 0..places {
-        let state = target(parts, (place / 256) as u32, (place % 256) as u8);
+    for place in 0..rows.len() {
+        let state = rows[place];
         let goes_on = tables.goes_on[state as usize];
-        rows.push(mark(state, kinds[state as usize], goes_on))?;
+        rows[place] = mark(state, kinds[state as usize], goes_on);
     }
-    Ok(rows)
 }

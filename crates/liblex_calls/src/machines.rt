@@ -5,7 +5,7 @@ ghost use Rattle.lextab_packed.specs.Machines.{table_machine};
 ghost use Rattle.lexkit.specs.Headline.{TableRefusal};
 ghost use Rattle.liblex_calls.specs.Progress.{IsMachineOf};
 
-use lexkit::{Flat, TableError, read_tables};
+use lexkit::{Flat, TableError, read_flat};
 use std::alloc::Global;
 
 /// The machine of the table whose file this is, laid flat. Bytes that are no table file are refused.
@@ -13,9 +13,6 @@ pub(crate) fn flat_of(alloc: Global, file: &[u8]) -> Result<Flat, TableError>
     ensures found { IfOk result (λ f. IsMachineOf file.now (table_machine (tables_of f))) }
     ensures refused { IfErr result (TableRefusal file.now) }
 {
-    let tables = read_tables(alloc, file)?;
-    match Flat::new(alloc, tables) {
-        Err(_) => Err(TableError::OutOfMemory),
-        Ok(flat) => Ok(flat),
-    }
+    let flat = read_flat(alloc, file)?;
+    Ok(flat)
 }
