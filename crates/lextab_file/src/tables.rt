@@ -1,12 +1,12 @@
 //! Reads packed tables.
-ghost use Rattle.std.specs.Prelude.{◌≡◌, ◌<◌, ℕ, List, length, map, nat_lt, ◌++◌, IfOk, IfErr, true, false};
+ghost use Rattle.std.specs.Prelude.{◌≡◌, ◌<◌, ℕ, List, length, map, nat_lt, ◌++◌, IfOk, IfErr, Some, true, false};
 ghost use Rattle.lextab_packed.specs.Table.{Table};
 ghost use Rattle.lextab_packed.specs.Checks.{IsTable};
 ghost use Rattle.lextab_packed.specs.Invariant.{GoesOn};
 ghost use Rattle.lextab_packed.specs.Machines.{table_parts};
 ghost use Rattle.lextab_packed.specs.Views.{table_of};
 ghost use Rattle.lextab_file.specs.File.{file_of, IsFileOf};
-ghost use Rattle.lextab_file.specs.Refusals.{is_out_of_memory, is_trailing};
+ghost use Rattle.lextab_file.specs.Refusals.{is_out_of_memory, is_trailing, refusal_of};
 
 use crate::error::TableError;
 use crate::live::live_states;
@@ -42,6 +42,8 @@ fn going_on(alloc: Global, parts: &TableParts) -> Result<Vec<bool>, AllocError>
 pub fn read_tables(alloc: Global, bytes: &[u8]) -> Result<Tables, TableError>
     // The bytes are the table's file.
     ensures found { IfOk result (λ tables. IsFileOf (table_of (table_parts tables)) bytes.now) }
+    // Unless memory ran out, it is the fault of the first field that is not as it must be, with that field's offset.
+    ensures refused { IfErr result (λ e. is_out_of_memory e ≡ false → refusal_of bytes.now ≡ Some e) }
     // Unless memory ran out, the bytes are no table's file.
     ensures none { IfErr result (λ e. is_out_of_memory e ≡ false → (t : Table) → IsFileOf t bytes.now → ⊥) }
     // A proper prefix of the bytes is a table's file.
