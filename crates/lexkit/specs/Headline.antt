@@ -1,6 +1,6 @@
 -- What a scan by the text of a specification leaves. (What is written is that of POSIX and flex; what is taken from the source,
 -- the limits and the refusals are this project's.)
-use Rattle.std.specs.Prelude.{◌≡◌, ℕ, ◌+◌, ◌<◌, ◌≤◌, Bool, false, cond, List, length, Result, Ok, Err, ⊤, slice_index_or}
+use Rattle.std.specs.Prelude.{◌≡◌, ℕ, ◌+◌, ◌<◌, ◌≤◌, Bool, false, cond, List, length, Result, Ok, Err, Some, ⊤, slice_index_or}
 use Rattle.lex_semantics.specs.Spec.{Spec}
 use Rattle.lex_semantics.specs.Rules.{Rules, rules_of}
 use Rattle.lex_semantics.specs.Machine.{rules_of_machine}
@@ -8,6 +8,7 @@ use Rattle.lextab_packed.specs.Table.{Table}
 use Rattle.lextab_packed.specs.Steps.{machine_of_table}
 use Rattle.lextab_packed.specs.Invariant.{GoesOn}
 use Rattle.lextab_file.specs.File.{IsFileOf}
+use Rattle.lextab_file.specs.Refusals.{is_out_of_memory, refusal_of}
 use Rattle.lextab_file.specs.declared.error.TableError.TheVariants as errors
 use Rattle.lextab_file.specs.declared.error.TableError.{TableError}
 use Rattle.lex_semantics.specs.Subsets.{Subsets, all_positions}
@@ -56,6 +57,11 @@ Refusal options text gens.OutOfMemory = ⊤
 abbrev pub TableRefusal : List ℕ → TableError → Type 0
 TableRefusal bytes errors.OutOfMemory = ⊤
 TableRefusal bytes e = (t : Table) → IsFileOf t bytes → ⊥
+
+-- of bytes that are refused the fault is told that comes first from the left
+abbrev pub TellsFault : List ℕ → ScanError → Type 0
+TellsFault bytes (scans.Table e) = is_out_of_memory e ≡ false → refusal_of bytes ≡ Some e
+TellsFault bytes other = ⊤
 
 -- What the calls of the source from s to s' give, and what those of the sink from t to t' write; whether the source has answered its
 -- end, and how often it failed.

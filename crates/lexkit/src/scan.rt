@@ -1,8 +1,8 @@
 //! One scan, by a specification's text or a table file.
-ghost use Rattle.std.specs.Prelude.{◌≡◌, ℕ, ◌+◌, ◌-◌, ◌^◌, ◌<◌, ◌≤◌, List, Ok, nat_lt, IsErrOf};
+ghost use Rattle.std.specs.Prelude.{◌≡◌, ℕ, ◌+◌, ◌-◌, ◌^◌, ◌<◌, ◌≤◌, List, Ok, nat_lt, IfErr, IsErrOf};
 ghost use Rattle.lexspec.specs.Views.{spec_of};
 ghost use Rattle.lexscan_window.specs.declared.error.RunError.TheVariants.{Failed};
-ghost use Rattle.lexkit.specs.Headline.{Headline, IsWithin, ScansBy, TableHeadline};
+ghost use Rattle.lexkit.specs.Headline.{Headline, IsWithin, ScansBy, TableHeadline, TellsFault};
 ghost use Rattle.lexkit.specs.Generated.{HasTables};
 ghost use Rattle.lexkit.specs.declared.options.Options.{Options as Asked};
 ghost use Rattle.lexkit.specs.ScanCounts.{HandedOn, read_faults, write_faults};
@@ -151,8 +151,8 @@ pub fn scan_made<S: Source, K: Sink>(
 }
 
 /// Scans the source by a table file, and writes to the sink. It answers the status that the table's rules end with, 0
-/// to 63, and takes no byte of the source that no rule asks for. Bytes that are no table file are refused, and then
-/// neither the source nor the sink is touched.
+/// to 63, and takes no byte of the source that no rule asks for. Bytes that are no table file are refused as
+/// `read_tables` does, and then neither the source nor the sink is touched.
 pub fn scan_table<S: Source, K: Sink>(
     alloc: Global,
     bytes: &[u8],
@@ -165,6 +165,7 @@ pub fn scan_table<S: Source, K: Sink>(
     ensures told { TableHeadline S.gave K.wrote source.old source.new sink.old sink.new
         (nat_lt (S.ends source.old) (S.ends source.new)) (S.failures source.new - S.failures source.old)
         bytes.now result }
+    ensures fault { IfErr result (TellsFault bytes.now) }
     ensures read_faults { S.failures source.new ≡ S.failures source.old + read_faults result }
     ensures write_faults { K.failures sink.new ≡ K.failures sink.old + write_faults result }
     ensures ends_stay { S.ends source.old ≤ S.ends source.new }

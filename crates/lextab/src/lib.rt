@@ -49,7 +49,9 @@ pub use laws::{
 };
 pub use lex_io::{ByteWriter, MemorySink, Sink, ToBytes, ToWrite, WriteFault};
 pub use lex_machine::{Cut, EndAction, Gist, Machine, Statement, Way};
-pub use lextab_file::{TableError, one_table, read_flat, read_tables, write_tables};
+pub use lextab_file::{
+    TableError, laws_of_refusals, one_table, read_flat, read_tables, write_tables,
+};
 pub use lextab_packed::{Flat, Tables};
 pub use plain::Plain;
 pub use tables::pack;

@@ -1,19 +1,19 @@
 -- The texts of a table's parts.
-use Rattle.std.proofs.Common.{◌≡◌, ◌⊎◌, ℕ, zero, suc, ◌+◌, ◌-◌, ◌<◌, ◌≤◌, Bool, true, false, cond, List, [], ◌∷◌, ◌++◌, length, get_or, Option, Some, None, refl, sym, ap, subst, ◌∙◌, arith, inl, inr}
+use Rattle.std.proofs.Common.{◌≡◌, ◌⊎◌, ℕ, zero, suc, ◌+◌, ◌-◌, ◌<◌, ◌≤◌, Bool, true, false, cond, List, [], ◌∷◌, ◌++◌, length, get_or, Result, Ok, Err, refl, sym, ap, subst, ◌∙◌, arith, inl, inr}
 use Rattle.std.specs.Prelude.{◌&&◌, ◌||◌, nat_le, nat_lt, ◌==◌, not}
 use Rattle.std.specs.Int.{w16, w32, to_be_bytes}
 use Rattle.std.specs.List.{flat_map}
 use Rattle.std.proofs.lemmas.Bool.Decides.{nat_tests}
 use Rattle.std.proofs.lemmas.List.{nil_from_length}
-use Rattle.std.proofs.lemmas.Option.{same_Some}
 use Rattle.lex_semantics.specs.Text.{IsText, Among, Ascending}
 use Rattle.lex_semantics.specs.Spec.{Statement, Echo, Print, Begin, More, Less, Reject, End, Push, Pop, EndAction, Cut, Whole, Head, Trail}
 use Rattle.lextab_packed.specs.Table.{Row, RuleOfTable}
 use Rattle.lextab_packed.specs.Checks.{Sizes, IsCondition, IsCutInRange, IsTableRule, IsRow, IsSlot}
 use Rattle.lextab_file.specs.File.{byte, string, cut_text, statement_text, end_text, condition_text, rule_text, row_text, slot_text}
 use Rattle.lextab_file.specs.Seen.{EachFrom, IsString, MayStand, Seen, unseen, seen_after}
-use Rattle.lextab_file.specs.Reading.{◌>>=◌, only_if, both, seen_as, many, byte_at, number_at, bytes_at, within, long_at, below, positive_at, string_at, end_from, end_at, condition_from, condition_at, whole_of, cut_number, cut_at, bars, arguments, statement_at, statements_at, rule_from, rule_at, above, between, accepted_at, none_at_0, row_from, few, row_at, slot_from, good_check, slot_at}
-use Rattle.lextab_file.proofs.Forms.{IsReader, bind_some, reads_both, reads_if, reads_as, reads_like, reads_many, reads_byte, reads_bytes, reads_long, reads_short}
+use Rattle.lextab_file.specs.declared.error.ReadError.{ReadError}
+use Rattle.lextab_file.specs.Reading.{Reader, ◌>>=◌, bad, judged, only_if, both, seen_as, many, byte_at, number_at, bytes_at, within, long_at, below, positive_at, string_at, literal_at, end_from, end_at, condition_from, condition_at, whole_of, cut_number, cut_at, bars, arguments, statement_at, statements_at, rule_from, rule_at, above, between, accepted_at, none_at_0, row_from, few, row_at, slot_from, good_check, slot_at}
+use Rattle.lextab_file.proofs.Forms.{IsReader, bind_ok, same_ok, reads_both, reads_judged, reads_if, reads_as, reads_like, reads_many, reads_byte, reads_bytes, reads_long, reads_short}
 use Rattle.lextab_file.proofs.Actions.{and_is, is_and, lt_is, is_lt, le_is, is_le, IsAction, action_is, is_action, InVersion}
 
 -- ---- tests
@@ -47,13 +47,21 @@ reads_byte_below limit h = reads_if byte (λ n. n < 256) (λ n. n < limit) (belo
 abbrev counted_text : {A : Type 0} → (A → List ℕ) → ℕ × List A → List ℕ
 counted_text t p = to_be_bytes w32 p.0 ++ flat_map t p.1
 
-pub reads_string : (least most : ℕ) → most < 4294967296 → IsReader string (IsString least most) (string_at least most)
-reads_string least most h = reads_like string (λ xs. ((least ≤ length xs) × (length xs ≤ most)) × ((length xs ≡ length xs) × IsText xs)) (IsString least most) (string_at least most)
-    (reads_as (λ (p : ℕ × List ℕ). to_be_bytes w32 p.0 ++ p.1) (λ p. ((least ≤ p.0) × (p.0 ≤ most)) × ((length p.1 ≡ p.0) × IsText p.1)) (both (long_at least most) (λ n. bytes_at n)) (λ p. p.1) (λ xs. (length xs, xs))
-    (reads_both (to_be_bytes w32) (λ n. (least ≤ n) × (n ≤ most)) (long_at least most) (λ n xs. xs) (λ n xs. (length xs ≡ n) × IsText xs) (λ n. bytes_at n)
-    (reads_within least most h) (λ n l. reads_bytes n))
+reads_counted : (least most : ℕ) (r : Reader ℕ) → IsReader (to_be_bytes w32) (λ n. (least ≤ n) × (n ≤ most)) r → IsReader string (IsString least most) (seen_as (λ p. p.1) (both r (λ n. bytes_at n)))
+reads_counted least most r counts = reads_like string (λ xs. ((least ≤ length xs) × (length xs ≤ most)) × ((length xs ≡ length xs) × IsText xs)) (IsString least most) (seen_as (λ p. p.1) (both r (λ n. bytes_at n)))
+    (reads_as (λ (p : ℕ × List ℕ). to_be_bytes w32 p.0 ++ p.1) (λ p. ((least ≤ p.0) × (p.0 ≤ most)) × ((length p.1 ≡ p.0) × IsText p.1)) (both r (λ n. bytes_at n)) (λ p. p.1) (λ xs. (length xs, xs))
+    (reads_both (to_be_bytes w32) (λ n. (least ≤ n) × (n ≤ most)) r (λ n xs. xs) (λ n xs. (length xs ≡ n) × IsText xs) (λ n. bytes_at n)
+    counts (λ n l. reads_bytes n))
     (λ xs. refl) (λ p l. ap (λ (n : ℕ). (n, p.1)) l.1.0))
     (λ xs l. (l.0, l.1.1)) (λ xs l. (l.0, (refl, l.1)))
+
+pub reads_string : (least most : ℕ) → most < 4294967296 → IsReader string (IsString least most) (string_at least most)
+reads_string least most h = reads_counted least most (long_at least most) (reads_within least most h)
+
+reads_literal : (room : ℕ) (fault : ReadError) → room ≤ 4096 → IsReader string (IsString 1 room) (literal_at room fault)
+reads_literal room fault low = reads_counted 1 room (judged fault (λ n. nat_le n room) (long_at 1 4096))
+    (reads_judged (λ b. fault) (to_be_bytes w32) (λ n. (1 ≤ n) × (n ≤ 4096)) (λ n. (1 ≤ n) × (n ≤ room)) (λ n. nat_le n room) (long_at 1 4096) (reads_within 1 4096 (omega arith))
+    (λ n l e. (l.0, le_is n room e)) (λ n l. (is_le n room l.1, (l.0, let k = l.1 in omega arith))))
 
 -- ---- conditions
 
@@ -88,26 +96,26 @@ chosen : {A : Type 0} (b : Bool) (x y z : A) → cond b x y ≡ z → ((b ≡ tr
 chosen true x y z e = inl (refl, e)
 chosen false x y z e = inr (refl, e)
 
-none_some : {A X : Type 0} (x : A) → None ≡ Some x → X
-none_some x e = absurd cc
+refused : {A X : Type 0} {d : ReadError} (x : A) → ◌≡◌ {A = Result A ReadError} (Err d) (Ok x) → X
+refused x e = absurd cc
 
 pub tag_is : (k n : ℕ) → (k == n) ≡ true → k ≡ n
 tag_is k n e = grind (arith, nat_tests)
 
-taken_as : {A B : Type 0} (f : B → A) (text : A → List ℕ) (m : A → Type 0) (t : B → List ℕ) (l : B → Type 0) (r : List ℕ → Option (B × List ℕ)) → IsReader t l r
+taken_as : {A B : Type 0} (f : B → A) (text : A → List ℕ) (m : A → Type 0) (t : B → List ℕ) (l : B → Type 0) (r : Reader B) → IsReader t l r
     → (k tag : ℕ) → (k == tag) ≡ true → ((b : B) → l b → text (f b) ≡ tag ∷ t b) → ((b : B) → l b → m (f b))
-    → (bytes : List ℕ) (x : A) (rest : List ℕ) → IsText bytes → seen_as f r bytes ≡ Some (x, rest) → (k ∷ bytes ≡ text x ++ rest) × (IsText rest × m x)
+    → (bytes : List ℕ) (x : A) (rest : List ℕ) → IsText bytes → seen_as f r bytes ≡ Ok (x, rest) → (k ∷ bytes ≡ text x ++ rest) × (IsText rest × m x)
 taken_as {A} {B} f text m t l r p k tag same told met bytes x rest fits e =
-    let a = bind_some (r bytes) (λ y. Some (f y.0, y.1)) (x, rest) e in
+    let a = bind_ok (r bytes) (λ y. Ok (f y.0, y.1)) (x, rest) e in
     let u = p.takes bytes a.0.0 a.0.1 fits a.1 in
     let parts : k ∷ bytes ≡ text (f a.0.0) ++ a.0.1 = ap (λ (n : ℕ). n ∷ bytes) (tag_is k tag same) ∙ ap (λ (z : List ℕ). tag ∷ z) u.0 ∙ sym (ap (λ (z : List ℕ). z ++ a.0.1) (told a.0.0 u.1.1)) in
-    subst (λ (y : A × List ℕ). (k ∷ bytes ≡ text y.0 ++ y.1) × (IsText y.1 × m y.0)) (same_Some _ _ a.2) (parts, (u.1.0, met a.0.0 u.1.1))
+    subst (λ (y : A × List ℕ). (k ∷ bytes ≡ text y.0 ++ y.1) × (IsText y.1 × m y.0)) (same_ok _ _ a.2) (parts, (u.1.0, met a.0.0 u.1.1))
 
 -- a tag alone
 taken : {A : Type 0} (text : A → List ℕ) (m : A → Type 0) (a : A) (k tag : ℕ) → (k == tag) ≡ true → text a ≡ tag ∷ [] → m a
-    → (bytes : List ℕ) (x : A) (rest : List ℕ) → IsText bytes → ◌≡◌ {A = Option (A × List ℕ)} (Some (a, bytes)) (Some (x, rest)) → (k ∷ bytes ≡ text x ++ rest) × (IsText rest × m x)
+    → (bytes : List ℕ) (x : A) (rest : List ℕ) → IsText bytes → ◌≡◌ {A = Result (A × List ℕ) ReadError} (Ok (a, bytes)) (Ok (x, rest)) → (k ∷ bytes ≡ text x ++ rest) × (IsText rest × m x)
 taken {A} text m a k tag same told met bytes x rest fits e =
-    subst (λ (y : A × List ℕ). (k ∷ bytes ≡ text y.0 ++ y.1) × (IsText y.1 × m y.0)) (same_Some _ _ e)
+    subst (λ (y : A × List ℕ). (k ∷ bytes ≡ text y.0 ++ y.1) × (IsText y.1 × m y.0)) (same_ok _ _ e)
     (ap (λ (n : ℕ). n ∷ bytes) (tag_is k tag same) ∙ sym (ap (λ (z : List ℕ). z ++ bytes) told), (fits, met))
 
 abbrev LowCut : Cut → Type 0
@@ -129,8 +137,8 @@ pub reads_cut : IsReader cut_text LowCut cut_at
 unfolding cut_at
 reads_cut = record { takes = take; again = again }
   where
-    take : (bytes : List ℕ) (x : Cut) (rest : List ℕ) → IsText bytes → (byte_at bytes >>= λ k. cut_number k.0 k.1) ≡ Some (x, rest) → (bytes ≡ cut_text x ++ rest) × (IsText rest × LowCut x)
-    take [] x rest fits e = none_some (x, rest) e
+    take : (bytes : List ℕ) (x : Cut) (rest : List ℕ) → IsText bytes → (byte_at bytes >>= λ k. cut_number (bad bytes) k.0 k.1) ≡ Ok (x, rest) → (bytes ≡ cut_text x ++ rest) × (IsText rest × LowCut x)
+    take [] x rest fits e = refused (x, rest) e
     take (k ∷ bytes) x rest fits e = elim (chosen (k == 0) _ _ _ e) [
       | inl p ↦ taken_as whole_of cut_text LowCut (to_be_bytes w32) (λ n. n < 1) (only_if (below 1) (number_at w32)) (reads_below 1 (omega arith)) k 0 p.0
           (λ n l. ap (λ (j : ℕ). 0 ∷ to_be_bytes w32 j) (let z : 0 ≡ n = omega arith in z)) (λ n l. tt) bytes x rest fits.1 p.1
@@ -138,15 +146,15 @@ reads_cut = record { takes = take; again = again }
         | inl p ↦ taken_as Head cut_text LowCut (to_be_bytes w32) (λ n. n < 65536) (only_if (below 65536) (number_at w32)) (reads_below 65536 (omega arith)) k 1 p.0 (λ n l. refl) (λ n l. l) bytes x rest fits.1 p.1
         | inr q ↦ elim (chosen (k == 2) _ _ _ q.1) [
           | inl p ↦ taken_as Trail cut_text LowCut (to_be_bytes w32) (λ n. n < 65536) (only_if (below 65536) (number_at w32)) (reads_below 65536 (omega arith)) k 2 p.0 (λ n l. refl) (λ n l. l) bytes x rest fits.1 p.1
-          | inr q ↦ none_some (x, rest) q.1
+          | inr q ↦ refused (x, rest) q.1
         ]
       ]
     ]
 
-    again : (x : Cut) (rest : List ℕ) → LowCut x → (byte_at (cut_text x ++ rest) >>= λ k. cut_number k.0 k.1) ≡ Some (x, rest)
-    again Whole rest h = ap (λ (o : Option (ℕ × List ℕ)). o >>= λ y. Some (whole_of y.0, y.1)) ((reads_below 1 (omega arith)).again 0 rest (omega arith))
-    again (Head n) rest h = ap (λ (o : Option (ℕ × List ℕ)). o >>= λ y. Some (Head y.0, y.1)) ((reads_below 65536 (omega arith)).again n rest h)
-    again (Trail n) rest h = ap (λ (o : Option (ℕ × List ℕ)). o >>= λ y. Some (Trail y.0, y.1)) ((reads_below 65536 (omega arith)).again n rest h)
+    again : (x : Cut) (rest : List ℕ) → LowCut x → (byte_at (cut_text x ++ rest) >>= λ k. cut_number (bad (cut_text x ++ rest)) k.0 k.1) ≡ Ok (x, rest)
+    again Whole rest h = ap (λ (o : Result (ℕ × List ℕ) ReadError). o >>= λ y. Ok (whole_of y.0, y.1)) ((reads_below 1 (omega arith)).again 0 rest (omega arith))
+    again (Head n) rest h = ap (λ (o : Result (ℕ × List ℕ) ReadError). o >>= λ y. Ok (Head y.0, y.1)) ((reads_below 65536 (omega arith)).again n rest h)
+    again (Trail n) rest h = ap (λ (o : Result (ℕ × List ℕ) ReadError). o >>= λ y. Ok (Trail y.0, y.1)) ((reads_below 65536 (omega arith)).again n rest h)
 
 reads_positive : IsReader (to_be_bytes w16) (λ n. (1 ≤ n) × (n < 65536)) positive_at
 reads_positive = reads_if (to_be_bytes w16) (λ n. n < 65536) (λ n. (1 ≤ n) × (n < 65536)) (λ n. nat_lt 0 n) (number_at w16) reads_short
@@ -169,9 +177,9 @@ is_not_lt a b h = grind (arith, nat_tests)
 free : (s : Seen) (k tag : ℕ) → bars s k ≡ false → (k == tag) ≡ true → bars s tag ≡ false
 free s k tag h same = subst (λ (n : ℕ). bars s n ≡ false) (tag_is k tag same) h
 
-unbarred : {A : Type 0} (b : Bool) (r : Option (A × List ℕ)) (x : A) (rest : List ℕ) → cond b None r ≡ Some (x, rest) → (b ≡ false) × (r ≡ Some (x, rest))
-unbarred true r x rest e = absurd cc
-unbarred false r x rest e = (refl, e)
+unbarred : {A : Type 0} (b : Bool) (d : ReadError) (r : Result (A × List ℕ) ReadError) (x : A) (rest : List ℕ) → cond b (Err d) r ≡ Ok (x, rest) → (b ≡ false) × (r ≡ Ok (x, rest))
+unbarred true d r x rest e = absurd cc
+unbarred false d r x rest e = (refl, e)
 
 on : (b : Bool) → not b ≡ false → b ≡ true
 on true h = refl
@@ -181,8 +189,8 @@ pub reads_statement : (conditions : ℕ) (s : Seen) → conditions ≤ 256 → I
 unfolding statement_at
 reads_statement conditions s low = record { takes = take; again = again }
   where
-    literal : IsReader string (IsString 1 (4096 - s.literal)) (string_at 1 (4096 - s.literal))
-    literal = reads_string 1 (4096 - s.literal) (omega arith)
+    literal : (fault : ReadError) → IsReader string (IsString 1 (4096 - s.literal)) (literal_at (4096 - s.literal) fault)
+    literal fault = reads_literal (4096 - s.literal) fault (omega arith)
 
     named : IsReader byte (λ n. n < conditions) (only_if (below conditions) byte_at)
     named = reads_byte_below conditions low
@@ -190,14 +198,14 @@ reads_statement conditions s low = record { takes = take; again = again }
     status : IsReader byte (λ n. n < 64) (only_if (below 64) byte_at)
     status = reads_byte_below 64 (omega arith)
 
-    take : (bytes : List ℕ) (x : Statement) (rest : List ℕ) → IsText bytes → (byte_at bytes >>= λ k. cond (bars s k.0) None (arguments conditions s k.0 k.1)) ≡ Some (x, rest) → (bytes ≡ statement_text x ++ rest) × (IsText rest × MayStand conditions s x)
-    take [] x rest fits e = none_some (x, rest) e
+    take : (bytes : List ℕ) (x : Statement) (rest : List ℕ) → IsText bytes → (byte_at bytes >>= λ k. cond (bars s k.0) (Err (bad bytes)) (arguments conditions s (bad bytes) k.0 k.1)) ≡ Ok (x, rest) → (bytes ≡ statement_text x ++ rest) × (IsText rest × MayStand conditions s x)
+    take [] x rest fits e = refused (x, rest) e
     take (k ∷ bytes) x rest fits e =
-        let u = unbarred (bars s k) (arguments conditions s k bytes) x rest e in
+        let u = unbarred (bars s k) (bad (k ∷ bytes)) (arguments conditions s (bad (k ∷ bytes)) k bytes) x rest e in
         elim (chosen (k == 0) _ _ _ u.1) [
           | inl p ↦ taken statement_text (MayStand conditions s) Echo k 0 p.0 refl tt bytes x rest fits.1 p.1
           | inr q ↦ elim (chosen (k == 1) _ _ _ q.1) [
-            | inl p ↦ taken_as Print statement_text (MayStand conditions s) string (IsString 1 (4096 - s.literal)) _ literal k 1 p.0 (λ b l. refl) (λ b l. (free s k 1 u.0 p.0, l)) bytes x rest fits.1 p.1
+            | inl p ↦ taken_as Print statement_text (MayStand conditions s) string (IsString 1 (4096 - s.literal)) _ (literal (bad (k ∷ bytes))) k 1 p.0 (λ b l. refl) (λ b l. (free s k 1 u.0 p.0, l)) bytes x rest fits.1 p.1
             | inr q ↦ elim (chosen (k == 2) _ _ _ q.1) [
               | inl p ↦ taken_as Begin statement_text (MayStand conditions s) byte (λ n. n < conditions) _ named k 2 p.0 (λ b l. refl) (λ b l. l) bytes x rest fits.1 p.1
               | inr q ↦ elim (chosen (k == 3) _ _ _ q.1) [
@@ -212,7 +220,7 @@ reads_statement conditions s low = record { takes = take; again = again }
                         | inl p ↦ taken_as Push statement_text (MayStand conditions s) byte (λ n. n < conditions) _ named k 7 p.0 (λ b l. refl) (λ b l. (on s.stack (free s k 7 u.0 p.0), l)) bytes x rest fits.1 p.1
                         | inr q ↦ elim (chosen (k == 8) _ _ _ q.1) [
                           | inl p ↦ taken statement_text (MayStand conditions s) Pop k 8 p.0 refl (on s.stack (free s k 8 u.0 p.0)) bytes x rest fits.1 p.1
-                          | inr q ↦ none_some (x, rest) q.1
+                          | inr q ↦ refused (x, rest) q.1
                         ]
                       ]
                     ]
@@ -223,15 +231,15 @@ reads_statement conditions s low = record { takes = take; again = again }
           ]
         ]
 
-    again : (x : Statement) (rest : List ℕ) → MayStand conditions s x → (byte_at (statement_text x ++ rest) >>= λ k. cond (bars s k.0) None (arguments conditions s k.0 k.1)) ≡ Some (x, rest)
+    again : (x : Statement) (rest : List ℕ) → MayStand conditions s x → (byte_at (statement_text x ++ rest) >>= λ k. cond (bars s k.0) (Err (bad (statement_text x ++ rest))) (arguments conditions s (bad (statement_text x ++ rest)) k.0 k.1)) ≡ Ok (x, rest)
     again Echo rest h = refl
-    again (Print b) rest h = rw h.0 (ap (λ (o : Option (List ℕ × List ℕ)). o >>= λ y. Some (Print y.0, y.1)) (literal.again b rest h.1))
-    again (Begin c) rest h = ap (λ (o : Option (ℕ × List ℕ)). o >>= λ y. Some (Begin y.0, y.1)) (named.again c rest h)
+    again (Print b) rest h = rw h.0 (ap (λ (o : Result (List ℕ × List ℕ) ReadError). o >>= λ y. Ok (Print y.0, y.1)) ((literal (bad (statement_text (Print b) ++ rest))).again b rest h.1))
+    again (Begin c) rest h = ap (λ (o : Result (ℕ × List ℕ) ReadError). o >>= λ y. Ok (Begin y.0, y.1)) (named.again c rest h)
     again More rest h = rw h refl
-    again (Less n) rest h = rw (is_or s.less s.more h.0 h.1.0) (ap (λ (o : Option (ℕ × List ℕ)). o >>= λ y. Some (Less y.0, y.1)) (reads_positive.again n rest h.1.1))
+    again (Less n) rest h = rw (is_or s.less s.more h.0 h.1.0) (ap (λ (o : Result (ℕ × List ℕ) ReadError). o >>= λ y. Ok (Less y.0, y.1)) (reads_positive.again n rest h.1.1))
     again Reject rest h = rw (is_or (s.less || s.more) (nat_lt 1 s.left) (is_or s.less s.more h.0.0 h.0.1) (is_not_lt 1 s.left h.1)) refl
-    again (End c) rest h = rw (is_not_lt 1 s.left h.0) (ap (λ (o : Option (ℕ × List ℕ)). o >>= λ y. Some (End y.0, y.1)) (status.again c rest h.1))
-    again (Push c) rest h = rw h.0 (ap (λ (o : Option (ℕ × List ℕ)). o >>= λ y. Some (Push y.0, y.1)) (named.again c rest h.1))
+    again (End c) rest h = rw (is_not_lt 1 s.left h.0) (ap (λ (o : Result (ℕ × List ℕ) ReadError). o >>= λ y. Ok (End y.0, y.1)) (status.again c rest h.1))
+    again (Push c) rest h = rw h.0 (ap (λ (o : Result (ℕ × List ℕ) ReadError). o >>= λ y. Ok (Push y.0, y.1)) (named.again c rest h.1))
     again Pop rest h = rw h refl
 
 -- ---- rules

@@ -3,6 +3,7 @@ pub mod Forms
 pub mod Actions
 pub mod Fields
 pub mod Whole
+pub mod Steady
 pub mod Loops
 pub mod Columns
 pub mod Written

@@ -1,8 +1,11 @@
--- Worked examples of table files, byte for byte.
-use Rattle.std.specs.Prelude.{◌≡◌, ℕ, List, [], ◌∷◌, ◌++◌, length, replicate}
+-- Worked examples of table files, byte for byte, and of bytes that are refused.
+use Rattle.std.specs.Prelude.{◌≡◌, ℕ, ◌+◌, List, [], ◌∷◌, ◌++◌, length, take, drop, replicate, Some, None}
 use Rattle.lex_semantics.specs.Spec.{Statement, Echo, Print, Push, Pop, Whole}
 use Rattle.lextab_packed.specs.Table.{ConditionOfTable, RuleOfTable, Table}
 use Rattle.lextab_file.specs.File.{file_of}
+use Rattle.lextab_file.specs.Refusals.{refusal_of}
+use Rattle.lextab_file.specs.declared.error.TableError.{TableError}
+use Rattle.lextab_file.specs.declared.error.TableError.TheVariants.{BadMagic, BadVersion, Truncated, TrailingBytes, BadField}
 
 -- a condition whose end does nothing, where matches start in this state
 abbrev pub plain_condition : ℕ → ConditionOfTable
@@ -82,3 +85,64 @@ stack_file =
 
 abbrev pub StackFile : Type 0
 StackFile = file_of stack_table ≡ stack_file
+
+-- the file of two rules, with these bytes from this place on
+abbrev pub changed : ℕ → List ℕ → List ℕ
+changed place bytes = take place keyword_file ++ bytes ++ drop (place + length bytes) keyword_file
+
+-- it is refused so
+abbrev pub Refused : ℕ → List ℕ → TableError → Type 0
+Refused place bytes e = refusal_of (changed place bytes) ≡ Some e
+
+-- its field of four bytes at this place is refused if it has this number, below 256
+abbrev pub RefusedField : ℕ → ℕ → Type 0
+RefusedField place n = Refused place (small n) (BadField place)
+
+-- with another byte in front, a version of 3, and a version that its rules do not need; and counts: no condition, no
+-- state, no class, fewer slots than classes, and one more than there may be
+abbrev pub RefusedHeaders : Type 0
+RefusedHeaders =
+    Refused 0 (108 ∷ []) BadMagic × Refused 7 (3 ∷ []) BadVersion × Refused 7 (2 ∷ []) (BadField 6)
+    × RefusedField 8 0 × RefusedField 16 0 × RefusedField 20 0 × RefusedField 24 3
+    × Refused 8 (0 ∷ 0 ∷ 1 ∷ 0 ∷ []) (BadField 8) × Refused 12 (0 ∷ 0 ∷ 16 ∷ 1 ∷ []) (BadField 12)
+    × Refused 16 (0 ∷ 0 ∷ 32 ∷ 1 ∷ []) (BadField 16) × Refused 20 (0 ∷ 0 ∷ 1 ∷ 1 ∷ []) (BadField 20)
+    × Refused 24 (0 ∷ 32 ∷ 0 ∷ 1 ∷ []) (BadField 24)
+
+-- a start past the states, the length and the status of an end, a cut that is not known, the number of a whole match, a
+-- count of statements, a tag that is not known, and a literal of no bytes
+abbrev pub RefusedRules : Type 0
+RefusedRules =
+    RefusedField 28 5 × RefusedField 32 5 × Refused 36 (0 ∷ 0 ∷ 16 ∷ 1 ∷ []) (BadField 36) × Refused 40 (64 ∷ []) (BadField 40)
+    × Refused 41 (3 ∷ []) (BadField 41) × RefusedField 42 1 × Refused 46 (0 ∷ 0 ∷ 1 ∷ 1 ∷ []) (BadField 46)
+    × Refused 50 (9 ∷ []) (BadField 50) × RefusedField 51 0
+
+-- a class that there is not; of state 0 each field; a default, a base, a count and a rule; a target, a check of a state
+-- that has no such slot or that there is not, and a target in a slot that is not used
+abbrev pub RefusedStates : Type 0
+RefusedStates =
+    Refused 71 (4 ∷ []) (BadField 71)
+    × RefusedField 327 1 × RefusedField 331 1 × RefusedField 335 1
+    × RefusedField 339 5 × RefusedField 343 6 × RefusedField 347 2 × RefusedField 363 2
+    × RefusedField 403 5 × RefusedField 447 1 × RefusedField 447 5 × RefusedField 451 1
+
+-- a literal of 4,096 bytes after one of 1 and an ECHO
+abbrev pub long_literals : List ℕ
+long_literals = take 46 keyword_file ++ small 3 ++ 1 ∷ small 1 ++ 75 ∷ 0 ∷ 1 ∷ 0 ∷ 0 ∷ 16 ∷ 0 ∷ []
+
+-- A literal with more bytes than are left is told by its tag, before its bytes are missed; one above 4,096 by its length.
+-- So is a push in a file of version 1 by its tag, where there is one of each kind.
+abbrev pub RefusedTags : Type 0
+RefusedTags =
+    (refusal_of long_literals ≡ Some (BadField 57))
+    × (refusal_of (take 61 long_literals ++ 1 ∷ []) ≡ Some (BadField 58))
+    × (refusal_of (take 7 stack_file ++ 1 ∷ small 1 ++ small 1 ++ small 1 ++ small 1 ++ small 1 ++ drop 28 stack_file) ≡ Some (BadField 51))
+
+-- No bytes, three bytes, and all but the last one are cut short; with one byte more there is one left over. A fault before the
+-- end is told first.
+abbrev pub RefusedEnds : Type 0
+RefusedEnds =
+    (refusal_of keyword_file ≡ None)
+    × (refusal_of [] ≡ Some Truncated) × (refusal_of (88 ∷ 89 ∷ 90 ∷ []) ≡ Some Truncated)
+    × (refusal_of (take 470 keyword_file) ≡ Some Truncated)
+    × (refusal_of (keyword_file ++ 0 ∷ []) ≡ Some TrailingBytes)
+    × (refusal_of (take 200 (changed 100 (4 ∷ []))) ≡ Some (BadField 100))

@@ -1,5 +1,9 @@
--- Which refusal it is.
-use Rattle.std.specs.Prelude.{ℕ, Bool, true, false, Option, Some, None}
+-- Which refusal it is, and how bytes are refused.
+use Rattle.std.specs.Prelude.{ℕ, ◌-◌, Bool, true, false, List, [], ◌∷◌, length, Option, Some, None, Result, Ok, Err}
+use Rattle.lextab_packed.specs.Table.{Table}
+use Rattle.lextab_file.specs.Reading.{table_at}
+use Rattle.lextab_file.specs.declared.error.ReadError.{ReadError}
+use Rattle.lextab_file.specs.declared.error.ReadError.TheVariants as reads
 use Rattle.lextab_file.specs.declared.error.TableError.{TableError}
 use Rattle.lextab_file.specs.declared.error.TableError.TheVariants as errors
 
@@ -14,7 +18,27 @@ abbrev pub is_trailing : TableError → Bool
 is_trailing errors.TrailingBytes = true
 is_trailing _ = false
 
--- the offset of the field that is refused, from 0
-abbrev pub field_of : TableError → Option ℕ
-field_of (errors.BadField at) = Some at
-field_of _ = None
+abbrev pub is_truncated : TableError → Bool
+is_truncated errors.Truncated = true
+is_truncated _ = false
+
+-- the fault of a file of this length, where a field that is not as it must be is told by its offset from 0
+abbrev pub in_file : ℕ → ReadError → TableError
+in_file len reads.BadMagic = errors.BadMagic
+in_file len reads.BadVersion = errors.BadVersion
+in_file len reads.Truncated = errors.Truncated
+in_file len (reads.BadField left) = errors.BadField (len - left)
+in_file len reads.OutOfMemory = errors.OutOfMemory
+
+-- bytes that stand after a whole table
+abbrev pub left_over : List ℕ → Option TableError
+left_over [] = None
+left_over (b ∷ rest) = Some errors.TrailingBytes
+
+abbrev pub refusal_in : ℕ → Result (Table × List ℕ) ReadError → Option TableError
+refusal_in len (Ok x) = left_over x.1
+refusal_in len (Err fault) = Some (in_file len fault)
+
+-- how bytes are refused: for the first field from the left that is not as it must be, or for what stands after a whole table
+abbrev pub refusal_of : List ℕ → Option TableError
+refusal_of bytes = refusal_in (length bytes) (table_at bytes)

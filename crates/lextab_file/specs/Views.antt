@@ -1,5 +1,5 @@
 -- What the reader's values stand for, and what it gives.
-use Rattle.std.specs.Prelude.{◌≡◌, ℕ, Bool, true, false, Option, Some, None, Result, Ok, Err}
+use Rattle.std.specs.Prelude.{◌≡◌, Bool, true, false, Result, Ok, Err}
 use Rattle.lextab_packed.specs.Checks.{Sizes}
 use Rattle.lextab_file.specs.Seen.{Seen}
 use Rattle.lextab_file.specs.declared.reading.actions.Before.{Before}
@@ -17,16 +17,11 @@ abbrev pub is_memory : ReadError → Bool
 is_memory errors.OutOfMemory = true
 is_memory _ = false
 
--- how many bytes stand from the start of the field that is refused to the end
-abbrev pub left_at : ReadError → Option ℕ
-left_at (errors.BadField left) = Some left
-left_at _ = None
-
--- nothing is read, unless memory ran out
-abbrev pub Fails : {Y : Type 0} → ReadError → Option Y → Type 0
-Fails e read = is_memory e ≡ false → read ≡ None
+-- the fault is the one that reading finds, unless memory ran out
+abbrev pub Fails : {Y : Type 0} → ReadError → Result Y ReadError → Type 0
+Fails e read = is_memory e ≡ false → read ≡ Err e
 
 -- what was returned, seen by view, is what reading gives, unless memory ran out
-abbrev pub Gives : {X Y : Type 0} → (X → Y) → Result X ReadError → Option Y → Type 0
-Gives view (Ok x) read = read ≡ Some (view x)
+abbrev pub Gives : {X Y : Type 0} → (X → Y) → Result X ReadError → Result Y ReadError → Type 0
+Gives view (Ok x) read = read ≡ Ok (view x)
 Gives view (Err e) read = Fails e read

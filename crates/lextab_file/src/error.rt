@@ -1,7 +1,7 @@
 //! Why bytes are no table file.
-ghost use Rattle.std.specs.Prelude.{◌≡◌, ◌-◌, false, option_map};
-ghost use Rattle.lextab_file.specs.Refusals.{out_of_memory, is_out_of_memory, is_trailing, field_of};
-ghost use Rattle.lextab_file.specs.Views.{is_memory, left_at};
+ghost use Rattle.std.specs.Prelude.{◌≡◌};
+ghost use Rattle.lextab_file.specs.Refusals.{out_of_memory, is_out_of_memory, in_file};
+ghost use Rattle.lextab_file.specs.Views.{is_memory};
 ghost use Rattle.lextab_file.specs.declared.error.ReadError.TheVariants.{OutOfMemory};
 
 use std::alloc::{AllocError, AllocFailed};
@@ -71,9 +71,8 @@ impl<T: Drop> From<AllocFailed<T>> for ReadError {
 impl ReadError {
     /// The same refusal of a file of this length, with the field's offset.
     pub fn in_file(self, len: usize) -> TableError
+        ensures told { result ≡ in_file len self }
         ensures memory { is_out_of_memory result ≡ is_memory self }
-        ensures trailing { is_trailing result ≡ false }
-        ensures field { field_of result ≡ option_map (λ left. len - left) (left_at self) }
     {
         match self {
             ReadError::BadMagic => TableError::BadMagic,

@@ -10,10 +10,11 @@
 //! - `inverse`: the inverse transitions of a table, as chains.
 //! - `live`: which states are live: some text that is not empty leads from them to one that accepts.
 //! - `tables`: `read_tables`, which adds which states are live, and `read_flat`, which lays the table flat for a scan.
-//! - `laws`: tables and their files are one to one.
+//! - `laws`: tables and their files are one to one, and what is no file is refused.
 //!
 //! It promises that what is written is the table's file, and that what is read is a table's file and all of it. A
-//! refusal means that the bytes are no table's file, unless memory ran out.
+//! refusal means that the bytes are no table's file, unless memory ran out. It is the fault of the first field from the
+//! left that is not as it must be, with that field's offset.
 //!
 //! A field, a version and a refusal change the format, and with it lextab_packed's parts and the page of the format.
 //! How live states are found may change alone.
@@ -22,10 +23,10 @@
 //! - Which states are live is not in the file. It follows from the steps, and a flag that could be wrong would be one
 //!   more thing to check. The reader finds it backwards: from the states that accept to those that lead to them, each
 //!   taken once.
-//! - Of two faults the one at the first field from the left is reported. Each field is judged when it was read, by what
-//!   stands before it: each byte of the class map, a tag before its arguments, a length before its bytes, a count
-//!   before what it counts, a check before its next. A field that is cut short is `Truncated`. `TrailingBytes` comes
-//!   only after a whole table.
+//! - Of two faults the one at the first field from the left is reported, as `specs/Reading` defines. Each field is
+//!   judged when it was read, by what stands before it: each byte of the class map, a tag before its arguments, a
+//!   length before its bytes, a count before what it counts, a check before its next. A field that is cut short is
+//!   `Truncated`. `TrailingBytes` comes only after a whole table.
 //! - A literal that passes the bytes of its action is a fault of its tag, if it has at most 4,096: the same bytes could
 //!   stand in another action.
 //! - A version has no room for additions. What a later version adds has a number of its own, and a number that is not
@@ -43,7 +44,7 @@ mod version;
 mod writing;
 
 pub use error::TableError;
-pub use laws::{examples_of_files, one_table};
+pub use laws::{examples_of_files, examples_of_refusals, laws_of_refusals, one_table};
 pub use live::live_states;
 pub use tables::{read_flat, read_tables};
 pub use writing::write_tables;

@@ -4,7 +4,7 @@ ghost use Rattle.lex_machine.specs.Literals.{literal_bytes};
 ghost use Rattle.lex_machine.specs.Views.{statement_of, cut_of};
 ghost use Rattle.lextab_packed.specs.Views.{rule_of};
 ghost use Rattle.lextab_file.specs.Seen.{following, unseen, seen_after};
-ghost use Rattle.lextab_file.specs.Reading.{many, string_at, cut_at, bars, arguments};
+ghost use Rattle.lextab_file.specs.Reading.{many, literal_at, cut_at, bars, arguments};
 ghost use Rattle.lextab_file.specs.Reading.{statement_at, statements_at, rule_at};
 ghost use Rattle.lextab_file.specs.Tags.{statement_byte};
 ghost use Rattle.lextab_file.specs.Views.{Gives, seen_of};
@@ -106,7 +106,7 @@ fn literal(
     left: usize,
 ) -> Result<(Vec<u8>, &[u8]), ReadError>
     requires { room ≤ max_literal_bytes }
-    ensures gives { Gives (λ x. (x.0.items, x.1.now)) result (string_at 1 room bytes.now) }
+    ensures gives { Gives (λ x. (x.0.items, x.1.now)) result (literal_at room (ReadError.BadField left) bytes.now) }
     ensures length { IfOk result (λ x. length x.0.items ≤ room) }
 {
     let (count, rest) = long(bytes)?;
@@ -131,7 +131,7 @@ fn arguments(
 ) -> Result<(Statement, &[u8]), ReadError>
     requires { before.literal ≤ max_literal_bytes }
     ensures gives { Gives (λ x. (statement_of x.0, x.1.now)) result
-        (arguments conditions (seen_of before) (statement_byte tag) bytes.now) }
+        (arguments conditions (seen_of before) (ReadError.BadField left) (statement_byte tag) bytes.now) }
     ensures literal { IfOk result (λ x. before.literal + literal_bytes (statement_of x.0) ≤ max_literal_bytes) }
 {
     match tag {
