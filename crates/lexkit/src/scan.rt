@@ -19,7 +19,7 @@ use crate::options::Options;
 use lexauto::Limits;
 use lexscan::{Source, run};
 use lexspec::Spec;
-use lextab::{Flat, Sink, TableError, Tables, pack, read_flat};
+use lextab::{Flat, Sink, Tables, pack, read_flat};
 use std::alloc::Global;
 
 /// How many reads a scan makes at most: 2^40.

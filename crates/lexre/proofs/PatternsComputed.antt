@@ -3,7 +3,7 @@ use Rattle.std.proofs.Common.{◌≡◌, ℕ, List, [], ◌∷◌, Some, None, c
 use Rattle.std.proofs.lemmas.Bool.{leb-true}
 use Rattle.std.specs.FinMap.{get}
 use Rattle.std.specs.Prelude.{true, false, nat_le, ◌+◌, ◌^◌, ◌++◌}
-use Rattle.lex_semantics.specs.ByteSets.{has, set_of, empty_set, single, range_set, union, complement, other_case, fold_case, is_upper, is_lower, is_alpha, is_digit, is_alnum}
+use Rattle.lex_semantics.specs.ByteSets.{has, set_of, empty_set, single, range_set, union, complement, other_case, fold_case, is_upper, is_lower, is_alpha, is_digit, is_xdigit, is_alnum, named_set}
 use Rattle.lex_semantics.specs.Escapes.{simple_escape, octal_at, hexadecimal_at, until_quote}
 use Rattle.lex_semantics.specs.Reading.{take_up_to}
 use Rattle.lex_semantics.specs.Shapes.{nodes}
@@ -41,7 +41,7 @@ items = (
 )
 
 pub classes : Classes
-unfolding after_word run_at number_at name_at escape_at quoted_tree class_name_at enclosed_by bracketed_at range_at element_at elements_at class_at span class_set bounded interval_at braces_at symbol_at has set_of empty_set single range_set union complement other_case fold_case is_upper is_lower is_alpha is_digit is_alnum simple_escape octal_at hexadecimal_at until_quote take_up_to
+unfolding after_word run_at number_at name_at escape_at quoted_tree class_name_at enclosed_by bracketed_at range_at element_at elements_at class_at span class_set bounded interval_at braces_at symbol_at has set_of empty_set single range_set union complement other_case fold_case is_upper is_lower is_alpha is_digit is_alnum simple_escape octal_at hexadecimal_at until_quote take_up_to is_xdigit named_set
 classes = (
   is_tree plain 20 (codes "[]a]") (Set (2 ^ 93 + 2 ^ 97)) refl refl,
   is_tree plain 20 (codes "[a-]") (Set (2 ^ 45 + 2 ^ 97)) refl refl,
@@ -53,7 +53,7 @@ classes = (
 )
 
 pub escapes : Escapes
-unfolding after_word run_at number_at name_at escape_at quoted_tree class_name_at enclosed_by bracketed_at range_at element_at elements_at class_at span class_set bounded interval_at braces_at symbol_at has set_of empty_set single range_set union complement other_case fold_case is_alpha is_digit is_alnum simple_escape octal_at hexadecimal_at until_quote take_up_to
+unfolding after_word run_at number_at name_at escape_at quoted_tree class_name_at enclosed_by bracketed_at range_at element_at elements_at class_at span class_set bounded interval_at braces_at symbol_at has set_of empty_set single range_set union complement other_case fold_case is_alpha is_digit is_alnum simple_escape octal_at hexadecimal_at until_quote take_up_to is_xdigit
 escapes = (
   is_tree plain 20 (codes "\\x411") (Cat (trees (letter 65 ∷ letter 49 ∷ []))) refl refl,
   is_tree plain 20 (codes "\\1011") (Cat (trees (letter 65 ∷ letter 49 ∷ []))) refl refl,
@@ -160,7 +160,7 @@ named = λ definitions found.
     )
 
 pub refused_items : RefusedItems
-unfolding after_word run_at number_at name_at escape_at quoted_tree class_name_at enclosed_by bracketed_at range_at element_at elements_at class_at span class_set bounded interval_at braces_at symbol_at has set_of empty_set single range_set union complement other_case fold_case is_upper is_lower is_alpha is_digit is_alnum simple_escape octal_at hexadecimal_at until_quote take_up_to
+unfolding after_word run_at number_at name_at escape_at quoted_tree class_name_at enclosed_by bracketed_at range_at element_at elements_at class_at span class_set bounded interval_at braces_at symbol_at has set_of empty_set single range_set union complement other_case fold_case is_upper is_lower is_alpha is_digit is_alnum simple_escape octal_at hexadecimal_at until_quote take_up_to is_xdigit named_set
 refused_items = (
   is_none plain 20 (codes "[]") refl,
   is_none plain 20 (codes "[^\\0-\\377]") refl,
