@@ -180,7 +180,7 @@ int32_t lex_open(struct lex_scan *scan, const uint8_t *file, size_t file_len);
    another answer comes. That answer tells how the scan stands.
    LEX_ENDED: the same as LEX_OK, and the rules have ended the scan, whatever more is fed. lex_finish tells the status.
    LEX_STACK: the same, up to a fault of the stack that ended it.
-   LEX_OUT_OF_MEMORY, LEX_TOO_MANY_READS: `out` has the beginning of what the rules write, and the scan has stopped.
+   LEX_OUT_OF_MEMORY, LEX_TOO_MANY_READS: `out` has the beginning of what the rules write, with all that was kept, and the scan has stopped.
    LEX_CLOSED: *count is 0, and `out` is as it was.
 
    What a caller was handed in all these calls, one after another, is what lex_scan_table writes for all the bytes fed, however they are

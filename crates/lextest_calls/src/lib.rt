@@ -8,6 +8,10 @@ mod automata;
 mod building;
 #[cfg(test)]
 mod c_pieces;
+#[cfg(test)]
+mod c_refusals;
+#[cfg(test)]
+mod c_sizes;
 pub mod caller;
 #[cfg(test)]
 mod error_words;

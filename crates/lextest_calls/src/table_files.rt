@@ -106,7 +106,7 @@ fn add_byte(text: &mut Vec<u8>, byte: u8) -> Result<(), AllocError> {
 }
 
 /// `%x` and this many names: of one letter, of two, and so on.
-fn conditions(alloc: Global, count: u32) -> Result<Vec<u8>, AllocError> {
+pub(crate) fn conditions(alloc: Global, count: u32) -> Result<Vec<u8>, AllocError> {
     let mut text = Vec::from_slice(alloc, b"%x".as_slice())?;
     let mut name = Vec::from_slice(alloc, b" ".as_slice())?;
     for _ in 0..count {

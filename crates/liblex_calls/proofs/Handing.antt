@@ -14,6 +14,19 @@ same_rest [] (y ∷ ys) = refl
 same_rest (x ∷ xs) [] = refl
 same_rest (x ∷ xs) (y ∷ ys) = same_rest xs ys
 
+-- what was handed out stands at the front of the buffer
+at_front : (items old : List ℕ) → take (length items) (take (length old) items ++ drop (length items) old) ≡ take (length old) items
+at_front [] [] = refl
+at_front [] (y ∷ ys) = refl
+at_front (x ∷ xs) [] = refl
+at_front (x ∷ xs) (y ∷ ys) = ap (λ l. x ∷ l) (at_front xs ys)
+
+-- with what is left it is all that waited
+pub all_handed : (items old new left : List ℕ) (count : ℕ) → HandedOut items old new count → left ≡ drop (length old) items → take count new ++ left ≡ items
+all_handed items old new left count handed rest_is =
+    let front : take count new ≡ take (length old) items = ap (λ n. take n new) handed.count_is ∙ ap (take (length items)) handed.buffer ∙ at_front items old in
+    ap (λ l. l ++ left) front ∙ ap (λ l. take (length old) items ++ l) rest_is ∙ take-append-drop (length old) items
+
 pub hands_on : (file : List ℕ) (told : Bool) (fed out : List ℕ) (p : PieceScan) (b : Backlog) (old new : List ℕ) (count : ℕ) → Progress file told fed out p → HandedOut (rest p.backlog) old new count → rest b ≡ drop (length old) (rest p.backlog) →
     HandsOn file told fed out (record p { backlog = b }) old new count
 hands_on file told fed out p b old new count P handed left =

@@ -2,7 +2,8 @@ pub mod Telling
 mod Refused
 mod Listed
 mod Loosened
-mod Placed
+mod Held
 mod Opened
 mod Piecing
 mod Handing
+mod Following

@@ -1,14 +1,15 @@
 -- What the calls of a scan by pieces leave in what a program in C holds of it. (Own.)
-use Rattle.std.specs.Prelude.{◌≡◌, ℕ, Bool, true, false, List, [], length, Some, None}
+use Rattle.std.specs.Prelude.{◌≡◌, ℕ, Bool, true, false, List, [], length, take, Some, None}
 use Rattle.lextab_packed.specs.Table.{Table}
 use Rattle.lextab_file.specs.File.{IsFileOf}
 use Rattle.liblex_calls.specs.Buffers.{NothingOut}
 use Rattle.liblex_calls.specs.Backlogs.{rest}
 use Rattle.liblex_calls.specs.Stages.{feed_answer, finish_answer, status_in}
-use Rattle.liblex_calls.specs.Progress.{Progress, HandsOn}
+use Rattle.liblex_calls.specs.Progress.{Progress, HandsOn, Follows}
 use Rattle.liblex_calls.specs.Handles.{open_in}
 use Rattle.liblex_calls.specs.declared.answer.Answer.{Answer}
 use Rattle.liblex_calls.specs.declared.answer.Answer.TheVariants as answers
+use Rattle.liblex_calls.specs.declared.stage.Stage.TheVariants as stages
 use Rattle.liblex_calls.specs.declared.handle.Scan.{Scan}
 use Rattle.liblex_calls.specs.declared.piece_scan.PieceScan.{PieceScan}
 
@@ -16,9 +17,13 @@ use Rattle.liblex_calls.specs.declared.piece_scan.PieceScan.{PieceScan}
 abbrev pub Scanning : List ℕ → Bool → List ℕ → List ℕ → Scan → Type 0
 Scanning file told fed out scan = (p : PieceScan) × (open_in scan ≡ Some p) × Progress file told fed out p
 
+-- the scan is open, and goes on
+abbrev pub IsGoing : Scan → Type 0
+IsGoing scan = (p : PieceScan) × (open_in scan ≡ Some p) × (p.stage ≡ stages.Going)
+
 -- What beginning a scan leaves, by what it answers.
 abbrev pub OpensScan : List ℕ → Scan → Answer → Type 0
-OpensScan file scan answers.Done = Scanning file false [] [] scan
+OpensScan file scan answers.Done = Scanning file false [] [] scan × IsGoing scan
 OpensScan file scan answers.Refused = ((t : Table) → IsFileOf t file → ⊥) × (open_in scan ≡ None)
 OpensScan file scan answers.OutOfMemory = open_in scan ≡ None
 OpensScan file scan answers.TooSmall = ⊥
@@ -40,3 +45,8 @@ FinishesInto file fed out scan old new count status answer =
 -- A call leaves a scan that is closed so, and hands out nothing.
 abbrev pub StaysClosed : Scan → List ℕ → List ℕ → ℕ → Answer → Type 0
 StaysClosed scan old new count answer = (answer ≡ answers.Closed) × NothingOut old new count × (open_in scan ≡ None)
+
+-- A call leaves a scan that is open so, as it follows from how it stood; what it hands out stands at the front of the buffer.
+abbrev pub StaysOpen : Scan → Scan → List ℕ → ℕ → Type 0
+StaysOpen old new buffer count =
+    (p : PieceScan) → open_in old ≡ Some p → (q : PieceScan) × (open_in new ≡ Some q) × Follows p (take count buffer) q

@@ -70,3 +70,13 @@ pub record HandsOn (file : List ℕ) (told : Bool) (fed out : List ℕ) (p : Pie
   pub size : length handed ≡ min (length old) count
   pub count_is : count ≡ length (handed ++ rest p.backlog)
   pub progress : Progress file told fed (out ++ handed) p
+
+-- How far a scan has come after a call, and all the bytes that the call hands out or leaves, by how far it had come and what waited to be
+-- handed out. Of a scan that goes on these bytes begin with what waited. One that has ended or stopped stays so, and they are what waited.
+abbrev pub Continues : Stage → List ℕ → Stage → List ℕ → Type 0
+Continues stages.Going waited after bytes = BeginsWith bytes waited
+Continues before waited after bytes = (after ≡ before) × (bytes ≡ waited)
+
+-- so does a scan, where a call hands these bytes out
+abbrev pub Follows : PieceScan → List ℕ → PieceScan → Type 0
+Follows p handed q = Continues p.stage (rest p.backlog) q.stage (handed ++ rest q.backlog)

@@ -2,7 +2,7 @@
 ghost use Rattle.std.specs.Prelude.{◌≡◌, ℕ, Bool, List, None};
 ghost use Rattle.liblex_calls.specs.Handles.{open_in};
 ghost use Rattle.liblex_calls.specs.Progress.{fed_with};
-ghost use Rattle.liblex_calls.specs.Pieces.{Scanning, OpensScan, FeedsInto, FinishesInto, StaysClosed};
+ghost use Rattle.liblex_calls.specs.Pieces.{Scanning, OpensScan, FeedsInto, FinishesInto, StaysOpen, StaysClosed};
 
 use crate::answer::Answer;
 use crate::handle::{Scan, put, take};
@@ -41,6 +41,7 @@ pub fn feed_into(
 ) -> Answer
     ensures fed { (file : List ℕ) (told : Bool) (fed out : List ℕ) → Scanning file told fed out scan.old
         → FeedsInto file told (fed_with told fed piece.now) out scan.new buffer.old buffer.new count.new result }
+    ensures follows { StaysOpen scan.old scan.new buffer.new count.new }
     ensures closed { open_in scan.old ≡ None → StaysClosed scan.new buffer.old buffer.new count.new result }
 {
     *count = 0;
@@ -63,6 +64,7 @@ pub fn finish_into(
 ) -> Answer
     ensures finished { (file : List ℕ) (told : Bool) (fed out : List ℕ) → Scanning file told fed out scan.old
         → FinishesInto file fed out scan.new buffer.old buffer.new count.new status.new result }
+    ensures follows { StaysOpen scan.old scan.new buffer.new count.new }
     ensures closed { open_in scan.old ≡ None → StaysClosed scan.new buffer.old buffer.new count.new result
         × (status.new ≡ 0) }
 {

@@ -2,18 +2,18 @@
 ghost use Rattle.std.specs.Prelude.{◌≡◌, Some, None, is_some, IfSome};
 ghost use Rattle.liblex_calls.specs.declared.piece_scan.PieceScan.{PieceScan};
 
+use crate::holder::Holder;
 use crate::loose::Loose;
 use crate::piece_scan::PieceScan;
-use crate::place::Place;
 use std::alloc::Global;
 use std::mem;
 
 /// What a program in C holds of a scan by pieces, open or closed.
 #[repr(C)]
 pub struct Scan {
-    /// Whether the place is filled.
+    /// Whether a scan is held.
     is_open: bool,
-    pub(crate) place: Place,
+    pub(crate) place: Holder,
     ghost told: { is_open ≡ is_some place.value },
 }
 
@@ -26,7 +26,7 @@ impl Scan {
     {
         Scan {
             is_open: false,
-            place: Place::empty(),
+            place: Holder::empty(),
         }
     }
 
@@ -44,7 +44,7 @@ impl Scan {
     {
         Scan {
             is_open: true,
-            place: Place::filled(Loose::of(scan)),
+            place: Holder::filled(Loose::of(scan)),
         }
     }
 

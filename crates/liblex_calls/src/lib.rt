@@ -9,11 +9,11 @@
 //! - `scanning`: scans of whole inputs.
 //! - `listing`: the tokens of an input, and the lines of rules.
 //! - `stage`, `backlog` and `piece_scan`: a scan by pieces, how far it has come, and what was not handed out yet.
-//! - `loose`, `place` and `handle`: a scan by pieces as what C holds of it. `by_pieces` has its calls.
+//! - `loose`, `holder` and `handle`: a scan by pieces as what C holds of it. `by_pieces` has its calls.
 //!
 //! It promises that what was handed out is the file, the run of the whole input or of all pieces, or its tokens. The
 //! numbers stand in include/lex.h, in bindings/rust and in docs/C.md too: none of them may change. How bytes are kept
-//! (`backlog`, `memory`) and how C holds a scan (`loose`, `place`) are seen by no caller.
+//! (`backlog`, `memory`) and how C holds a scan (`loose`, `holder`) are seen by no caller.
 //!
 //! - **What is made goes into buffers of the caller.** No struct with a list in it crosses to C, and no closure. Where the
 //!   buffer is too small, the count says how large it has to be, and the call is made again.
@@ -33,13 +33,13 @@ mod by_pieces;
 mod flags;
 mod generating;
 mod handle;
+mod holder;
 mod kinds;
 mod listing;
 mod loose;
 mod machines;
 mod memory;
 mod piece_scan;
-mod place;
 mod scanning;
 mod stage;
 

@@ -1,5 +1,5 @@
 //! A scan by pieces, with what it wrote and was not handed out yet.
-ghost use Rattle.std.specs.Prelude.{◌≡◌, ℕ, Bool, List, [], true, false, length};
+ghost use Rattle.std.specs.Prelude.{◌≡◌, ℕ, Bool, List, [], ◌++◌, true, false, length, take};
 ghost use Rattle.lextab_packed.specs.FlatViews.{tables_of};
 ghost use Rattle.lextab_packed.specs.Machines.{table_machine};
 
@@ -23,12 +23,13 @@ pub struct PieceScan {
 impl PieceScan {
     ghost use Rattle.liblex_calls.specs.Backlogs.{rest};
     ghost use Rattle.liblex_calls.specs.Stages.{feed_answer, finish_answer, status_in};
-    ghost use Rattle.liblex_calls.specs.Progress.{IsMachineOf, Progress, HandsOn, fed_with};
+    ghost use Rattle.liblex_calls.specs.Progress.{IsMachineOf, Progress, HandsOn, Follows, fed_with};
 
     /// One that was fed nothing.
     pub(crate) fn new(alloc: Global, flat: Flat) -> PieceScan
-        ensures { (file : List ℕ) → IsMachineOf file (table_machine (tables_of flat))
+        ensures progress { (file : List ℕ) → IsMachineOf file (table_machine (tables_of flat))
             → Progress file false [] [] result }
+        ensures going { result.stage ≡ Stage.Going }
     {
         PieceScan {
             scanner: PushScanner::new(alloc, flat),
@@ -40,8 +41,9 @@ impl PieceScan {
 
     /// Scans on with a piece more. Once the scan has ended or stopped, it counts for nothing.
     fn take(&mut self, piece: &[u8])
-        ensures { (file : List ℕ) (told : Bool) (fed out : List ℕ) → Progress file told fed out self.old
+        ensures progress { (file : List ℕ) (told : Bool) (fed out : List ℕ) → Progress file told fed out self.old
             → Progress file told (fed_with told fed piece.now) out self.new }
+        ensures follows { Follows self.old [] self.new }
     {
         let Stage::Going = self.stage else {
             return;
@@ -52,8 +54,9 @@ impl PieceScan {
 
     /// Scans to the end of what was fed.
     fn end(&mut self)
-        ensures { (file : List ℕ) (told : Bool) (fed out : List ℕ) → Progress file told fed out self.old
+        ensures progress { (file : List ℕ) (told : Bool) (fed out : List ℕ) → Progress file told fed out self.old
             → Progress file true fed out self.new }
+        ensures follows { Follows self.old [] self.new }
     {
         self.finished = true;
         let Stage::Going = self.stage else {
@@ -65,8 +68,10 @@ impl PieceScan {
 
     /// Hands out what was written, as much as there is room for.
     fn hand_on(&mut self, buffer: &mut [u8], count: &mut usize)
-        ensures { (file : List ℕ) (told : Bool) (fed out : List ℕ) → Progress file told fed out self.old
+        ensures handed { (file : List ℕ) (told : Bool) (fed out : List ℕ) → Progress file told fed out self.old
             → HandsOn file told fed out self.new buffer.old buffer.new count.new }
+        ensures stage { self.new.stage ≡ self.old.stage }
+        ensures all { take count.new buffer.new ++ rest self.new.backlog ≡ rest self.old.backlog }
     {
         self.backlog.hand_out(buffer, count);
     }
@@ -75,6 +80,7 @@ impl PieceScan {
     pub(crate) fn feed(&mut self, piece: &[u8], buffer: &mut [u8], count: &mut usize) -> Answer
         ensures fed { (file : List ℕ) (told : Bool) (fed out : List ℕ) → Progress file told fed out self.old
             → HandsOn file told (fed_with told fed piece.now) out self.new buffer.old buffer.new count.new }
+        ensures follows { Follows self.old (take count.new buffer.new) self.new }
         ensures answer { result ≡ feed_answer self.new.stage (length (rest self.new.backlog)) }
     {
         self.take(piece);
@@ -86,6 +92,7 @@ impl PieceScan {
     pub(crate) fn finish(&mut self, buffer: &mut [u8], count: &mut usize, status: &mut u8) -> Answer
         ensures finished { (file : List ℕ) (told : Bool) (fed out : List ℕ) → Progress file told fed out self.old
             → HandsOn file true fed out self.new buffer.old buffer.new count.new }
+        ensures follows { Follows self.old (take count.new buffer.new) self.new }
         ensures answer { result ≡ finish_answer self.new.stage (length (rest self.new.backlog)) }
         ensures status { status.new ≡ status_in self.new.stage }
     {

@@ -1,4 +1,4 @@
--- An empty place owns nothing.
+-- An empty holder owns nothing.
 use Rattle.std.proofs.Common.{lit<, ◌≡◌, [], ◌∷◌, refl, Option, None}
 use Rattle.std.proofs.raw_atomic.Walks.{proved_at, leaves}
 use base.Logic.{SProp, emp, id⊢}
@@ -13,13 +13,13 @@ use types.Part.{agg}
 use denote.RawPtr.{null_ptr, ptr_val}
 use denote.Steps.{nothing}
 use denote.Triple.Walked.{Stays, walk_of}
-use Rattle.liblex_calls.proofs.Placed.{R, one, place_in}
+use Rattle.liblex_calls.proofs.Held.{R, one, held_in}
 use Rattle.liblex_calls.specs.declared.piece_scan.PieceScan.{PieceScan}
 use Rattle.liblex_calls.specs.Owned.{owned_at}
-use Rattle.liblex_calls.specs.contracts.place.Place.empty.{ended, clauses}
-use Rattle.liblex_calls.specs.contracts.place.Place.empty.Key.{name as #self}
-use Rattle.liblex_calls.proofs.place.Place.empty.Statement.{statement}
-use Rattle.liblex_calls.proofs.place.Place.empty.Code as code
+use Rattle.liblex_calls.specs.contracts.holder.Holder.empty.{ended, clauses}
+use Rattle.liblex_calls.specs.contracts.holder.Holder.empty.Key.{name as #self}
+use Rattle.liblex_calls.proofs.holder.Holder.empty.Statement.{statement}
+use Rattle.liblex_calls.proofs.holder.Holder.empty.Code as code
 
 abbrev nothing_there : Option PieceScan
 nothing_there = None
@@ -33,6 +33,6 @@ empty_spec 𝓤 𝓛 𝓜 𝓡 wired =
     qed 𝓛 ((‵ ftrue ⊛ ‵ ftrue) ∷ ‵ ftrue ∷ []) ∵
     enter ! 𝓣.C 𝓣.Λ code.function [] Post $ alloc_all ! (λ l. pass_all ! refl tt $
     sets ! (agg ! (and_then ! (lit ! tt) (no_more !))) refl (tt, (record { fits = lit< tt }, tt)) $
-    use0 𝓛 (‵ (owned_at R null_ptr None)) (id⊢ 𝓤 (emp 𝓤)) $ place_in ! null_ptr None $ use0 𝓛 (raw (fact 𝓤 (nothing_there ≡ nothing_there))) (fact_i 𝓤 (nothing_there ≡ nothing_there) (emp 𝓤) refl) $
+    use0 𝓛 (‵ (owned_at R null_ptr None)) (id⊢ 𝓤 (emp 𝓤)) $ held_in ! null_ptr None $ use0 𝓛 (raw (fact 𝓤 (nothing_there ≡ nothing_there))) (fact_i 𝓤 (nothing_there ≡ nothing_there) (emp 𝓤) refl) $
     returns ! (look_at ! 0 refl) $ free_all ! refl $ nothing ! $ nothing ! $ keep ! (1 ∷ 0 ∷ 3 ∷ 2 ∷ []) $
     by ! (leaves 𝓛 ended hs c z (one (ptr_val null_ptr)) (record { at = null_ptr; value = None }) tt tt)))

@@ -1,4 +1,4 @@
--- What the pointer owned, the place owns.
+-- What the pointer owned, the holder owns.
 use Rattle.std.proofs.Common.{◌≡◌, [], ◌∷◌, ◌++◌, List, Some, refl, sym, subst}
 use Rattle.std.proofs.raw_atomic.Walks.{proved_at, leaves}
 use Rattle.std.proofs.alloc.Global.TheLaws as global_laws
@@ -19,11 +19,11 @@ use denote.RawPtr.{block_ptr}
 use denote.Steps.{nothing}
 use denote.Triple.Walked.{Stays, stay_dropped, walk_of, Goes-dropped}
 use Rattle.liblex_calls.proofs.Loosened.{Loose, both, loose_good, loose_out}
-use Rattle.liblex_calls.proofs.Placed.{R, Z, one, place_in}
-use Rattle.liblex_calls.specs.contracts.place.Place.filled.{ended, clauses}
-use Rattle.liblex_calls.specs.contracts.place.Place.filled.Key.{name as #self}
-use Rattle.liblex_calls.proofs.place.Place.filled.Statement.{statement}
-use Rattle.liblex_calls.proofs.place.Place.filled.Code as code
+use Rattle.liblex_calls.proofs.Held.{R, Z, one, held_in}
+use Rattle.liblex_calls.specs.contracts.holder.Holder.filled.{ended, clauses}
+use Rattle.liblex_calls.specs.contracts.holder.Holder.filled.Key.{name as #self}
+use Rattle.liblex_calls.proofs.holder.Holder.filled.Statement.{statement}
+use Rattle.liblex_calls.proofs.holder.Holder.filled.Code as code
 
 pub filled_spec : {M : Type 1} → statement M
 filled_spec 𝓤 𝓛 𝓜 𝓡 wired =
@@ -37,8 +37,8 @@ filled_spec 𝓤 𝓛 𝓜 𝓡 wired =
     enter ! 𝓣.C 𝓣.Λ code.function (w ∷ []) Post $ alloc_all ! (λ l. pass_all ! refl (typed, tt) $
     sets ! (of_opd ! (get_in ! (fld ! refl (stop !)) (sub ! 0 refl (whole !)))) refl (tt, tt) $ sets ! (of_opd ! (get ! refl)) refl (tt, tt) $
     sets ! (agg ! (and_then ! (get ! refl) (no_more !))) refl (tt, (tt, tt)) $
-    place_in ! (block_ptr b o) (Some v.value) $
-    -- [the place; the handle; nothing; the tokens; nothing]
+    held_in ! (block_ptr b o) (Some v.value) $
+    -- [the holder; the handle; nothing; the tokens; nothing]
     use0 𝓛 (raw (fact 𝓤 (Some v.value ≡ Some v.value))) (fact_i 𝓤 (Some v.value ≡ Some v.value) (emp 𝓤) refl) $ nothing ! $ nothing ! $ fjoin ! $
     returns ! (look_at ! 0 refl) $ free_all ! refl $ nothing ! $ keep ! (0 ∷ 1 ∷ 3 ∷ 2 ∷ []) $
     by ! (leaves 𝓛 ended hs c z (one (vptr b o)) (record { at = block_ptr b o; value = Some v.value }) (tt, tt) (tt, tt)))))

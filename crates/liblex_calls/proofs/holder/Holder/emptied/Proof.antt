@@ -1,4 +1,4 @@
--- What the place owned, the pointer owns.
+-- What the holder owned, the pointer owns.
 use Rattle.std.proofs.Common.{◌≡◌, [], ◌∷◌, ◌++◌, List, Some, refl, sym, subst}
 use Rattle.std.proofs.raw_atomic.Walks.{proved_at, leaves}
 use Rattle.std.proofs.alloc.Calls.{Al, handle_tells}
@@ -21,24 +21,24 @@ use denote.RawPtr.{block_ptr}
 use denote.Steps.{nothing, heard}
 use denote.Triple.Walked.{Stays, stay_dropped, walk_of, Goes-dropped}
 use Rattle.liblex_calls.proofs.Loosened.{both, loose_good, loose_in}
-use Rattle.liblex_calls.proofs.Placed.{R, Z, one, place_out}
+use Rattle.liblex_calls.proofs.Held.{R, Z, one, held_out}
 use Rattle.liblex_calls.specs.declared.piece_scan.PieceScan.{PieceScan}
-use Rattle.liblex_calls.specs.contracts.place.Place as place
-use Rattle.liblex_calls.specs.contracts.place.Place.emptied.{ended, clauses}
-use Rattle.liblex_calls.specs.contracts.place.Place.emptied.Key.{name as #self}
-use Rattle.liblex_calls.proofs.place.Place.emptied.Statement.{statement}
-use Rattle.liblex_calls.proofs.place.Place.emptied.Code as code
+use Rattle.liblex_calls.specs.contracts.holder.Holder as holder
+use Rattle.liblex_calls.specs.contracts.holder.Holder.emptied.{ended, clauses}
+use Rattle.liblex_calls.specs.contracts.holder.Holder.emptied.Key.{name as #self}
+use Rattle.liblex_calls.proofs.holder.Holder.emptied.Statement.{statement}
+use Rattle.liblex_calls.proofs.holder.Holder.emptied.Code as code
 
 pub emptied_spec : {M : Type 1} → statement M
 emptied_spec 𝓤 𝓛 𝓜 𝓡 wired =
-    let H = 𝓛.H in let 𝓣 = tables 𝓤 H 𝓜 𝓡 𝓡.env in let c = clauses 𝓛 𝓜.mem 𝓡.returns in let P = place.the_row in
+    let H = 𝓛.H in let 𝓣 = tables 𝓤 H 𝓜 𝓡 𝓡.env in let c = clauses 𝓛 𝓜.mem 𝓡.returns in let P = holder.the_row in
     let al : Al = record { row = Z; laws = global_laws.the_row_laws; g = ghosts; d = impl [] tnil dnil; drops = impl [] tnil dnil } in
     let hs : Stays ended.signature.params ended.kept = (stay_dropped (plain (λ _. P)) yes, (stay_dropped (plain (λ _. Z)) yes, tt)) in
     proved_at 𝓛 ended hs c 𝓜 𝓡 (Goes-dropped 𝓛 0 (plain (λ _. P)) yes (λ κs x w. refl), (Goes-dropped 𝓛 0 (plain (λ _. Z)) yes (λ κs x w. refl), tt)) #self code.function (code.unfolded 𝓤 H 𝓜 𝓡 wired) (λ z are.
     let v = z.0.3.0 in let a = z.0.3.1.0 in let Post : Val → SProp 𝓤 = (walk_of 𝓛 ended hs c).post z in let Run : List Val → SProp 𝓤 = λ ws. WpFn 𝓤 H 𝓣.C 𝓣.Λ code.function ws Post in
     let Has : Type 0 = (x : PieceScan) × (v.value ≡ Some x) in
     qed 𝓛 ((‵ ftrue ⊛ ‵ (fsep (P.own_val v z.0.4.0) (fsep (Z.own_val a z.0.4.1.0) ftrue))) ∷ raw (fact 𝓤 Has) ∷ []) ∵ move ! (1 ∷ []) $ heard ! Has (λ has. split ! $ move ! (1 ∷ []) $ fsplit ! $
-    place_out ! v z.0.4.0 has.0 has.1 (λ b o ws. move ! (1 ∷ []) $ fsplit ! $ handle_tells al ! a z.0.4.1.0 (λ h eh fits.
+    held_out ! v z.0.4.0 has.0 has.1 (λ b o ws. move ! (1 ∷ []) $ fsplit ! $ handle_tells al ! a z.0.4.1.0 (λ h eh fits.
     let w : Val = one (vptr b o) in let typed = loose_good R Z global_laws.the_row_laws ghosts b o h fits in
     suffices ! (Run (w ∷ h ∷ [])) (subst (λ (us : List Val). ent 𝓤 (Run (w ∷ h ∷ [])) (Run us)) (sym (λ i. ws i ++ (eh i ++ []))) (id⊢ 𝓤 (Run (w ∷ h ∷ [])))) $
     enter ! 𝓣.C 𝓣.Λ code.function (w ∷ h ∷ []) Post $ alloc_all ! (λ l. pass_all ! refl ((tt, (tt, tt)), (fits, tt)) $

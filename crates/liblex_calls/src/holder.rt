@@ -1,4 +1,4 @@
-//! The handle.
+//! What holds a scan for the handle.
 ghost use Rattle.std.specs.Prelude.{◌≡◌, Some, None, Option};
 ghost use Rattle.std.specs.Coded.{coded_option};
 ghost use Rattle.liblex_calls.specs.Owned.{owned_at};
@@ -10,33 +10,33 @@ use crate::piece_scan::PieceScan;
 use std::alloc::Global;
 use std::marker::Model;
 
-/// A place for a scan.
+/// Holds a scan, or nothing: a pointer that owns the scan, or none.
 #[repr(C)]
-pub struct Place {
+pub struct Holder {
     at: *mut u8,
     pub(crate) ghost value: { Option PieceScan } by { coded_option the_row.coded },
 }
 
-impl Model for Place {
+impl Model for Holder {
     ghost also_owns = { λ l. owned_at the_row l.at l.value };
 }
 
-impl Place {
+impl Holder {
     /// One that holds nothing.
-    pub(crate) fn empty() -> Place
+    pub(crate) fn empty() -> Holder
         ensures { result.value ≡ None }
     {
-        Place {
+        Holder {
             at: std::ptr::null_mut(),
         }
     }
 
     /// One that holds what a pointer owns.
-    pub(crate) fn filled(scan: Loose<PieceScan, Global>) -> Place
+    pub(crate) fn filled(scan: Loose<PieceScan, Global>) -> Holder
         ensures { result.value ≡ Some scan.value }
     {
         let Loose { at, alloc: _ } = scan;
-        Place { at: at as *mut u8 }
+        Holder { at: at as *mut u8 }
     }
 
     /// The pointer again, of one that is filled.
@@ -44,7 +44,7 @@ impl Place {
         requires { (v : PieceScan) × (self.value ≡ Some v) }
         ensures { self.value ≡ Some result.value }
     {
-        let Place { at } = self;
+        let Holder { at } = self;
         Loose {
             at: at as *mut PieceScan,
             alloc,
@@ -55,6 +55,6 @@ impl Place {
     pub(crate) fn let_go(self)
         requires { self.value ≡ None }
     {
-        let Place { at: _ } = self;
+        let Holder { at: _ } = self;
     }
 }

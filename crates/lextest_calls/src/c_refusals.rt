@@ -1,0 +1,229 @@
+//! What a program in C is told of each kind of refusal. No contract says that a refusal is not told as want of memory;
+//! here there is ample. The texts are those of docs/MANUAL.md, with the lines and the places that it has of them. The numbers are those
+//! of include/lex.h.
+use crate::table_files::conditions;
+use liblex_calls::{
+    Answer, Scan, TextFault, TextToken, generate_into, open_scan, options_of, rule_lines_into,
+    scan_into, tokens_into,
+};
+use std::alloc::{AllocError, Global};
+use std::test::Fail;
+
+/// A text, and the line, the kind and the place that are told of it.
+type Refused = (&'static [u8], u32, u32, usize);
+
+/// Whether a text is refused so.
+fn is_told(alloc: Global, text: &[u8], line: u32, kind: u32, place: usize) -> bool {
+    let mut buffer = [0u8; 8];
+    let mut count = 0;
+    let mut fault = TextFault {
+        line: 0,
+        kind: 0,
+        place: 0,
+    };
+    let options = options_of(0);
+    let answer = generate_into(alloc, text, options, &mut buffer, &mut count, &mut fault);
+    answer == Answer::Refused && fault == TextFault { line, kind, place }
+}
+
+/// What is answered of the lines of a text's rules, how many there are, and what stands in a buffer that began with 7.
+fn lines(alloc: Global, text: &[u8]) -> (Answer, usize, u32) {
+    let mut lines = [7u32; 1];
+    let mut count = 9;
+    let answer = rule_lines_into(alloc, text, options_of(0), &mut lines, &mut count);
+    (answer, count, lines[0])
+}
+
+/// Whether a text that is no specification is refused so, and its lines of rules are.
+fn is_refused(alloc: Global, text: &[u8], line: u32, kind: u32, place: usize) -> bool {
+    is_told(alloc, text, line, kind, place) && lines(alloc, text) == (Answer::Refused, 0, 7)
+}
+
+#[test]
+fn tells_each_refusal_of_a_specification(rt: HostRuntime) {
+    const ROWS: &[Refused] = &[
+        (b"", 1, 1, 0),
+        (b"D [0-9]\n", 2, 1, 0),
+        (b"foo\n%%\n", 1, 2, 0),
+        (b"D [0-9]\nD a\n%%\n", 2, 3, 0),
+        (b"%x INITIAL\n%%\n", 1, 4, 0),
+        (b"%%\n<Z>a ;\n", 2, 5, 0),
+        (b"%%\na*/b* ;\n", 2, 6, 0),
+        (b"%%\na/b$ ;\n", 2, 7, 0),
+        (b"A ^a\n%%\n", 1, 8, 0),
+        (b"%%\n<<EOF>>x ;\n", 2, 9, 0),
+        (b"%%\n<<EOF>> ;\n<<EOF>> ;\n", 3, 10, 0),
+        (b"%%\na return 1;\n", 2, 11, 0),
+        (b"%%\na yyless(1); yymore();\n", 2, 12, 0),
+        (b"%%\na yymore(); REJECT;\n", 2, 13, 0),
+        (b"%%\na REJECT; ECHO;\n", 2, 14, 0),
+        (b"%%\n<<EOF>> ECHO;\n", 2, 15, 0),
+        (b"%%\na yyless(0);\n", 2, 16, 0),
+        (b"%%\na exit(64);\n", 2, 17, 0),
+        (b"%%\na { ECHO;\n", 2, 18, 0),
+        (b"%%\na |\n", 2, 19, 0),
+        (b"%option reentrant\n%%\n", 1, 20, 0),
+    ];
+    for &(text, line, kind, place) in ROWS {
+        assert!(rt; is_refused(rt.alloc(), text, line, kind, place), "{kind}");
+    }
+}
+
+#[test]
+fn tells_each_refusal_of_a_pattern(rt: HostRuntime) {
+    const ROWS: &[Refused] = &[
+        (b"%%\n\"a ;\n", 2, 101, 0),
+        (b"%%\n[a ;\n", 2, 102, 0),
+        (b"%%\n[z-a] ;\n", 2, 103, 1),
+        (b"%%\n[^\\0-\\377] ;\n", 2, 104, 0),
+        (b"%%\n[[:foo:]] ;\n", 2, 105, 1),
+        (b"%%\n[[=a=]] ;\n", 2, 106, 1),
+        (b"%%\n\\400 ;\n", 2, 107, 0),
+        (b"%%\na{2,1} ;\n", 2, 108, 1),
+        (b"%%\na) ;\n", 2, 109, 1),
+        (b"%%\n*a ;\n", 2, 110, 0),
+        (b"%%\n{x} ;\n", 2, 111, 0),
+        (b"x a{x}\n%%\n{x} ;\n", 3, 112, 0),
+        (b"%%\n(a/b) ;\n", 2, 115, 2),
+    ];
+    for &(text, line, kind, place) in ROWS {
+        assert!(rt; is_refused(rt.alloc(), text, line, kind, place), "{kind}");
+    }
+}
+
+/// A text with a part of it so many times.
+fn repeated(
+    alloc: Global,
+    before: &[u8],
+    part: &[u8],
+    times: usize,
+    after: &[u8],
+) -> Result<Vec<u8>, AllocError> {
+    let mut text = Vec::from_slice(alloc, before)?;
+    for _ in 0..times {
+        text.extend_from_slice(part)?;
+    }
+    text.extend_from_slice(after)?;
+    Ok(text)
+}
+
+/// A part of a text and how often it stands there, what stands after it, and the line, the kind and the place that are told.
+type Long = (&'static [u8], usize, &'static [u8], u32, u32, usize);
+
+#[test]
+fn tells_each_limit_of_a_specification(rt: HostRuntime) -> Result<(), Fail> {
+    const ROWS: &[Long] = &[
+        (b"a ;\n", 4_097, b"", 4_098, 21, 0),
+        (b"\n", 1_048_574, b"", 0, 23, 0),
+        (b"(", 65, b"a ;\n", 2, 113, 64),
+        (b"a", 65_536, b" ;\n", 2, 114, 65_535),
+    ];
+    for &(part, times, after, line, kind, place) in ROWS {
+        let text = repeated(rt.alloc(), b"%%\n", part, times, after)?;
+        assert!(rt; is_refused(rt.alloc(), &text, line, kind, place), "{kind}");
+    }
+    let many = conditions(rt.alloc(), 255)?;
+    assert!(rt; is_refused(rt.alloc(), &many, 1, 22, 0));
+    Ok(())
+}
+
+/// Where only the automaton passes a limit, no line is at fault, and the rules have lines.
+#[test]
+fn tells_each_limit_of_an_automaton(rt: HostRuntime) {
+    const ROWS: &[Refused] = &[
+        (b"%%\n(a{255}){65} ;\n", 0, 201, 0),
+        (b"%%\n(a|b)*a(a|b){14} ;\n", 0, 202, 0),
+    ];
+    for &(text, line, kind, place) in ROWS {
+        assert!(rt; is_told(rt.alloc(), text, line, kind, place), "{kind}");
+        assert!(rt; lines(rt.alloc(), text) == (Answer::Done, 1, 2), "{kind}");
+    }
+}
+
+/// Whether a scan by these bytes is refused.
+fn scans_nothing(alloc: Global, bytes: &[u8]) -> bool {
+    let mut out = [7u8; 1];
+    let mut count = 9;
+    let mut status = 9;
+    let answer = scan_into(alloc, bytes, b"a", &mut out, &mut count, &mut status);
+    (answer, count, status, out[0]) == (Answer::Refused, 0, 0, 7)
+}
+
+const NO_TOKEN: TextToken = TextToken {
+    start: 0,
+    end: 0,
+    rule: 0,
+    condition: 0,
+};
+
+/// Whether no tokens are listed by these bytes.
+fn lists_nothing(alloc: Global, bytes: &[u8]) -> bool {
+    let mut tokens = [NO_TOKEN; 1];
+    let mut count = 9;
+    let mut status = 9;
+    let answer = tokens_into(alloc, bytes, b"a", &mut tokens, &mut count, &mut status);
+    (answer, count, status) == (Answer::Refused, 0, 0)
+}
+
+/// Whether no scan is opened by these bytes.
+fn opens_nothing(alloc: Global, bytes: &[u8]) -> bool {
+    let mut scan = Scan::closed();
+    let answer = open_scan(alloc, &mut scan, bytes);
+    scan.close(alloc);
+    answer == Answer::Refused
+}
+
+/// Whether these bytes are told to be no table file.
+fn is_no_table(alloc: Global, bytes: &[u8]) -> bool {
+    scans_nothing(alloc, bytes) && lists_nothing(alloc, bytes) && opens_nothing(alloc, bytes)
+}
+
+/// The table file of a rule, in so many bytes.
+fn file(alloc: Global) -> Result<Vec<u8>, AllocError> {
+    let mut file = Vec::new(alloc);
+    file.resize(4_096, 0)?;
+    let mut count = 0;
+    let mut fault = TextFault {
+        line: 0,
+        kind: 0,
+        place: 0,
+    };
+    let options = options_of(0);
+    let answer = generate_into(
+        alloc,
+        b"%%\na ;\n",
+        options,
+        &mut file,
+        &mut count,
+        &mut fault,
+    );
+    file.truncate(if answer == Answer::Done { count } else { 0 });
+    Ok(file)
+}
+
+/// The bytes with others from a place on.
+fn changed(alloc: Global, bytes: &[u8], at: usize, put: &[u8]) -> Result<Vec<u8>, AllocError> {
+    let (before, rest) = bytes.split_at(at.min(bytes.len()));
+    let after = rest.get(put.len()..).unwrap_or_default();
+    repeated(alloc, before, put, 1, after)
+}
+
+/// A file that is cut short, one with a byte more, and one with another name, with a version that is none and with too many
+/// conditions, as docs/TABLE-FORMAT.md has these.
+#[test]
+fn tells_each_refusal_of_a_table_file(rt: HostRuntime) -> Result<(), Fail> {
+    let alloc = rt.alloc();
+    let file = file(alloc)?;
+    assert!(rt; !file.is_empty() && !is_no_table(alloc, &file));
+    for (n, _) in file.iter().enumerate() {
+        assert!(rt; is_no_table(alloc, &file[..n]), "{n}");
+    }
+    const CHANGES: &[(usize, &[u8])] = &[(0, b"M"), (6, b"\0\x03"), (8, b"\0\0\x01\0")];
+    for &(at, put) in CHANGES {
+        let changed = changed(alloc, &file, at, put)?;
+        assert!(rt; is_no_table(alloc, &changed), "{at}");
+    }
+    let longer = repeated(alloc, &file, b"\0", 1, b"")?;
+    assert!(rt; is_no_table(alloc, &longer));
+    Ok(())
+}
