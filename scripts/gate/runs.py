@@ -20,7 +20,9 @@ WARNINGS = b"lex: line 1: warning: code skipped\nlex: line 6: warning: rule cann
 BACKING_UP = b'%%\nabc printf("X");\n'
 REPORT = b'state 3 after "ab"\nstates that back up: 1\n'
 SERIES = b'%%\nab{2} printf("X");\n'
-FILES = {"small.l": SMALL, "warned.l": WARNED, "back.l": BACKING_UP, "series.l": SERIES, "first.l": SMALL[:10], "second.l": SMALL[10:]}
+# One byte longer than a specification may be.
+LONG = b"%%\n" + 1_048_574 * b"\n"
+FILES = {"small.l": SMALL, "warned.l": WARNED, "back.l": BACKING_UP, "series.l": SERIES, "first.l": SMALL[:10], "second.l": SMALL[10:], "long.l": LONG}
 
 
 class Run(NamedTuple):
@@ -52,6 +54,8 @@ def runs(table, folded, series):
     yield Run("-o warned.tab warned.l", told=WARNINGS, made={"warned.tab": None})
     yield Run("-w -o warned.tab warned.l", made={"warned.tab": None})
     yield Run("-o none/warned.tab warned.l", status=74, told=WARNINGS + b"lex: write fault\n")
+    yield Run("-o /dev/full small.l", status=74, told=b"lex: write fault\n")
+    yield Run("-t long.l none", status=65, told=b"lex: line 0: TooLong\n")
     yield Run("-i -o folded.tab small.l", made={"folded.tab": folded})
     yield Run("-X -o series.tab series.l", made={"series.tab": series})
     yield Run("--scan-spec small.l", b"if iff IF\n", written=b"K I IF\n")

@@ -1,10 +1,10 @@
 -- What stands against cuts has names and lines.
-use Rattle.std.proofs.Common.{ℕ, ◌<◌, List, Bool, Result, Ok, Err, Option, Some, None, arith}
+use Rattle.std.proofs.Common.{◌≡◌, ℕ, ◌<◌, List, Bool, Result, Ok, Err, Option, Some, None, arith}
 use Rattle.std.specs.Prelude.{IfSome}
 use Rattle.lex_semantics.specs.Spec.{Spec}
 use Rattle.lex_semantics.specs.Machine.{Machine}
 use Rattle.lex_semantics.specs.MachineLaws.{MachineLaws}
-use Rattle.lexlook_tables.specs.Obstacles.{Hinders}
+use Rattle.lexlook_tables.specs.Obstacles.{FirstOf, Hinders}
 use Rattle.lexlook_tables.specs.declared.lines.cutting.Obstacle.{Obstacle}
 use Rattle.lexlook_tables.specs.declared.lines.cutting.Obstacle.TheVariants.{Unsteady, Crosses, Strays, Copies, Writes}
 use Rattle.lexlook_calls.specs.Lines.{Side, IsLabelled}
@@ -23,16 +23,20 @@ module _ (a : Side) (laws : MachineLaws a.machine) where
   has_rule None l i lt = tt
   has_rule (Some S) l i lt = (let e = l.1 in omega (arith, e, lt))
 
-  pub can_tell : IsLabelled a → (o : Obstacle) → Hinders a.machine o → CanTell a.given o
-  can_tell l (Unsteady i) h = has_rule a.given l i h.0
-  can_tell l (Crosses c i) h = (has_condition a.given l c h.0, has_rule a.given l i (laws.in_range _ i h.7))
-  can_tell l (Strays c i) h = (has_condition a.given l c h.0, has_rule a.given l i (laws.in_range _ i h.4))
-  can_tell l (Copies c) h = has_condition a.given l c h.1
-  can_tell l Writes h = tt
+  -- the condition in which it stands
+  below : (c d : ℕ) → d ≡ c → c < a.machine.conditions → d < a.machine.conditions
+  below c d e lt = omega (arith, e, lt)
 
-  pub can_tell_some : IsLabelled a → (o : Option Obstacle) → IfSome o (Hinders a.machine) → IfSome o (CanTell a.given)
+  can_tell : IsLabelled a → (o : Obstacle) (k : List ℕ) → Hinders a.machine o k → CanTell a.given o
+  can_tell l (Unsteady i) k h = has_rule a.given l i h.1.0
+  can_tell l (Crosses d i) k h = (has_condition a.given l d (below h.0 d h.3.4.0 h.1), has_rule a.given l i (laws.in_range _ i h.3.4.2.3))
+  can_tell l (Strays d i) k h = (has_condition a.given l d (below h.0 d h.3.4.0 h.1), has_rule a.given l i (laws.in_range _ i h.3.4.2.0))
+  can_tell l (Copies d) k h = has_condition a.given l d (below h.0 d h.3.0 h.1)
+  can_tell l Writes k h = tt
+
+  pub can_tell_some : IsLabelled a → (o : Option Obstacle) → FirstOf (Hinders a.machine) o → IfSome o (CanTell a.given)
   can_tell_some l None h = tt
-  can_tell_some l (Some o) h = can_tell l o h
+  can_tell_some l (Some o) h = can_tell l o h.0 h.1
 
 -- what is told of what a file stands for is told of the file
 pub told_of_file : {K : Type 0} (wrote : K → List ℕ → K → Type 0) (options : Options) (bytes : List ℕ) (M : Machine) (given : Option Spec) (s t : K) (answer : Result Bool LookError) →

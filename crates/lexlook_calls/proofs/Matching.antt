@@ -4,7 +4,7 @@ use Rattle.std.proofs.lemmas.List.{length-take-le}
 use Rattle.lex_semantics.proofs.Texts.{is_text_take}
 use Rattle.lexlook_specs.specs.Matches.{Matches, IsInput, IsCopied, Takes}
 use Rattle.lexlook_specs.specs.Words.{AreTakers, AreWords, IsFirst, IsWordOf, TellsDefault}
-use Rattle.lexlook_specs.specs.declared.words.finding.Place.{Place}
+use Rattle.lexlook_specs.specs.declared.words.finding.ShownText.{ShownText}
 use Rattle.lexlook_specs.specs.declared.words.finding.Word.{Word}
 use Rattle.lexlook_specs.specs.declared.words.finding.Word.TheVariants.{Taken, Never}
 use Rattle.lexlook_specs.specs.declared.words.finding.Words.{Words}
@@ -42,7 +42,7 @@ module _ (m n : Matches) (a : AreAlike m n) where
   from_copied : (c : ℕ) (line : Bool) (y : List ℕ) → IsInput m c y → IsCopied n c line y → IsCopied m c line y
   from_copied c line y h copied = λ k some few i f. a.gives_up i ∙ copied k some few i ((a.fits c line (take k y) i (front_input c k y h some few)).0 f)
 
-  to_first : (P Q : ℕ → Bool → List ℕ → Type 0) → ((c : ℕ) (line : Bool) (w : List ℕ) → IsInput m c w → P c line w ↔ Q c line w) → (q : Place) → IsFirst m P q → IsFirst n Q q
+  to_first : (P Q : ℕ → Bool → List ℕ → Type 0) → ((c : ℕ) (line : Bool) (w : List ℕ) → IsInput m c w → P c line w ↔ Q c line w) → (q : ShownText) → IsFirst m P q → IsFirst n Q q
   to_first P Q same q f = record {
     input = to_input q.condition q.text.items f.input;
     holds = (same q.condition q.line_start q.text.items f.input).0 f.holds;
@@ -63,7 +63,7 @@ module _ (m n : Matches) (a : AreAlike m n) where
   to_tells i (Taken q) t = to_first (λ c line w. Takes m c line w i) (λ c line w. Takes n c line w i) (λ c line w h. (to_takes c line w i h, from_takes c line w i h)) q t
   to_tells i (Never js) t = to_takers i js.items t
 
-  to_default : (o : Option Place) → TellsDefault m o → TellsDefault n o
+  to_default : (o : Option ShownText) → TellsDefault m o → TellsDefault n o
   to_default None none = λ c line w h copied. none c line w (from_input c w h) (from_copied c line w (from_input c w h) copied)
   to_default (Some q) t = (to_first (IsCopied m) (IsCopied n) (λ c line w h. (to_copied c line w h, from_copied c line w h)) q t.0, t.1)
 

@@ -20,7 +20,7 @@ use Rattle.lexauto_dfa.proofs.Machinery.{walk_after}
 use Rattle.lexlook_specs.specs.Matches.{matches_in, matches_of}
 use Rattle.lexlook_specs.specs.Rejecting.{rejecting, rejecting_rule}
 use Rattle.lexlook_specs.specs.Words.{AreWords, IsWordOf, TellsDefault}
-use Rattle.lexlook_specs.specs.declared.words.finding.Place.{Place}
+use Rattle.lexlook_specs.specs.declared.words.finding.ShownText.{ShownText}
 use Rattle.lexlook_specs.specs.declared.words.finding.Word.{Word}
 use Rattle.lexlook_specs.specs.declared.words.finding.Word.TheVariants.{Taken, Never}
 use Rattle.lexlook_specs.specs.declared.words.finding.Words.{Words}
@@ -69,9 +69,9 @@ labelled S v a = record {
     label i (Taken q) t = (let low = t.input.condition in omega (arith, low, n))
     label i (Never js) t = λ j b. (let r = (t.takers j).0 b in let low = known_rule S.rules j (r.5.0.1).rule (r.5.0.1).at in omega (arith, low, m))
 
-    of_default : (o : Option Place) (p : Place) → o ≡ Some p → TellsDefault (matches_of S) o → p.condition < length (names_of S.conditions)
+    of_default : (o : Option ShownText) (p : ShownText) → o ≡ Some p → TellsDefault (matches_of S) o → p.condition < length (names_of S.conditions)
     of_default None p e t = absurd cc
-    of_default (Some q) p e t = (let same : q ≡ p = cc in let low = t.0.input.condition in let lt : q.condition < length (names_of S.conditions) = omega (arith, low, n) in subst (λ (k : Place). k.condition < length (names_of S.conditions)) same lt)
+    of_default (Some q) p e t = (let same : q ≡ p = cc in let low = t.0.input.condition in let lt : q.condition < length (names_of S.conditions) = omega (arith, low, n) in subst (λ (k : ShownText). k.condition < length (names_of S.conditions)) same lt)
 
 -- the names and lines stay as they were
 pub names_same : (S T : Spec) → T ≡ rejecting S → names_of T.conditions ≡ names_of S.conditions

@@ -1,5 +1,5 @@
 -- Conditions that are paired, and rules that have lines.
-use Rattle.std.proofs.Common.{◌++◌, zero, suc, get_or, refl, inl, inr, Bool, true, false, ◌∷◌, take, ◌≡◌, ℕ, ◌<◌, ◌∙◌, List, [], length, ap, sym, subst, Some, None, Option, arith}
+use Rattle.std.proofs.Common.{◌++◌, zero, suc, get_or, refl, inl, inr, Bool, true, false, ◌∷◌, take, ◌≡◌, ℕ, ◌<◌, ◌∙◌, List, [], length, ap, sym, subst, Some, None, Option, Err, arith}
 use Rattle.std.specs.Prelude.{IfSome}
 use Rattle.std.proofs.lemmas.List.{length-map}
 use Rattle.std.proofs.lemmas.Option.{slice_get_within}
@@ -13,11 +13,14 @@ use Rattle.lexlook_tables.specs.Comparing.{Compares}
 use Rattle.lexlook_tables.specs.declared.same.tables.Comparison.{Comparison}
 use Rattle.lexlook_tables.specs.declared.same.tables.Comparison.TheVariants.{Same, Conditions, Ends, Texts}
 use Rattle.lexlook_tables.proofs.Lists.{some_at}
-use Rattle.lexlook_calls.specs.Compared.{Holds}
+use Rattle.lexlook_calls.specs.Compared.{Holds, IsFirstRefused, TellsSame}
 use Rattle.lexlook_calls.specs.Looks.{names_of}
 use Rattle.lexlook_calls.specs.Lines.{Side, IsLabelled}
 use Rattle.lexlook_calls.specs.Naming.{ArePaired}
 use Rattle.lexlook_calls.specs.Sides.{StandsFor}
+use Rattle.lexlook_calls.specs.declared.same.Given.{Given}
+use Rattle.lexlook_calls.specs.declared.error.LookError.{LookError}
+use Rattle.lexlook_calls.specs.declared.error.LookError.TheVariants.{Refused, Table, OutOfMemory, Write}
 
 -- what a file stands for has a name for each condition, and a line for each rule
 pub labelled : (options : Options) (bytes name : List ℕ) (M : Machine) (given : Option Spec) → StandsFor options bytes M given → IsLabelled (record { name = name; machine = M; given = given })
@@ -75,3 +78,11 @@ holds_of a b order Same paired same = (paired, same)
 holds_of a b order Conditions paired differ = λ o p. differ
 holds_of a b order (Ends c) paired ends = (paired, ends)
 holds_of a b order (Texts d) paired texts = (paired, texts)
+
+-- what is told of the first of two files that is refused
+pub first_refused : {K : Type 0} (wrote : K → List ℕ → K → Type 0) (options : Options) (g h : Given) (s : K) (e : LookError) → IsFirstRefused options g h e → TellsSame wrote options g h s s (Err e)
+first_refused wrote options g h s (Refused e) r = (r, refl)
+first_refused wrote options g h s (Table e) r = (r, refl)
+first_refused wrote options g h s OutOfMemory r = refl
+first_refused wrote options g h s Write (inl r) = absurd r
+first_refused wrote options g h s Write (inr r) = absurd r.2

@@ -50,10 +50,14 @@ SaysOf wrote a b s t (Err (Table e)) = ⊥
 abbrev pub IsToldOf : {K : Type 0} → (K → List ℕ → K → Type 0) → Options → Given → Given → K → K → Result Bool LookError → Type 0
 IsToldOf wrote options g h s t answer = (a b : Side) × IsSideOf options g a × IsSideOf options h b × SaysOf wrote a b s t answer
 
+-- The first file was refused rightly, or the first stands for a machine and the second was.
+abbrev pub IsFirstRefused : Options → Given → Given → LookError → Type 0
+IsFirstRefused options g h e = IsRefused options g.bytes.now e ⊎ ((a : Side) × IsSideOf options g a × IsRefused options h.bytes.now e)
+
 -- What was told of two files, and whether they do the same. Files that are refused leave the sink as it was.
 abbrev pub TellsSame : {K : Type 0} → (K → List ℕ → K → Type 0) → Options → Given → Given → K → K → Result Bool LookError → Type 0
 TellsSame wrote options g h s t (Ok same) = IsToldOf wrote options g h s t (Ok same)
 TellsSame wrote options g h s t (Err Write) = IsToldOf wrote options g h s t (Err Write)
 TellsSame wrote options g h s t (Err OutOfMemory) = t ≡ s
-TellsSame wrote options g h s t (Err (Refused e)) = (IsRefused options g.bytes.now (Refused e) ⊎ IsRefused options h.bytes.now (Refused e)) × (t ≡ s)
-TellsSame wrote options g h s t (Err (Table e)) = (IsRefused options g.bytes.now (Table e) ⊎ IsRefused options h.bytes.now (Table e)) × (t ≡ s)
+TellsSame wrote options g h s t (Err (Refused e)) = IsFirstRefused options g h (Refused e) × (t ≡ s)
+TellsSame wrote options g h s t (Err (Table e)) = IsFirstRefused options g h (Table e) × (t ≡ s)

@@ -6,7 +6,7 @@ use Rattle.lex_semantics.specs.Spec.{Spec}
 use Rattle.lex_semantics.specs.Machine.{Machine, rules_of_machine}
 use Rattle.lexkit.specs.declared.options.Options.{Options}
 use Rattle.lexlook_tables.specs.Lines.{ScansApart}
-use Rattle.lexlook_tables.specs.Obstacles.{Hinders}
+use Rattle.lexlook_tables.specs.Obstacles.{FirstOf, Hinders}
 use Rattle.lexlook_tables.specs.declared.lines.cutting.Obstacle.{Obstacle}
 use Rattle.lexlook_tables.specs.declared.lines.cutting.Obstacle.TheVariants.{Unsteady, Crosses, Strays, Copies, Writes}
 use Rattle.lexlook_calls.specs.Lines.{condition_words, rule_words}
@@ -49,11 +49,12 @@ abbrev pub is_nothing : Option Obstacle → Bool
 is_nothing None = true
 is_nothing (Some o) = false
 
--- What was told of cuts: nothing, and then pieces may be scanned apart, or the line of an obstacle that is there; of it a front at `Err`.
+-- What was told of cuts: nothing, and then no obstacle stands there and pieces may be scanned apart; or the line of the first obstacle, of
+-- which a front at `Err`.
 pub record CutTold {K : Type 0} (wrote : K → List ℕ → K → Type 0) (M : Machine) (given : Option Spec) (s t : K) (answer : Result Bool LookError) : Type 0 where
   pub found : Option Obstacle
   pub none : found ≡ None → ScansApart (rules_of_machine M)
-  pub some : IfSome found (Hinders M)
+  pub first : FirstOf (Hinders M) found
   pub written : Appended (λ xs. wrote s xs t) (cut_line given found) answer
 
 -- the answer says whether no obstacle was found; where memory runs out the sink is as it was

@@ -11,7 +11,7 @@ use Rattle.lexkit.specs.Headline.{IsWithin, Refusal, reading}
 use Rattle.lexkit.specs.declared.options.Options.{Options}
 use Rattle.lexlook_specs.specs.Matches.{matches_of}
 use Rattle.lexlook_specs.specs.Words.{AreWords}
-use Rattle.lexlook_specs.specs.declared.words.finding.Place.{Place}
+use Rattle.lexlook_specs.specs.declared.words.finding.ShownText.{ShownText}
 use Rattle.lexlook_specs.specs.declared.words.finding.Word.{Word}
 use Rattle.lexlook_specs.specs.declared.words.finding.Word.TheVariants.{Taken, Never}
 use Rattle.lexlook_specs.specs.declared.words.finding.Words.{Words}
@@ -25,7 +25,7 @@ abbrev pub line_words : List ℕ → ℕ → List ℕ
 line_words lines i = codes " line " ++ decimal (slice_index lines i)
 
 -- a text, in which condition, and where a match of it is at the start of a line
-abbrev pub place_words : List (List ℕ) → Place → List ℕ
+abbrev pub place_words : List (List ℕ) → ShownText → List ℕ
 place_words names p = concat (
     codes ": \"" ∷ flat_map in_quotes p.text.items ∷ codes "\" in " ∷ slice_index_or names p.condition [] ∷ start_words p.line_start
     ∷ codes "\n" ∷ [])
@@ -45,7 +45,7 @@ word_line names lines i None = []
 word_line names lines i (Some x) = concat (codes "at" ∷ line_words lines i ∷ told_words names lines x ∷ [])
 
 -- the line of the default rule
-abbrev pub default_line : List (List ℕ) → Option Place → List ℕ
+abbrev pub default_line : List (List ℕ) → Option ShownText → List ℕ
 default_line names None = codes "default rule cannot be matched\n"
 default_line names (Some p) = codes "default rule" ++ place_words names p
 
@@ -83,4 +83,4 @@ HasLabels names lines (Never js) = (j : ℕ) → Among js.items j → j < length
 pub record AreLabelled (names : List (List ℕ)) (lines : List ℕ) (v : Words) : Type 0 where
   pub each : length v.rules.items ≡ length lines
   pub rules : (i : ℕ) (x : Word) → slice_get v.rules.items i ≡ Some x → HasLabels names lines x
-  pub default : (p : Place) → v.default ≡ Some p → p.condition < length names
+  pub default : (p : ShownText) → v.default ≡ Some p → p.condition < length names

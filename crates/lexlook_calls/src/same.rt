@@ -114,7 +114,8 @@ fn tell<K: Sink>(
 }
 
 /// Says whether two files do the same on every input: specifications, or table files. Where they do not, it writes a
-/// line with the first text that shows it, or with what else differs. Where one is refused, nothing is written.
+/// line with the first text that shows it, or with what else differs. Where one is refused, nothing is written; of two
+/// that are, the first is told.
 pub fn tell_same<K: Sink>(
     alloc: Global,
     left: Given<'_>,

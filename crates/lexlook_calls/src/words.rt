@@ -18,7 +18,7 @@ use crate::error::LookError;
 use crate::labels::{add_start, add_string, names_of};
 use lexauto::build;
 use lexkit::{GenError, Limits, Options, Sink, lines_of, read_text};
-use lexlook_specs::{Place, Word, Words, add, add_number, find_words, rejecting, rejects_of};
+use lexlook_specs::{ShownText, Word, Words, add, add_number, find_words, rejecting, rejects_of};
 use lexspec::Spec;
 use std::alloc::{AllocError, Global};
 
@@ -47,7 +47,7 @@ fn name_of<'a>(names: &[&'a [u8]], condition: u8) -> &'a [u8]
 }
 
 /// Appends a text and where a match of it starts.
-fn add_place(text: &mut Vec<u8>, names: &[&[u8]], place: &Place) -> Result<(), AllocError>
+fn add_place(text: &mut Vec<u8>, names: &[&[u8]], place: &ShownText) -> Result<(), AllocError>
     requires { place.now.condition < length names.now }
     ensures { OnOk result (text.new.items ≡ text.old.items ++ place_words (map (λ n. n.now) names.now) place.now) }
 {
@@ -97,8 +97,12 @@ fn add_word(
 }
 
 /// Appends the line of the default rule.
-fn add_default(text: &mut Vec<u8>, names: &[&[u8]], place: &Option<Place>) -> Result<(), AllocError>
-    requires { (p : Place) → place.now ≡ Some p → p.condition < length names.now }
+fn add_default(
+    text: &mut Vec<u8>,
+    names: &[&[u8]],
+    place: &Option<ShownText>,
+) -> Result<(), AllocError>
+    requires { (p : ShownText) → place.now ≡ Some p → p.condition < length names.now }
     ensures { OnOk result (text.new.items ≡ text.old.items ++ default_line (map (λ n. n.now) names.now) place.now) }
 {
     match place {

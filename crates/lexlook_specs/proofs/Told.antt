@@ -12,7 +12,7 @@ use Rattle.lexlook_specs.specs.Matches.{Matches, IsInput, IsGivenUp, IsCopied, T
 use Rattle.lexlook_specs.specs.Matches as M
 use Rattle.lexlook_specs.specs.Words.{IsFirst, IsNotLater, StartsFirst, AreTakers, TellsDefault}
 use Rattle.lexlook_specs.specs.Placing.{IsFirstStart, MeetsAfter, TakesAt, TakesBelow, takers}
-use Rattle.lexlook_specs.specs.declared.words.finding.Place.{Place}
+use Rattle.lexlook_specs.specs.declared.words.finding.ShownText.{ShownText}
 use Rattle.lexlook_specs.specs.declared.words.starting.Start.{Start}
 use Rattle.lexlook_specs.specs.declared.words.starting.Wish.TheVariants.{Takes, Copies}
 use Rattle.lexlook_specs.proofs.Led.{Leads, ascending_at, accepted_at, placed_leads, leads_placed}
@@ -55,7 +55,7 @@ module _ (p : Parts) (a : IsAutomaton p) (rejects : List Bool) where
         (r.0, (s, accepted_at p a s i (takers_among rejects (accepts p s) i m), m, r.1), r.2)
 
     -- the first start from which the word at a place is taken, where the place is the rule's first
-    pub first_taken : (i j : ℕ) (x : Start) (q : Place) → TakesAt p rejects places (states p) i j → ((k : ℕ) → TakesAt p rejects places (states p) i k → j ≤ k)
+    pub first_taken : (i j : ℕ) (x : Start) (q : ShownText) → TakesAt p rejects places (states p) i j → ((k : ℕ) → TakesAt p rejects places (states p) i k → j ≤ k)
         → IsFirstStart p rejects (at words j) (Takes i) (conditions p) (Some x)
         → q.condition ≡ x.condition → q.line_start ≡ x.line_start → q.text.items ≡ at words j
         → IsFirst (matches_in p rejects) (λ c line w. M.Takes (matches_in p rejects) c line w i) q
@@ -138,7 +138,7 @@ module _ (p : Parts) (a : IsAutomaton p) (rejects : List Bool) where
   one_byte : (c b : ℕ) (line : Bool) → MeetsAfter p rejects (b ∷ []) Copies c line → IsCopied (matches_in p rejects) c line (b ∷ [])
   one_byte c b line m = λ n some few. (let e : n ≡ 1 = omega (arith, some, few) in subst (λ k. IsGivenUp (matches_in p rejects) c line (take k (b ∷ []))) (sym e) ((given_up_is c line (b ∷ [])).1 m))
 
-  pub first_copied : (b : ℕ) (x : Start) (q : Place) → b < 256 → ((d : ℕ) → d < b → IsFirstStart p rejects (d ∷ []) Copies (conditions p) None)
+  pub first_copied : (b : ℕ) (x : Start) (q : ShownText) → b < 256 → ((d : ℕ) → d < b → IsFirstStart p rejects (d ∷ []) Copies (conditions p) None)
       → IsFirstStart p rejects (b ∷ []) Copies (conditions p) (Some x)
       → q.condition ≡ x.condition → q.line_start ≡ x.line_start → q.text.items ≡ b ∷ []
       → TellsDefault (matches_in p rejects) (Some q)

@@ -4,7 +4,7 @@ use Rattle.std.specs.Prelude.{◌≡◌, ◌⊎◌, ◌↔◌, ℕ, ◌<◌, Boo
 use Rattle.lex_semantics.specs.Text.{Among, Ascending}
 use Rattle.lexauto_reports.specs.BackWords.{Precedes}
 use Rattle.lexlook_specs.specs.Matches.{Matches, IsInput, Takes, TakesOf, IsCopied}
-use Rattle.lexlook_specs.specs.declared.words.finding.Place.{Place}
+use Rattle.lexlook_specs.specs.declared.words.finding.ShownText.{ShownText}
 use Rattle.lexlook_specs.specs.declared.words.finding.Word.{Word}
 use Rattle.lexlook_specs.specs.declared.words.finding.Word.TheVariants.{Taken, Never}
 use Rattle.lexlook_specs.specs.declared.words.finding.Words.{Words}
@@ -14,11 +14,11 @@ abbrev pub StartsFirst : ℕ → Bool → ℕ → Bool → Type 0
 StartsFirst c line d line' = (c < d) ⊎ ((c ≡ d) × (line ≡ true → line' ≡ true))
 
 -- the first text is shorter, or as long and first in byte order, or the same and of an earlier start
-abbrev pub IsNotLater : Place → ℕ → Bool → List ℕ → Type 0
+abbrev pub IsNotLater : ShownText → ℕ → Bool → List ℕ → Type 0
 IsNotLater p c line w = Precedes p.text.items w ⊎ ((p.text.items ≡ w) × StartsFirst p.condition p.line_start c line)
 
 -- of the texts of which this holds it is the first
-pub record IsFirst (m : Matches) (P : ℕ → Bool → List ℕ → Type 0) (p : Place) : Type 0 where
+pub record IsFirst (m : Matches) (P : ℕ → Bool → List ℕ → Type 0) (p : ShownText) : Type 0 where
   pub input : IsInput m p.condition p.text.items
   pub holds : P p.condition p.line_start p.text.items
   pub first : (c : ℕ) (line : Bool) (w : List ℕ) → IsInput m c w → P c line w → IsNotLater p c line w
@@ -35,7 +35,7 @@ IsWordOf m i (Taken p) = IsFirst m (λ c line w. Takes m c line w i) p
 IsWordOf m i (Never js) = AreTakers m i js.items
 
 -- what is told of the default rule: the first text of which it copies a byte, which is one byte long
-abbrev pub TellsDefault : Matches → Option Place → Type 0
+abbrev pub TellsDefault : Matches → Option ShownText → Type 0
 TellsDefault m None = (c : ℕ) (line : Bool) (w : List ℕ) → IsInput m c w → IsCopied m c line w → ⊥
 TellsDefault m (Some p) = IsFirst m (IsCopied m) p × (length p.text.items ≡ 1)
 

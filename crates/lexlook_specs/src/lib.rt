@@ -31,4 +31,4 @@ mod words;
 
 pub use picture::{PictureError, add, add_number, write_picture};
 pub use trace::{tells_runs, tells_turns, traced};
-pub use words::{Place, Word, Words, find_words, rejecting, rejects_of};
+pub use words::{ShownText, Word, Words, find_words, rejecting, rejects_of};

@@ -9,4 +9,4 @@ mod starting;
 mod taking;
 
 pub use actions::{rejecting, rejects_of};
-pub use finding::{Place, Word, Words, find_words};
+pub use finding::{ShownText, Word, Words, find_words};

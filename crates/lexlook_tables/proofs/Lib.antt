@@ -17,3 +17,5 @@ pub mod Shifts
 pub mod Apart
 pub mod Searches
 pub mod Fronts
+pub mod Firsts
+pub mod Standing

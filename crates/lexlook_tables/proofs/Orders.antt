@@ -1,9 +1,9 @@
 -- The order of words.
-use Rattle.std.proofs.Common.{◌≡◌, ◌⊎◌, ◌<◌, ℕ, List, [], ◌∷◌, ◌++◌, length, inl, inr, sym, ap, refl, ◌∙◌, subst, arith}
+use Rattle.std.proofs.Common.{◌≡◌, ◌⊎◌, ◌≤◌, ◌<◌, ℕ, suc, List, [], ◌∷◌, ◌++◌, length, inl, inr, sym, ap, refl, ◌∙◌, subst, arith}
 use Rattle.lexauto_reports.specs.BackWords.{Smaller, Precedes, NotAfter}
 use Rattle.lexauto_reports.proofs.Orders.{before_trans}
 
-smaller_irreflexive : (u : List ℕ) → Smaller u u → ⊥
+pub smaller_irreflexive : (u : List ℕ) → Smaller u u → ⊥
 smaller_irreflexive [] h = h
 smaller_irreflexive (a ∷ u) (inl h) = omega (arith, h)
 smaller_irreflexive (a ∷ u) (inr h) = smaller_irreflexive u h.1
@@ -27,3 +27,27 @@ smaller_split (x ∷ u) (y ∷ v) a b e (inr h) = elim (smaller_split u v a b (o
   | inl less ↦ inl (inr (h.0, less))
   | inr same ↦ inr (ap (λ l. x ∷ l) same.0 ∙ ap (λ z. z ∷ v) h.0, same.1)
 ]
+
+-- the same of two words of one length with any more
+pub smaller_front : (u v k l : List ℕ) → length u ≡ length v → Smaller (u ++ k) (v ++ l) → Smaller u v ⊎ ((u ≡ v) × Smaller k l)
+smaller_front [] [] k l e h = inr (refl, h)
+smaller_front [] (y ∷ v) k l e h = absurd (omega (arith, e))
+smaller_front (x ∷ u) [] k l e h = absurd (omega (arith, e))
+smaller_front (x ∷ u) (y ∷ v) k l e (inl h) = inl (inl h)
+smaller_front (x ∷ u) (y ∷ v) k l e (inr h) = elim (smaller_front u v k l (omega (arith, e)) h.1) [
+  | inl less ↦ inl (inr (h.0, less))
+  | inr same ↦ inr (ap (λ l. x ∷ l) same.0 ∙ ap (λ z. z ∷ v) h.0, same.1)
+]
+
+-- a list that does not begin with a smaller number is smaller by what follows
+pub smaller_rest : (a b : ℕ) (k l : List ℕ) → b ≤ a → Smaller (a ∷ k) (b ∷ l) → (a ≡ b) × Smaller k l
+smaller_rest a b k l le (inl h) = absurd (omega (arith, le, h))
+smaller_rest a b k l le (inr h) = h
+
+-- a shorter word is smaller behind its length, and so is one of the same length that is smaller
+pub smaller_or_same : (j i : ℕ) (v w k l : List ℕ) → Smaller (length v ∷ j ∷ v ++ k) (length w ∷ i ∷ w ++ l) → Precedes (j ∷ v) (i ∷ w) ⊎ ((j ∷ v ≡ i ∷ w) × Smaller k l)
+smaller_or_same j i v w k l (inl h) = inl (inl (omega (arith, h)))
+smaller_or_same j i v w k l (inr h) = (let long : length v ≡ length w = h.0 in elim (smaller_front (j ∷ v) (i ∷ w) k l (ap suc long) h.1) [
+  | inl less ↦ inl (inr (ap suc long, less))
+  | inr same ↦ inr same
+])

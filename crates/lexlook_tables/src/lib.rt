@@ -8,9 +8,10 @@
 //!   texts lead to, `newlines` looks at what a newline leads to, `cutting` does so for each condition, and `tables` calls it
 //!   for a table.
 //!
-//! It promises what is told, and that no text before the one that is shown shows it; and that pieces that may be scanned
-//! apart write together what the whole input does. A faster search, or another order of the looks of `cutting`, changes
-//! this room alone. Which text is shown first, and when an input may be cut, users see (docs/MANUAL.md).
+//! It promises what is told, that no text before the one that is shown shows it, and that no obstacle stands before the one
+//! that is shown. And it promises that pieces that may be scanned apart write together what the whole input does. A faster
+//! search changes this room alone. Which text or obstacle is shown first, and when an input may be cut, users see
+//! (docs/MANUAL.md).
 //!
 //! - **Rules are compared by what they do**, statement by statement, and not by what is written in the end: that is a
 //!   question about all inputs. The default rule does nothing here, since it does the same in all files.

@@ -16,7 +16,7 @@ use std::alloc::{AllocError, Global};
 
 /// A text, in this condition, at the start of a line or not.
 #[derive(Drop)]
-pub struct Place {
+pub struct ShownText {
     pub condition: u8,
     pub line_start: bool,
     pub text: Vec<u8>,
@@ -26,7 +26,7 @@ pub struct Place {
 #[derive(Drop)]
 pub enum Word {
     /// The first text that it takes.
-    Taken(Place),
+    Taken(ShownText),
     /// It takes none. Each text that fits it is taken by one of these rules, ascending by number.
     Never(Vec<u32>),
 }
@@ -37,17 +37,17 @@ pub struct Words {
     /// By the number of the rule.
     pub rules: Vec<Word>,
     /// The first byte that the default rule copies, if it copies any.
-    pub default: Option<Place>,
+    pub default: Option<ShownText>,
 }
 
 /// A text from a start on.
-pub(crate) fn place_of(alloc: Global, start: Start, text: &[u8]) -> Result<Place, AllocError>
+pub(crate) fn shown_text(alloc: Global, start: Start, text: &[u8]) -> Result<ShownText, AllocError>
     ensures condition { IfOk result (λ p. p.condition ≡ start.condition) }
     ensures line_start { IfOk result (λ p. p.line_start ≡ start.line_start) }
     ensures text { IfOk result (λ p. p.text.items ≡ text.now) }
 {
     let text = Vec::from_slice(alloc, text)?;
-    Ok(Place {
+    Ok(ShownText {
         condition: start.condition,
         line_start: start.line_start,
         text,
@@ -75,7 +75,7 @@ fn word_of(
         let conditions = dfa.parts().starts.len() as u8;
         let text = found.groups.word(place);
         if let Some(start) = first_start(dfa, rejects, text, Wish::Takes(rule), conditions) {
-            return Ok(Word::Taken(place_of(alloc, start, text)?));
+            return Ok(Word::Taken(shown_text(alloc, start, text)?));
         }
     }
     Ok(Word::Never(takers(alloc, dfa, rejects, &found.places, rule)?))

@@ -1,12 +1,12 @@
 //! Whether pieces of an input may be scanned apart.
-ghost use Rattle.std.specs.Prelude.{◌≡◌, ℕ, ◌<◌, true, false, None, IfOk, IfSome};
+ghost use Rattle.std.specs.Prelude.{◌≡◌, ℕ, ◌<◌, true, false, [], None, IfOk};
 ghost use Rattle.lex_semantics.specs.Text.{Among};
 ghost use Rattle.lex_semantics.specs.Machine.{rules_of_machine};
-ghost use Rattle.lexlook_tables.specs.Lines.{is_steady, LinesEnd, ScansApart};
-ghost use Rattle.lexlook_tables.specs.Obstacles.{LineEndsAt, HindersAt, Hinders};
+ghost use Rattle.lexlook_tables.specs.Lines.{LinesEnd, ScansApart};
+ghost use Rattle.lexlook_tables.specs.Obstacles.{FirstOf, Along, UnsteadyRule, HindersAt, HindersIn, Hinders};
 
 use crate::lines::actions::is_steady;
-use crate::lines::newlines::{obstacle_at, takes_line};
+use crate::lines::newlines::{copies_line, obstacle_at};
 use crate::lines::reaching::reached;
 use lex_machine::Machine;
 use std::alloc::{AllocError, Global};
@@ -38,10 +38,7 @@ pub enum Obstacle {
 /// The first rule that ends the scan, uses the stack of conditions, or sets a condition and has REJECT.
 fn unsteady_rule<M: Machine>(machine: &M, rules: u32) -> Option<u32>
     requires { rules ≡ (M.machine machine.now).count }
-    ensures none { result ≡ None → (i : ℕ) → i < (M.machine machine.now).count
-        → is_steady ((M.machine machine.now).statements i) ≡ true }
-    ensures some { IfSome result (λ i. (i < (M.machine machine.now).count)
-        × (is_steady ((M.machine machine.now).statements i) ≡ false)) }
+    ensures { FirstOf (UnsteadyRule (M.machine machine.now)) result }
 {
     for rule in 0..rules {
         let (_, statements) = machine.rule(rule);
@@ -52,7 +49,8 @@ fn unsteady_rule<M: Machine>(machine: &M, rules: u32) -> Option<u32>
     None
 }
 
-/// What stands against a cut after a newline that follows on a text which leads to one of these states.
+/// What stands first against a cut after a newline that follows on a text which leads to one of these states, in their
+/// order.
 fn obstacle_among<M: Machine>(
     alloc: Global,
     machine: &M,
@@ -62,10 +60,7 @@ fn obstacle_among<M: Machine>(
 ) -> Result<Option<Obstacle>, AllocError>
     requires states { states ≡ M.states machine.now }
     requires found { (s : ℕ) → Among found.now s → s < M.states machine.now }
-    ensures none { IfOk result (λ o. o ≡ None → (s : ℕ) → Among found.now s
-        → LineEndsAt (M.machine machine.now) condition s) }
-    ensures some { IfOk result (λ o. IfSome o (λ obstacle. (s : ℕ) × Among found.now s
-        × HindersAt (M.machine machine.now) condition s obstacle)) }
+    ensures { IfOk result (FirstOf (Along found.now (HindersAt (M.machine machine.now) condition))) }
 {
     for state in found {
         if let Some(obstacle) = obstacle_at(alloc, machine, states, condition, *state)? {
@@ -75,7 +70,7 @@ fn obstacle_among<M: Machine>(
     Ok(None)
 }
 
-/// What stands against cuts in a condition.
+/// What stands first against cuts in a condition.
 fn obstacle_in<M: Machine>(
     alloc: Global,
     machine: &M,
@@ -85,7 +80,7 @@ fn obstacle_in<M: Machine>(
     requires states { states ≡ M.states machine.now }
     requires condition { condition < (M.machine machine.now).conditions }
     ensures none { IfOk result (λ found. found ≡ None → LinesEnd (M.machine machine.now) condition) }
-    ensures some { IfOk result (λ found. IfSome found (Hinders (M.machine machine.now))) }
+    ensures first { IfOk result (FirstOf (HindersIn (M.machine machine.now) condition)) }
 {
     let starts = [
         machine.start(condition, false),
@@ -95,16 +90,25 @@ fn obstacle_in<M: Machine>(
     if let Some(obstacle) = obstacle_among(alloc, machine, states, condition, &found)? {
         return Ok(Some(obstacle));
     }
-    if condition != 0
-        && !(takes_line(machine, condition, false) && takes_line(machine, condition, true))
-    {
+    if copies_line(machine, condition) {
         return Ok(Some(Obstacle::Copies { condition }));
     }
     Ok(None)
 }
 
-/// What stands against a cut of an input after any of its newlines; nothing where the pieces may be scanned apart, by
-/// one machine or by several at a time, and what they write put together. It takes five bytes of memory for each state.
+/// Whether something is written at the end of the input in INITIAL.
+fn writes_at_end<M: Machine>(machine: &M) -> bool
+    ensures yes { result ≡ true → ((M.machine machine.now).ending 0).print ≡ [] → ⊥ }
+    ensures no { result ≡ false → ((M.machine machine.now).ending 0).print ≡ [] }
+{
+    !machine.eof(0).print.is_empty()
+}
+
+/// What stands first against a cut of an input after any of its newlines. Where nothing does, the pieces may be scanned
+/// apart, by one machine or by several at a time, and what they write put together. Rules that may not stand there
+/// come first, and then the conditions. In each of these shorter texts before a newline come first. Of one length
+/// those that are not at the start of a line come first, then byte order counts. It takes five bytes of memory for
+/// each state.
 pub fn find_obstacle<M: Machine>(
     alloc: Global,
     machine: &M,
@@ -114,7 +118,7 @@ pub fn find_obstacle<M: Machine>(
     requires conditions { sizes.conditions ≡ (M.machine machine.now).conditions }
     requires rules { sizes.rules ≡ (M.machine machine.now).count }
     ensures none { IfOk result (λ found. found ≡ None → ScansApart (rules_of_machine (M.machine machine.now))) }
-    ensures some { IfOk result (λ found. IfSome found (Hinders (M.machine machine.now))) }
+    ensures first { IfOk result (FirstOf (Hinders (M.machine machine.now))) }
 {
     if let Some(rule) = unsteady_rule(machine, sizes.rules) {
         return Ok(Some(Obstacle::Unsteady { rule }));
@@ -124,7 +128,7 @@ pub fn find_obstacle<M: Machine>(
             return Ok(Some(obstacle));
         }
     }
-    if !machine.eof(0).print.is_empty() {
+    if writes_at_end(machine) {
         return Ok(Some(Obstacle::Writes));
     }
     Ok(None)

@@ -1,10 +1,10 @@
 //! What a newline leads to.
-ghost use Rattle.std.specs.Prelude.{◌≡◌, ℕ, ◌<◌, true, false, [], None, IfOk, IfSome};
+ghost use Rattle.std.specs.Prelude.{◌≡◌, ℕ, ◌<◌, ◌≤◌, Bool, true, false, slice_get, IfOk};
 ghost use Rattle.lex_semantics.specs.Text.{Among};
 ghost use Rattle.lex_semantics.specs.Spec.{Whole};
 ghost use Rattle.lex_machine.specs.Views.{cut_of};
-ghost use Rattle.lexlook_tables.specs.Lines.{TakesLine, may_keep_last, ends_line};
-ghost use Rattle.lexlook_tables.specs.Obstacles.{RuleBeyond, StraysAt, LineEndsAt, HindersAt};
+ghost use Rattle.lexlook_tables.specs.Lines.{TakesLine};
+ghost use Rattle.lexlook_tables.specs.Obstacles.{FirstOf, Along, RuleAfter, RuleBeyond, StrayingRule, HindersAt};
 
 use crate::lines::actions::{ends_line, may_keep_last};
 use crate::lines::cutting::Obstacle;
@@ -12,17 +12,22 @@ use crate::lines::reaching::reached;
 use lex_machine::{Cut, Machine, has_reject};
 use std::alloc::{AllocError, Global};
 
+/// The first rule that the state accepts, if it accepts any.
+fn first_rule<M: Machine>(machine: &M, state: u32) -> Option<u32>
+    requires { state < M.states machine.now }
+    ensures { result ≡ slice_get ((M.machine machine.now).accepts state) 0 }
+{
+    machine.accepts(state).first().copied()
+}
+
 /// The first rule that is accepted one byte after this state, if there is one.
 fn rule_after<M: Machine>(machine: &M, state: u32) -> Option<u32>
     requires { state < M.states machine.now }
-    ensures some { IfSome result (λ i. (b : ℕ) × (b < 256)
-        × Among ((M.machine machine.now).accepts ((M.machine machine.now).next state b)) i) }
-    ensures none { result ≡ None → (b : ℕ) → b < 256
-        → (M.machine machine.now).accepts ((M.machine machine.now).next state b) ≡ [] }
+    ensures { FirstOf (RuleAfter (M.machine machine.now) state) result }
 {
     'bytes: for byte in 0..256u32 {
-        if let Some(rule) = machine.accepts(machine.step(state, byte as u8)).first() {
-            return Some(*rule);
+        if let Some(rule) = first_rule(machine, machine.step(state, byte as u8)) {
+            return Some(rule);
         }
     }
     None
@@ -31,10 +36,7 @@ fn rule_after<M: Machine>(machine: &M, state: u32) -> Option<u32>
 /// The first rule that is accepted one byte after one of these states, if there is one.
 fn rule_after_some<M: Machine>(machine: &M, found: &[u32]) -> Option<u32>
     requires { (s : ℕ) → Among found.now s → s < M.states machine.now }
-    ensures some { IfSome result (λ i. (s : ℕ) × Among found.now s × (b : ℕ) × (b < 256)
-        × Among ((M.machine machine.now).accepts ((M.machine machine.now).next s b)) i) }
-    ensures none { result ≡ None → (s b : ℕ) → Among found.now s → b < 256
-        → (M.machine machine.now).accepts ((M.machine machine.now).next s b) ≡ [] }
+    ensures { FirstOf (Along found.now (RuleAfter (M.machine machine.now))) result }
 {
     for state in found {
         if let Some(rule) = rule_after(machine, *state) {
@@ -44,7 +46,8 @@ fn rule_after_some<M: Machine>(machine: &M, found: &[u32]) -> Option<u32>
     None
 }
 
-/// A rule that is accepted after this state and some bytes more, if there is one.
+/// The rule that is accepted after this state and a text of some bytes, if there is one. It is the first rule of the
+/// shortest such text, and of these of the first in byte order.
 fn rule_beyond<M: Machine>(
     alloc: Global,
     machine: &M,
@@ -53,17 +56,17 @@ fn rule_beyond<M: Machine>(
 ) -> Result<Option<u32>, AllocError>
     requires states { states ≡ M.states machine.now }
     requires state { state < M.states machine.now }
-    ensures { IfOk result (RuleBeyond (M.machine machine.now) state) }
+    ensures { IfOk result (FirstOf (RuleBeyond (M.machine machine.now) state)) }
 {
     let starts = [state];
     let found = reached(alloc, machine, states, &starts)?;
     Ok(rule_after_some(machine, &found))
 }
 
-/// A rule that the state accepts after a newline and that does not leave the scan in INITIAL, if there is one.
+/// The first rule that the state accepts after a newline and that does not leave the scan in INITIAL, if there is one.
 fn straying_rule<M: Machine>(machine: &M, condition: u8, state: u32) -> Option<u32>
     requires { state < M.states machine.now }
-    ensures { StraysAt (M.machine machine.now) condition state result }
+    ensures { FirstOf (StrayingRule (M.machine machine.now) condition state) result }
 {
     for rule in machine.accepts(state) {
         let (cut, statements) = machine.rule(*rule);
@@ -83,7 +86,7 @@ fn is_whole(cut: Cut) -> bool
 }
 
 /// Whether a newline alone is taken by some rule in a condition, and not by the default rule.
-pub(crate) fn takes_line<M: Machine>(machine: &M, condition: u8, line_start: bool) -> bool
+fn takes_line<M: Machine>(machine: &M, condition: u8, line_start: bool) -> bool
     requires { condition < (M.machine machine.now).conditions }
     ensures yes { result ≡ true → TakesLine (M.machine machine.now) condition line_start }
     ensures no { result ≡ false → TakesLine (M.machine machine.now) condition line_start → ⊥ }
@@ -98,7 +101,18 @@ pub(crate) fn takes_line<M: Machine>(machine: &M, condition: u8, line_start: boo
     false
 }
 
-/// What stands against a cut after a newline that follows on a text which leads to this state.
+/// Whether the default rule may take a newline in this condition, which is not INITIAL.
+pub(crate) fn copies_line<M: Machine>(machine: &M, condition: u8) -> bool
+    requires { condition < (M.machine machine.now).conditions }
+    ensures yes { result ≡ true → (1 ≤ condition) × (line : Bool)
+        × (TakesLine (M.machine machine.now) condition line → ⊥) }
+    ensures no { result ≡ false → (line : Bool) → 1 ≤ condition → TakesLine (M.machine machine.now) condition line }
+{
+    condition != 0
+        && !(takes_line(machine, condition, false) && takes_line(machine, condition, true))
+}
+
+/// What stands first against a cut after a newline that follows on a text which leads to this state.
 pub(crate) fn obstacle_at<M: Machine>(
     alloc: Global,
     machine: &M,
@@ -108,8 +122,7 @@ pub(crate) fn obstacle_at<M: Machine>(
 ) -> Result<Option<Obstacle>, AllocError>
     requires states { states ≡ M.states machine.now }
     requires state { state < M.states machine.now }
-    ensures none { IfOk result (λ found. found ≡ None → LineEndsAt (M.machine machine.now) condition state) }
-    ensures some { IfOk result (λ found. IfSome found (HindersAt (M.machine machine.now) condition state)) }
+    ensures { IfOk result (FirstOf (HindersAt (M.machine machine.now) condition state)) }
 {
     let next = machine.step(state, b'\n');
     if machine.goes_on(next) {

@@ -43,8 +43,8 @@ fn widen<M: Machine>(
     ensures fewer { OnOk result (unmarked marks.new.items + length found.new.items
         ≤ unmarked marks.old.items + length found.old.items) }
     ensures found { OnOk result ((from : List ℕ)
-        → Found (M.machine machine.now) (M.states machine.now) from from found.old.items marks.old.items place 0
-        → Found (M.machine machine.now) (M.states machine.now) from from found.new.items marks.new.items place 256) }
+        → Found (M.machine machine.now) (M.states machine.now) from found.old.items marks.old.items place 0
+        → Found (M.machine machine.now) (M.states machine.now) from found.new.items marks.new.items place 256) }
 {
     let state = found[place];
     'bytes: for byte in 0..256u32 {
@@ -53,7 +53,8 @@ fn widen<M: Machine>(
     Ok(())
 }
 
-/// The states that texts lead to from these, each once, or want of memory.
+/// The states that texts lead to from these, each once, or want of memory. They stand in the order of the first text
+/// that leads to each. Shorter texts come first, then those from the first of these states, then byte order counts.
 pub(crate) fn reached<M: Machine>(
     alloc: Global,
     machine: &M,
@@ -62,8 +63,7 @@ pub(crate) fn reached<M: Machine>(
 ) -> Result<Vec<u32>, AllocError>
     requires states { states ≡ M.states machine.now }
     requires starts { (s : ℕ) → Among starts.now s → s < M.states machine.now }
-    ensures { IfOk result (λ v. IsReached (M.machine machine.now) (M.states machine.now)
-        starts.now starts.now v.items) }
+    ensures { IfOk result (λ v. IsReached (M.machine machine.now) (M.states machine.now) starts.now v.items) }
 {
     let mut found = Vec::new(alloc);
     let mut marks = vec![in alloc; false; states as usize]?;

@@ -14,9 +14,9 @@ returns-in-Some c =
     let d = c.args.dfa.now in
     let n : c.len-conditions.result ≡ conditions_of d = c.len-conditions.ensures ∙ ap (λ (p : Parts). vec_len p.starts) c.parts.ensures ∙ (search rules) in
     let there = subst (λ (o : Option Start). IsFirstStart d.parts c.args.rejects.now (c.loop-byte.byte ∷ []) Copies c.len-conditions.result o) c.in-Some.is c.first_start.ensures in
-    first_copied d.parts d.lawful c.args.rejects.now c.loop-byte.byte c.in-Some.start c.in_ok-place_of.field-0 c.loop-byte-test.true c.loop-byte.invariant
+    first_copied d.parts d.lawful c.args.rejects.now c.loop-byte.byte c.in-Some.start c.in_ok-shown_text.field-0 c.loop-byte-test.true c.loop-byte.invariant
     (subst (λ k. IsFirstStart d.parts c.args.rejects.now (c.loop-byte.byte ∷ []) Copies k (Some c.in-Some.start)) n there)
-    c.in_ok-place_of.ensures.condition c.in_ok-place_of.ensures.line_start c.in_ok-place_of.ensures.text
+    c.in_ok-shown_text.ensures.condition c.in_ok-shown_text.ensures.line_start c.in_ok-shown_text.ensures.text
 
 pub loop-byte-preserved : goal.loop-byte-preserved
 loop-byte-preserved c = λ b low. elim (cases_lt b c.loop-byte.byte) [

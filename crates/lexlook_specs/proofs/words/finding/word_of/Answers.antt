@@ -24,8 +24,8 @@ returns-in-Some-first_start c =
     let one = subst (λ (o : Option Start). IsFirstStart d.parts rejects c.word-text.result.now (Takes rule) c.len-conditions.result o) c.in-Some-first_start.is c.first_start.ensures in
     let two = subst (λ (k : ℕ). IsFirstStart d.parts rejects c.word-text.result.now (Takes rule) k (Some c.in-Some-first_start.start)) n one in
     let three = subst (λ (w : List ℕ). IsFirstStart d.parts rejects w (Takes rule) (conditions_of d) (Some c.in-Some-first_start.start)) c.word-text.ensures two in
-    first_taken d.parts d.lawful rejects words places c.requires.found rule c.in-Some.place c.in-Some-first_start.start c.in_ok-place_of.field-0 r.0 r.1 three
-    c.in_ok-place_of.ensures.condition c.in_ok-place_of.ensures.line_start (c.in_ok-place_of.ensures.text ∙ c.word-text.ensures)
+    first_taken d.parts d.lawful rejects words places c.requires.found rule c.in-Some.place c.in-Some-first_start.start c.in_ok-shown_text.field-0 r.0 r.1 three
+    c.in_ok-shown_text.ensures.condition c.in_ok-shown_text.ensures.line_start (c.in_ok-shown_text.ensures.text ∙ c.word-text.ensures)
 
 pub returns : goal.returns
 returns c =

@@ -1,6 +1,6 @@
-use Rattle.std.proofs.Common.{◌≡◌, ℕ, ◌<◌, [], take}
-use Rattle.lex_semantics.specs.Text.{Among}
+use Rattle.std.proofs.Common.{ℕ, ◌<◌, get_or, None}
+use Rattle.lexlook_tables.specs.Obstacles.{FirstOf, RuleAfter}
 use Rattle.lexlook_tables.proofs.lines.newlines.rule_after_some.Given as goal
 
 abbrev pub invariant-loop-state : goal.invariant-loop-state
-invariant-loop-state g l = (s b : ℕ) → Among (take l.state-index l.found) s → b < 256 → (g.M.Machine.machine l.machine).accepts ((g.M.Machine.machine l.machine).next s b) ≡ []
+invariant-loop-state g l = (p : ℕ) → p < l.state-index → FirstOf (RuleAfter (g.M.Machine.machine l.machine) (get_or l.found p 0)) None

@@ -14,7 +14,7 @@ bytes-preserved g c = record {
   longer = (let more = longer found found' marks marks' s add in omega (arith, more, c.bytes.invariant.longer));
   fewer = (let less = no_more found found' marks marks' s in_marks add in omega (arith, less, c.bytes.invariant.fewer));
   size = same_size found found' marks marks' s add ∙ c.bytes.invariant.size;
-  found = λ from f. followed M n from from found marks c.args.place c.bytes.byte (c.bytes.invariant.found from f) found' marks' inside small (subst (λ z. z < n) is c.step.ensures.known) (subst (λ z. Added found marks z found' marks') is add);
+  found = λ from f. followed M n from found marks c.args.place c.bytes.byte (c.bytes.invariant.found from f) inside small (subst (λ z. z < n) is c.step.ensures.known) found' marks' (subst (λ z. Added found marks z found' marks') is add);
 }
   where
     M : Machine
@@ -54,4 +54,4 @@ bytes-preserved g c = record {
     is = c.step.ensures.state ∙ ap (λ z. M.next z c.bytes.byte) (sym c.bytes.invariant.here)
 
 pub returns-clause-found : goal.returns-clause-found
-returns-clause-found g c = (let all : c.bytes.byte ≡ 256 = omega (arith, c.bytes-test.false, c.bytes.auto.byte-end) in λ from f. subst (Found (g.M.Machine.machine c.args.machine.now) (g.M.Machine.states c.args.machine.now) from from c.bytes.found.items c.bytes.marks.items c.args.place) all (c.bytes.invariant.found from f))
+returns-clause-found g c = (let all : c.bytes.byte ≡ 256 = omega (arith, c.bytes-test.false, c.bytes.auto.byte-end) in λ from f. subst (Found (g.M.Machine.machine c.args.machine.now) (g.M.Machine.states c.args.machine.now) from c.bytes.found.items c.bytes.marks.items c.args.place) all (c.bytes.invariant.found from f))

@@ -8,5 +8,5 @@ invariant-bytes g l = record {
   longer : length l.fn.found.items ≤ length l.found.items;
   fewer : unmarked l.marks.items + length l.found.items ≤ unmarked l.fn.marks.items + length l.fn.found.items;
   size : length l.marks.items ≡ g.M.Machine.states l.machine;
-  found : (from : List ℕ) → Found (g.M.Machine.machine l.machine) (g.M.Machine.states l.machine) from from l.fn.found.items l.fn.marks.items l.place 0 → Found (g.M.Machine.machine l.machine) (g.M.Machine.states l.machine) from from l.found.items l.marks.items l.place l.byte;
+  found : (from : List ℕ) → Found (g.M.Machine.machine l.machine) (g.M.Machine.states l.machine) from l.fn.found.items l.fn.marks.items l.place 0 → Found (g.M.Machine.machine l.machine) (g.M.Machine.states l.machine) from l.found.items l.marks.items l.place l.byte;
 }

@@ -1,0 +1,1 @@
+-- Each goal is found by search.
