@@ -151,8 +151,8 @@ pub fn scan_made<S: Source, K: Sink>(
 }
 
 /// Scans the source by a table file, and writes to the sink. It answers the status that the table's rules end with, 0
-/// to 63, and takes no byte of the source that no rule asks for. Bytes that are no table file are refused as
-/// `read_tables` does, and then neither the source nor the sink is touched.
+/// to 63, and takes no byte of the source that no rule asks for. Bytes that are no table file are refused, as by
+/// `read_tables`. Then neither the source nor the sink is touched.
 pub fn scan_table<S: Source, K: Sink>(
     alloc: Global,
     bytes: &[u8],
