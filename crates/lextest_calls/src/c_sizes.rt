@@ -1,5 +1,6 @@
-//! What a program in C calls over much: texts at their limits, long inputs, long matches, many tokens and pieces. No contract says that
-//! memory is left. Here there is ample, so no call may answer that it ran out.
+//! What a program in C calls over much: texts at their limits, long inputs and outputs, many tokens and pieces. No contract says
+//! that memory is left. Here there is ample, so no call may answer that it ran out. Most of an input is one match, which takes
+//! little time.
 use liblex_calls::{
     Answer, Scan, TextFault, TextToken, close_scan, feed_into, finish_into, generate_into,
     open_scan, options_of, rule_lines_into, scan_into, tokens_into,
@@ -7,8 +8,8 @@ use liblex_calls::{
 use std::alloc::{AllocError, Global};
 use std::test::Fail;
 
-/// A number is written as a letter, and what else comes as it is.
-const NUMBERS: &[u8] = b"%%\n[0-9]+ printf(\"N\");\n";
+/// A word is written as it is, as is what else comes.
+const WORDS: &[u8] = b"%%\n[a-z]+ ECHO;\n";
 
 /// More than 2^20.
 const LONG: usize = 1_100_000;
@@ -29,9 +30,9 @@ fn rules(alloc: Global, rule: &[u8], times: usize) -> Result<Vec<u8>, AllocError
     Ok(text)
 }
 
-/// The table file of a text, which has room, or nothing where it is answered otherwise.
-fn file_of(alloc: Global, text: &[u8]) -> Result<Vec<u8>, AllocError> {
-    let mut file = filled(alloc, 0, LONG)?;
+/// The table file of a text, in so many bytes at most, or nothing where it is answered otherwise.
+fn file_of(alloc: Global, text: &[u8], room: usize) -> Result<Vec<u8>, AllocError> {
+    let mut file = filled(alloc, 0, room)?;
     let mut count = 0;
     let mut fault = TextFault {
         line: 0,
@@ -53,23 +54,52 @@ fn makes_files_of_texts_that_are_warned_of(rt: HostRuntime) -> Result<(), Fail> 
         b"%%\na ;\n%%\nint main(){}\n",
     ];
     for text in TEXTS {
-        assert!(rt; !file_of(rt.alloc(), text)?.is_empty());
+        assert!(rt; !file_of(rt.alloc(), text, 4_096)?.is_empty());
     }
     Ok(())
 }
 
-/// A rule, and how often it may stand in a text: 4,096 rules, 2^20 bytes, and 8,192 states are the most.
-#[test]
-fn makes_files_of_the_greatest_texts(rt: HostRuntime) -> Result<(), Fail> {
-    const ROWS: &[(&[u8], usize)] = &[
-        (b"a ;\n", 4_096),
-        (b"\n", 1_048_573),
-        (b"(a{255}){32}a{30} ;\n", 1),
-    ];
-    for &(rule, times) in ROWS {
-        let text = rules(rt.alloc(), rule, times)?;
-        assert!(rt; !file_of(rt.alloc(), &text)?.is_empty(), "{times}");
+const NO_TOKEN: TextToken = TextToken {
+    start: 0,
+    end: 0,
+    rule: 0,
+    condition: 0,
+};
+
+/// A token of INITIAL.
+fn token(start: usize, end: usize, rule: u32) -> TextToken {
+    TextToken {
+        start,
+        end,
+        rule,
+        condition: 0,
     }
+}
+
+/// Whether a byte that no rule matches is scanned and listed by a table file, and a scan is opened.
+fn is_a_file(alloc: Global, file: &[u8]) -> bool {
+    let mut out = [0u8; 1];
+    let mut tokens = [NO_TOKEN; 1];
+    let mut scan = Scan::closed();
+    let mut written = 0;
+    let mut listed = 0;
+    let mut status = 9;
+    let scanned = scan_into(alloc, file, b"c", &mut out, &mut written, &mut status);
+    let told = tokens_into(alloc, file, b"c", &mut tokens, &mut listed, &mut status);
+    let opened = open_scan(alloc, &mut scan, file);
+    scan.close(alloc);
+    (scanned, told, opened) == (Answer::Done, Answer::Done, Answer::Done)
+        && (written, out[0]) == (1, b'c')
+        && (listed, tokens[0]) == (1, token(0, 1, u32::MAX))
+}
+
+/// An automaton of more than 500 states, whose file is long too.
+#[test]
+fn makes_a_long_file(rt: HostRuntime) -> Result<(), Fail> {
+    let text = b"%%\n(a|b)*a(a|b){8} ;\n";
+    let file = file_of(rt.alloc(), text, 1_000_000)?;
+    assert!(rt; 4_096 < file.len(), "{}", file.len());
+    assert!(rt; is_a_file(rt.alloc(), &file));
     Ok(())
 }
 
@@ -89,70 +119,47 @@ fn tells_the_lines_of_the_most_rules(rt: HostRuntime) -> Result<(), Fail> {
     Ok(())
 }
 
-/// What is written for an input of one byte, so many times: the answer, and the bytes, of which there are no more than these.
-fn scanned(alloc: Global, byte: u8, room: usize) -> Result<(Answer, Vec<u8>), AllocError> {
-    let file = file_of(alloc, NUMBERS)?;
-    let input = filled(alloc, byte, LONG)?;
-    let mut out = filled(alloc, 0, room)?;
+/// An input that is one match, and an output as long.
+#[test]
+fn scans_a_long_input(rt: HostRuntime) -> Result<(), Fail> {
+    let alloc = rt.alloc();
+    let file = file_of(alloc, WORDS, 4_096)?;
+    let input = filled(alloc, b'x', LONG)?;
+    let mut out = filled(alloc, 0, LONG)?;
     let mut count = 0;
     let mut status = 9;
     let answer = scan_into(alloc, &file, &input, &mut out, &mut count, &mut status);
-    out.truncate(count);
-    Ok((answer, out))
-}
-
-/// An input whose bytes are all written, and one that is one match.
-#[test]
-fn scans_long_inputs(rt: HostRuntime) -> Result<(), Fail> {
-    let blanks = filled(rt.alloc(), b' ', LONG)?;
-    let (answer, out) = scanned(rt.alloc(), b' ', LONG)?;
-    assert!(rt; answer == Answer::Done && out == blanks);
-    let (answer, out) = scanned(rt.alloc(), b'7', 1)?;
-    assert!(rt; answer == Answer::Done && out.as_slice() == b"N".as_slice());
+    assert!(rt; (answer, count, status) == (Answer::Done, LONG, 0));
+    assert!(rt; out == input);
     Ok(())
 }
 
-const NO_TOKEN: TextToken = TextToken {
-    start: 0,
-    end: 0,
-    rule: 0,
-    condition: 0,
-};
-
-/// What is answered of the tokens of an input of one byte, so many times, how many there are, and the third.
-fn listed(alloc: Global, byte: u8) -> Result<(Answer, usize, TextToken), AllocError> {
-    let file = file_of(alloc, NUMBERS)?;
-    let input = filled(alloc, byte, LONG)?;
-    let mut tokens = [NO_TOKEN; 3];
+/// A long word, and then many blanks, each of which is a token of the default rule.
+#[test]
+fn lists_many_tokens(rt: HostRuntime) -> Result<(), Fail> {
+    let alloc = rt.alloc();
+    let file = file_of(alloc, WORDS, 4_096)?;
+    let mut input = filled(alloc, b'x', LONG)?;
+    input.resize(1_150_000, b' ')?;
+    let mut tokens = [NO_TOKEN; 2];
     let mut count = 0;
     let mut status = 9;
     let answer = tokens_into(alloc, &file, &input, &mut tokens, &mut count, &mut status);
-    Ok((answer, count, tokens[2]))
-}
-
-/// Each byte is a token of the default rule, or all are one.
-#[test]
-fn lists_many_tokens(rt: HostRuntime) -> Result<(), Fail> {
-    let third = TextToken {
-        start: 2,
-        end: 3,
-        rule: u32::MAX,
-        condition: 0,
-    };
-    assert!(rt; listed(rt.alloc(), b' ')? == (Answer::TooSmall, LONG, third));
-    assert!(rt; listed(rt.alloc(), b'7')? == (Answer::Done, 1, NO_TOKEN));
+    assert!(rt; (answer, count, status) == (Answer::TooSmall, 50_001, 0));
+    assert!(rt; tokens[0] == token(0, LONG, 0));
+    assert!(rt; tokens[1] == token(LONG, 1_100_001, u32::MAX));
     Ok(())
 }
 
-/// Feeds a piece 275 times, with no room. Whether each is answered so, and so many bytes more wait after it.
-fn waits(alloc: Global, scan: &mut Scan, piece: &[u8], answer: Answer, more: usize) -> bool {
+/// Feeds a piece 275 times, with no room. Whether all of it waits after each time.
+fn waits(alloc: Global, scan: &mut Scan, piece: &[u8]) -> bool {
     let mut so = true;
     let mut all = 0usize;
     for _ in 0..275 {
         let mut count = 0;
         let got = feed_into(alloc, scan, piece, &mut [0u8; 0], &mut count);
-        all = all.saturating_add(more);
-        so = got == answer && count == all && so;
+        all = all.saturating_add(piece.len());
+        so = got == Answer::TooSmall && count == all && so;
     }
     so
 }
@@ -172,33 +179,35 @@ fn handed_out(alloc: Global, scan: &mut Scan) -> Result<(Answer, Vec<u8>), Alloc
     Ok((Answer::TooSmall, out))
 }
 
-/// Whether all bytes of many pieces wait, and are handed out in their order.
+/// Whether all bytes of many lines wait, and are handed out in their order.
 fn keeps_long_output(alloc: Global, scan: &mut Scan) -> Result<bool, AllocError> {
-    let piece = filled(alloc, b'x', 4_000)?;
-    let kept = waits(alloc, scan, &piece, Answer::TooSmall, 4_000);
-    let mut count = 0;
-    let got = feed_into(alloc, scan, b"yz", &mut [0u8; 0], &mut count);
-    let so = kept && got == Answer::TooSmall && count == 1_100_002;
-    let mut wanted = filled(alloc, b'x', LONG)?;
-    wanted.extend_from_slice(b"yz")?;
+    let mut line = filled(alloc, b'x', 3_999)?;
+    line.push(b'\n')?;
+    let kept = waits(alloc, scan, &line);
     let (answer, out) = handed_out(alloc, scan)?;
-    Ok(so && answer == Answer::Done && out == wanted)
+    let mut wanted = Vec::new(alloc);
+    for _ in 0..275 {
+        wanted.extend_from_slice(&line)?;
+    }
+    Ok(kept && answer == Answer::Done && out == wanted)
 }
 
-/// Whether a match over many pieces is made at the end.
+/// Whether a match of a long piece and a short one is made at the end.
 fn makes_a_long_match(alloc: Global, scan: &mut Scan) -> Result<bool, AllocError> {
-    let digits = filled(alloc, b'7', 4_000)?;
-    let so = waits(alloc, scan, &digits, Answer::Done, 0);
+    let letters = filled(alloc, b'y', LONG)?;
     let mut out = [0u8; 1];
-    let mut count = 0;
+    let mut count = 9;
     let mut status = 9;
+    let long = feed_into(alloc, scan, &letters, &mut out, &mut count);
+    let short = feed_into(alloc, scan, b"z", &mut out, &mut count);
+    let so = (long, short, count) == (Answer::Done, Answer::Done, 0);
     let answer = finish_into(alloc, scan, &mut out, &mut count, &mut status);
-    Ok(so && (answer, count, status, out[0]) == (Answer::Done, 1, 0, b'N'))
+    Ok(so && (answer, count, status, out[0]) == (Answer::TooSmall, 1_100_001, 0, b'y'))
 }
 
-/// Whether a scan by pieces goes over much: first bytes that are written at once, then a match.
+/// Whether a scan by pieces goes over much: lines that are written at once, then a match.
 fn scans_much(alloc: Global) -> Result<bool, AllocError> {
-    let file = file_of(alloc, NUMBERS)?;
+    let file = file_of(alloc, WORDS, 4_096)?;
     let mut scan = Scan::closed();
     let opened = open_scan(alloc, &mut scan, &file) == Answer::Done;
     let kept = keeps_long_output(alloc, &mut scan);
