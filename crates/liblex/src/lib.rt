@@ -20,7 +20,7 @@ ghost use Rattle.liblex_calls.specs.Scanning.{ScansInto};
 ghost use Rattle.liblex_calls.specs.Listing.{ListsInto, TellsLines};
 ghost use Rattle.liblex_calls.specs.Flags.{options_of};
 ghost use Rattle.liblex_calls.specs.Progress.{fed_with};
-ghost use Rattle.liblex_calls.specs.Pieces.{Scanning, OpensScan, FeedsInto, FinishesInto, StaysClosed};
+ghost use Rattle.liblex_calls.specs.Pieces.{Scanning, OpensScan, FeedsInto, FinishesInto, StaysOpen, StaysClosed};
 
 use liblex_calls::{
     Scan, TextFault, TextToken, close_scan, feed_into, finish_into, generate_into, open_scan,
@@ -111,6 +111,7 @@ pub extern "C" fn lex_feed(
     ensures { (answer : Answer) × (result ≡ number_of answer)
         × ((file : List ℕ) (told : Bool) (fed out : List ℕ) → Scanning file told fed out scan.old
         → FeedsInto file told (fed_with told fed piece.now) out scan.new buffer.old buffer.new count.new answer)
+        × StaysOpen scan.old scan.new buffer.new count.new
         × (open_in scan.old ≡ None → StaysClosed scan.new buffer.old buffer.new count.new answer) }
 {
     feed_into(alloc, scan, piece, buffer, count).number()
@@ -128,6 +129,7 @@ pub extern "C" fn lex_finish(
     ensures { (answer : Answer) × (result ≡ number_of answer)
         × ((file : List ℕ) (told : Bool) (fed out : List ℕ) → Scanning file told fed out scan.old
         → FinishesInto file fed out scan.new buffer.old buffer.new count.new status.new answer)
+        × StaysOpen scan.old scan.new buffer.new count.new
         × (open_in scan.old ≡ None → StaysClosed scan.new buffer.old buffer.new count.new answer
         × (status.new ≡ 0)) }
 {
