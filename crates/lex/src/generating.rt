@@ -1,14 +1,13 @@
 //! Tables and reports, written to files.
 ghost use Rattle.std.specs.Prelude.{◌≤◌};
 
+use crate::flushing::{put_report, put_stats, put_table};
 use lexkit::{
-    BackUp, ByteWriter, Failure, Generated, MAX_POSITIONS, MAX_STATES, Made, Options, Sink, Stats,
-    Tables, ToBytes, ToWrite, Warning, WriteFault, generate, generate_tables, write_backup,
-    write_stats, write_tables, write_warnings,
+    BackUp, ByteWriter, Failure, Generated, MAX_POSITIONS, MAX_STATES, Made, Options, Stats,
+    Tables, ToBytes, ToWrite, Warning, generate, generate_tables, write_warnings,
 };
 use std::fs::File;
 use std::io;
-use std::io::Write;
 
 /// Where the table file goes, and what is written beside it.
 #[derive(Debug, Drop)]
@@ -93,20 +92,16 @@ fn warn(rt: &HostRuntime, warnings: &[Warning]) -> Result<(), Failure> {
 /// Writes the table file to standard output or to its file.
 fn write_table(rt: &HostRuntime, tables: &Tables, outputs: &Outputs) -> Result<(), Failure> {
     if outputs.to_stdout {
-        return put_table(rt, tables, io::writer(rt));
+        let mut sink = ToBytes::new(ByteWriter::new(rt.alloc(), io::writer(rt))?);
+        put_table(tables, &mut sink)?;
+        return Ok(());
     }
     let name = match &outputs.table {
         None => TABLE_FILE,
         Some(name) => name.as_str(),
     };
-    put_table(rt, tables, create(rt, name)?)
-}
-
-/// Writes the table file to a writer, and flushes it.
-fn put_table<W: Write + Drop>(rt: &HostRuntime, tables: &Tables, writer: W) -> Result<(), Failure> {
-    let mut sink = ToBytes::new(ByteWriter::new(rt.alloc(), writer)?);
-    write_tables(tables, &mut sink)?;
-    sink.flush()?;
+    let mut sink = ToBytes::new(ByteWriter::new(rt.alloc(), create(rt, name)?)?);
+    put_table(tables, &mut sink)?;
     Ok(())
 }
 
@@ -114,20 +109,17 @@ fn put_table<W: Write + Drop>(rt: &HostRuntime, tables: &Tables, writer: W) -> R
 fn report(rt: &HostRuntime, entries: &[BackUp]) -> Result<(), Failure> {
     let writer = create(rt, BACKUP_FILE)?;
     let mut sink = ToBytes::new(ByteWriter::new(rt.alloc(), writer)?);
-    write_backup(entries, &mut sink)?;
-    sink.flush()?;
+    put_report(entries, &mut sink)?;
     Ok(())
 }
 
 /// Writes the statistics to standard output, or to standard error where the table file is on standard output.
 fn count(rt: &HostRuntime, stats: &Stats, table_on_stdout: bool) -> Result<(), Failure> {
     if table_on_stdout {
-        write_stats(stats, &mut ToWrite::new(rt.stderr()))?;
+        put_stats(stats, &mut ToWrite::new(rt.stderr()))?;
         return Ok(());
     }
-    let mut sink = ToWrite::new(io::writer(rt));
-    write_stats(stats, &mut sink)?;
-    sink.flush()?;
+    put_stats(stats, &mut ToWrite::new(io::writer(rt)))?;
     Ok(())
 }
 

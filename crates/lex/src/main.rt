@@ -3,9 +3,11 @@
 //! - `main`: which of the three the command line asks for (`run`), and both scans (`scan`).
 //! - `reading`: the files that a specification is made of, and table files.
 //! - `generating`: where warnings, the table file, the report of states that back up and the statistics go.
+//! - `flushing`: that the last three are written whole, and then flushed.
 //!
 //! What is asked for is read by lex_command. What is made, scanned and reported is lexkit's, and proved there. So here it is
-//! decided alone which file is read or made, and in which order. `args` and `data/` try that, and scripts in scripts/.
+//! decided alone which file is read or made, and in which order. `args` and `data/` try that, and scripts in scripts/. That what
+//! is written beside a scan is flushed before all is well is promised here.
 //!
 //! - **All is made before anything is written**, so a refusal leaves the files of an earlier run alone. The table file is
 //!   written under its own name, and not under another one first: a reader refuses one that was cut short.
@@ -19,6 +21,7 @@
 
 ghost use Rattle.std.specs.Prelude.{◌≡◌, ◌≤◌};
 
+mod flushing;
 mod generating;
 mod reading;
 
