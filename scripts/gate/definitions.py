@@ -1,6 +1,6 @@
 #!/usr/bin/env python3
-"""Prints which definitions the public contracts cite, and whether docs/DEFINITIONS.md names them. The page has to name these,
-and all those that the contracts of the calls of WHOLE lead to.
+"""Prints which definitions the public contracts lead to, and whether docs/DEFINITIONS.md names them all: those that a contract
+cites, and those that these are made of.
 
     scripts/gate/definitions.py             how many there are, by crate, and what is missing on the page
     scripts/gate/definitions.py --status    the same, and a status of 1 where something is missing
@@ -19,8 +19,8 @@ import sys
 ROOT = os.path.dirname(os.path.dirname(os.path.dirname(os.path.realpath(__file__))))
 CRATES = os.path.join(ROOT, "crates")
 SURFACE = ["lexre", "lexspec", "lexauto", "lextab", "lexscan", "lexkit", "lex_command", "lexlook_calls", "lexlook_specs", "lexlook_tables", "liblex_calls"]
-# Of these calls the page has to name all the definitions that their contracts lead to.
-WHOLE = ["scan_spec", "scan_table", "generate", "write_tables"]
+# The page says what is behind this call.
+HEADLINE = "scan_spec"
 NAME = r"[A-Za-z_][\w'-]*"
 # A word and its path. A field of something in parentheses is none, nor is the name of a field of a record that is written.
 WORD = re.compile(rf"(?<![\w.'])({NAME}(?:\.{NAME})*|>>=)(?! = )")
@@ -28,7 +28,7 @@ WORD = re.compile(rf"(?<![\w.'])({NAME}(?:\.{NAME})*|>>=)(?! = )")
 TEXT_OR_COMMENT = re.compile(r'("(?:[^"\\\n]|\\.)*")|(?:--|//).*')
 USE = re.compile(r"^\s*(?:ghost |pub )?use Rattle\.(\w+)\.specs\.([\w.]+?)(?:\.\{([^}]*)\})?(?: as (\w+))?;?$")
 OUTSIDE = re.compile(r"^\s*use (?!Rattle\.(?:lex|liblex))([\w.]+)\.\{([^}]*)\}$", re.M)
-# How many definitions and names from outside the page says that there are behind the first call of WHOLE.
+# How many definitions and names from outside the page says that there are behind the headline.
 COUNTED = re.compile(r"(`scan_spec` leads to )[\d,]+( definitions, which are written with )[\d,]+( names)")
 DEFINITION = re.compile(r"(?:(?:abbrev|unfoldable|instance|pub|record|data) )+([^\s:]+)|(\S+) :")
 BLOCK = re.compile(r"(abbrev |unfoldable )*mutual$|module .* where$")
@@ -226,12 +226,12 @@ def table(specs, direct):
 
 
 def counted(specs, page, whole):
-    """The page, with the numbers of what is behind the first call of WHOLE."""
+    """The page, with the numbers of what is behind the headline."""
     return COUNTED.sub(rf"\g<1>{len(whole)}\g<2>{len(specs.written_with(whole))}\g<3>", page)
 
 
 def write(specs, direct, whole):
-    """Puts the table into the page, in place of the one that is there, and the numbers of what is behind one call."""
+    """Puts the table into the page, in place of the one that is there, and the numbers of what is behind the headline."""
     path = os.path.join(ROOT, "docs", "DEFINITIONS.md")
     page = read(path)
     head = table(specs, direct).split("\n")[0]
@@ -241,19 +241,21 @@ def write(specs, direct, whole):
         file.write(counted(specs, before + table(specs, direct) + after, whole))
 
 
-def faults(specs, direct, asked, whole):
-    """What the page lacks of what is asked for, and what it has that is not so."""
+def faults(specs, direct, whole):
+    """What the page lacks, and what it has that is not so."""
     page = read(ROOT, "docs", "DEFINITIONS.md")
-    on_page, there = set(named()), {".".join(target[1:]) for target in [*specs.lines, *specs.makers]}
-    for target in sorted(asked):
-        if ".".join(target[1:]) not in on_page:
+    on_page, there = collections.Counter(named()), {".".join(target[1:]) for target in [*specs.lines, *specs.makers]}
+    for target in sorted(specs.closure(direct)):
+        # A name that two crates have has to stand there twice.
+        on_page.subtract([".".join(target[1:])])
+        if on_page[".".join(target[1:])] < 0:
             yield "not in docs/DEFINITIONS.md: " + ".".join(target)
-    for name in sorted(on_page - there):
+    for name in sorted(set(named()) - there):
         yield "no definition: " + name
     if table(specs, direct) not in page:
         yield "the table in docs/DEFINITIONS.md is another"
     if not COUNTED.search(page) or counted(specs, page, whole) != page:
-        yield f"{len(whole)} definitions and {len(specs.written_with(whole))} names are behind {WHOLE[0]}, and the page says it otherwise"
+        yield f"{len(whole)} definitions and {len(specs.written_with(whole))} names are behind {HEADLINE}, and the page says it otherwise"
 
 
 def main():
@@ -268,12 +270,12 @@ def main():
         else:
             listed(specs, targets)
         return 0
-    direct, whole = set().union(*cited.values()), specs.closure(cited[WHOLE[0]])
+    direct, whole = set().union(*cited.values()), specs.closure(cited[HEADLINE])
     if "--write" in sys.argv:
         write(specs, direct, whole)
     print(table(specs, direct))
     print(f"\n{len(cited)} calls and types have contracts, of which {sum(map(bool, cited.values()))} name definitions.")
-    found = list(faults(specs, direct, direct | specs.closure(set().union(*(cited[word] for word in WHOLE))), whole))
+    found = list(faults(specs, direct, whole))
     print("\n".join(found), end="\n" * bool(found))
     return 1 if found and "--status" in sys.argv else 0
 
