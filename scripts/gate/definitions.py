@@ -1,11 +1,13 @@
 #!/usr/bin/env python3
-"""Prints which definitions the public contracts cite, and whether docs/DEFINITIONS.md names them.
+"""Prints which definitions the public contracts lead to, and whether docs/DEFINITIONS.md names them all: those that a contract
+cites, and those that these are made of.
 
     scripts/gate/definitions.py             how many there are, by crate, and what is missing on the page
     scripts/gate/definitions.py --status    the same, and a status of 1 where something is missing
     scripts/gate/definitions.py --write     the same, and the table at the end of the page is written
     scripts/gate/definitions.py NAME ..     the definitions that the contracts of these calls lead to, with their lines, and
                                        the names that stand for two of them
+    scripts/gate/definitions.py --std NAME .. the names from outside this project that those definitions are written with
 
 A public contract is a clause of a function, or of a method of a type or trait, that one of the crates of SURFACE gives its
 callers, or a ghost field of such a type or trait. Lemmas, whose names have a hyphen, are no definitions."""
@@ -17,12 +19,17 @@ import sys
 ROOT = os.path.dirname(os.path.dirname(os.path.dirname(os.path.realpath(__file__))))
 CRATES = os.path.join(ROOT, "crates")
 SURFACE = ["lexre", "lexspec", "lexauto", "lextab", "lexscan", "lexkit", "lex_command", "lexlook_calls", "lexlook_specs", "lexlook_tables", "liblex_calls"]
+# The page says what is behind this call.
+HEADLINE = "scan_spec"
 NAME = r"[A-Za-z_][\w'-]*"
 # A word and its path. A field of something in parentheses is none, nor is the name of a field of a record that is written.
 WORD = re.compile(rf"(?<![\w.'])({NAME}(?:\.{NAME})*|>>=)(?! = )")
 # A text in quotes, which may have what a comment begins with, or a comment.
 TEXT_OR_COMMENT = re.compile(r'("(?:[^"\\\n]|\\.)*")|(?:--|//).*')
 USE = re.compile(r"^\s*(?:ghost |pub )?use Rattle\.(\w+)\.specs\.([\w.]+?)(?:\.\{([^}]*)\})?(?: as (\w+))?;?$")
+OUTSIDE = re.compile(r"^\s*use (?!Rattle\.(?:lex|liblex))([\w.]+)\.\{([^}]*)\}$", re.M)
+# How many definitions and names from outside the page says that there are behind the headline.
+COUNTED = re.compile(r"(`scan_spec` leads to )[\d,]+( definitions, which are written with )[\d,]+( names)")
 DEFINITION = re.compile(r"(?:(?:abbrev|unfoldable|instance|pub|record|data) )+([^\s:]+)|(\S+) :")
 BLOCK = re.compile(r"(abbrev |unfoldable )*mutual$|module .* where$")
 CONSTRUCTOR = re.compile(rf"  ({NAME}) :")
@@ -74,7 +81,7 @@ class Specs:
     """All definitions, by crate, module and name."""
 
     def __init__(self):
-        self.lines, self.known, self.makers, self.moved = {}, {}, {}, {}
+        self.lines, self.known, self.makers, self.moved, self.outside = {}, {}, {}, {}, {}
         for crate in sorted(os.listdir(CRATES)):
             folder = os.path.join(CRATES, crate, "specs")
             for file in sorted(os.listdir(folder)) if os.path.isdir(folder) else []:
@@ -85,6 +92,7 @@ class Specs:
                     continue
                 found, makers = parse(text)
                 self.known[(crate, module)] = imports(text.split("\n"))
+                self.outside[(crate, module)] = {name.strip(): place for place, names in OUTSIDE.findall(text) for name in names.split(",")}
                 for name, lines in found.items():
                     self.lines[(crate, module, name)] = lines
                 for maker, name in makers.items():
@@ -120,6 +128,17 @@ class Specs:
             seen |= more
             waiting += more
         return seen
+
+    def written_with(self, targets):
+        """The names from outside this project that these definitions use, each with a module that has it."""
+        found = {}
+        for target in sorted(targets):
+            text = TEXT_OR_COMMENT.sub(lambda found: '""' if found[1] else "", "\n".join(self.lines[target]))
+            words = set(re.findall(r"\[\]|[^\s()\[\]{};,]+", text))
+            for name, place in self.outside[target[:2]].items():
+                if words.issuperset(part for part in name.split("◌") if part):
+                    found.setdefault(name, place)
+        return sorted(f"{place}.{name}" for name, place in found.items())
 
 
 def given(crate, names=None):
@@ -176,11 +195,11 @@ def named():
     page = read(ROOT, "docs", "DEFINITIONS.md")
     for cell in (cell for line in page.split("\n") if line.startswith("|") for cell in line.split("|")):
         module = None
-        for word in re.findall(r"`([A-Za-z_][\w'.-]*)`", cell):
+        for word in re.findall(r"`([A-Za-z_][\w'.-]*|(?:[A-Z]\w*\.)?>>=)`", cell):
             first, _, name = word.rpartition(".")
             module = first or module
             if module and module[0].isupper():
-                yield f"{module}.{name}"
+                yield f"{module}.{'◌>>=◌' if name == '>>=' else name}"
 
 
 def listed(specs, targets):
@@ -206,27 +225,37 @@ def table(specs, direct):
     return "\n".join(rows)
 
 
-def write(specs, direct):
-    """Puts the table into the page, in place of the one that is there."""
+def counted(specs, page, whole):
+    """The page, with the numbers of what is behind the headline."""
+    return COUNTED.sub(rf"\g<1>{len(whole)}\g<2>{len(specs.written_with(whole))}\g<3>", page)
+
+
+def write(specs, direct, whole):
+    """Puts the table into the page, in place of the one that is there, and the numbers of what is behind the headline."""
     path = os.path.join(ROOT, "docs", "DEFINITIONS.md")
     page = read(path)
     head = table(specs, direct).split("\n")[0]
     before, _, rest = page.partition(head)
     after = re.sub(r"\A(?:\n\|.*)*", "", rest)
     with open(path, "w", encoding="utf-8") as file:
-        file.write(before + table(specs, direct) + after)
+        file.write(counted(specs, before + table(specs, direct) + after, whole))
 
 
-def faults(specs, direct):
+def faults(specs, direct, whole):
     """What the page lacks, and what it has that is not so."""
-    on_page, there = set(named()), {".".join(target[1:]) for target in [*specs.lines, *specs.makers]}
-    for target in sorted(direct):
-        if ".".join(target[1:]) not in on_page:
+    page = read(ROOT, "docs", "DEFINITIONS.md")
+    on_page, there = collections.Counter(named()), {".".join(target[1:]) for target in [*specs.lines, *specs.makers]}
+    for target in sorted(specs.closure(direct)):
+        # A name that two crates have has to stand there twice.
+        on_page.subtract([".".join(target[1:])])
+        if on_page[".".join(target[1:])] < 0:
             yield "not in docs/DEFINITIONS.md: " + ".".join(target)
-    for name in sorted(on_page - there):
+    for name in sorted(set(named()) - there):
         yield "no definition: " + name
-    if table(specs, direct) not in read(ROOT, "docs", "DEFINITIONS.md"):
+    if table(specs, direct) not in page:
         yield "the table in docs/DEFINITIONS.md is another"
+    if not COUNTED.search(page) or counted(specs, page, whole) != page:
+        yield f"{len(whole)} definitions and {len(specs.written_with(whole))} names are behind {HEADLINE}, and the page says it otherwise"
 
 
 def main():
@@ -234,14 +263,19 @@ def main():
     cited = contracts(specs)
     asked = [word for word in sys.argv[1:] if not word.startswith("--")]
     if asked:
-        listed(specs, specs.closure(set().union(*(cited[word] for word in asked))))
+        targets = specs.closure(set().union(*(cited[word] for word in asked)))
+        if "--std" in sys.argv:
+            names = specs.written_with(targets)
+            print("\n".join([*names, f"{len(names)} names"]))
+        else:
+            listed(specs, targets)
         return 0
-    direct = set().union(*cited.values())
+    direct, whole = set().union(*cited.values()), specs.closure(cited[HEADLINE])
     if "--write" in sys.argv:
-        write(specs, direct)
+        write(specs, direct, whole)
     print(table(specs, direct))
     print(f"\n{len(cited)} calls and types have contracts, of which {sum(map(bool, cited.values()))} name definitions.")
-    found = list(faults(specs, direct))
+    found = list(faults(specs, direct, whole))
     print("\n".join(found), end="\n" * bool(found))
     return 1 if found and "--status" in sys.argv else 0
 
