@@ -202,6 +202,12 @@ def named():
                 yield f"{module}.{'◌>>=◌' if name == '>>=' else name}"
 
 
+def tokens(lines):
+    """How many words, numbers and signs these lines have. A text in quotes is one; comments count for nothing."""
+    text = TEXT_OR_COMMENT.sub(lambda found: '""' if found[1] else "", "\n".join(lines))
+    return len(re.findall(r"[()\[\]{};,]|[^\s()\[\]{};,]+", text))
+
+
 def listed(specs, targets):
     for target in sorted(targets):
         print(".".join(target), len(specs.lines[target]))
@@ -211,17 +217,18 @@ def listed(specs, targets):
     for name, modules in homes.items():
         if len(modules) > 1:
             print(f"two meanings: {name} of {', '.join(modules)}")
-    print(len(targets), "definitions in", sum(len(specs.lines[target]) for target in targets), "lines")
+    lines = [specs.lines[target] for target in targets]
+    print(len(targets), "definitions in", sum(map(len, lines)), "lines and", sum(map(tokens, lines)), "tokens")
 
 
 def table(specs, direct):
     """The table at the end of the page."""
     reached = specs.closure(direct)
-    rows = ["| Crate | Named by contracts | With all that they are made of | Lines |", "|---|---|---|---|"]
+    rows = ["| Crate | Named by contracts | With all that they are made of | Lines | Tokens |", "|---|---|---|---|---|"]
     for crate in [*sorted({target[0] for target in reached}), "all"]:
-        these = [target for target in reached if crate in (target[0], "all")]
+        these = [specs.lines[target] for target in reached if crate in (target[0], "all")]
         named_here = sum(crate in (target[0], "all") for target in direct)
-        rows.append(f"| {crate} | {named_here} | {len(these)} | {sum(len(specs.lines[target]) for target in these)} |")
+        rows.append(f"| {crate} | {named_here} | {len(these)} | {sum(map(len, these))} | {sum(map(tokens, these))} |")
     return "\n".join(rows)
 
 
