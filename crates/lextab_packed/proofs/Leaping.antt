@@ -1,17 +1,15 @@
 -- Passing over bytes that lead from a state to itself.
 use Rattle.std.proofs.Common.{◌≡◌, ◌≢◌, ℕ, zero, suc, ◌+◌, ◌-◌, ◌*◌, ◌<◌, ◌≤◌, Bool, true, false, List, [], ◌∷◌, ◌++◌, length, map, get_or, Some, None, inl, inr, refl, sym, ap, subst, ◌∙◌, arith}
-use Rattle.std.specs.Prelude.{◌==◌, Option}
+use Rattle.std.specs.Prelude.{Option}
 use Rattle.std.specs.Option.{ForSome}
-use Rattle.std.proofs.lemmas.Bool.{cases_lt, eq-eqb}
-use Rattle.std.proofs.lemmas.Simd.{none_from_empty_mask}
-use lib.Lanes.{chunk, mask_l}
+use Rattle.std.proofs.lemmas.Bool.{cases_lt}
 use Rattle.lex_semantics.specs.Text.{flag}
 use Rattle.lex_semantics.specs.Machine.{Machine}
 use Rattle.lextab_packed.specs.declared.tables.Tables.{Tables}
 use Rattle.lextab_packed.specs.declared.flat.Flat.{Flat}
 use Rattle.lextab_packed.specs.declared.leaps.Leavers.{Leavers}
 use Rattle.lextab_packed.specs.Flats.{marked, kind_of}
-use Rattle.lextab_packed.specs.Leaps.{IsOther, AllOthers, OthersStay}
+use Rattle.lextab_packed.specs.Leaps.{AllOthers, OthersStay}
 use Rattle.lextab_packed.specs.Machines.{table_machine, states_of}
 use Rattle.lextab_packed.specs.Runs.{Stays, IsRun}
 use Rattle.lextab_packed.specs.Steps.{step_of}
@@ -28,14 +26,6 @@ others_then l bytes a b c p q = record {
     | inr after ↦ q.others i after high
   ];
 }
-
--- a byte is not among those that a load shows to have none of it
-pub not_loaded : (bytes : List ℕ) (start x : ℕ) → start + 16 ≤ length bytes → mask_l (map (λ y. y == x) (chunk start 16 bytes)) ≡ 0 → (i : ℕ) → start ≤ i → i < start + 16 → get_or bytes i 0 ≢ x
-not_loaded bytes start x room none i low high is =
-    clash (sym (eq-eqb (get_or bytes i 0) x is) ∙ none_from_empty_mask (λ y. y == x) bytes start 16 0 room none i low high)
-  where
-    clash : true ≡ false → ⊥
-    clash e = cc
 
 -- a state whose target by a byte is its own row
 stays_at : (t : Tables) (rows : List ℕ) (s b : ℕ) → s < states_of t →

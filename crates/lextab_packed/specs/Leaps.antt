@@ -1,5 +1,5 @@
 -- States that few bytes lead away from. (This project's.)
-use Rattle.std.specs.Prelude.{◌≡◌, ◌≢◌, ℕ, ◌+◌, ◌<◌, ◌≤◌, List, length, slice_index}
+use Rattle.std.specs.Prelude.{◌≡◌, ◌≢◌, ℕ, ◌+◌, ◌<◌, ◌≤◌, ◌==◌, ◌||◌, Bool, List, length, slice_index}
 use Rattle.lextab_packed.specs.declared.leaps.Leavers.{Leavers}
 
 -- From one byte up to another each leads from the state whose row is at this place to itself.
@@ -11,6 +11,10 @@ pub record StaysTo (rows : List ℕ) (place from end : ℕ) : Type 0 where
 -- a byte is none of the three
 abbrev pub IsOther : Leavers → ℕ → Type 0
 IsOther l byte = (byte ≢ l.a) × (byte ≢ l.b) × (byte ≢ l.c)
+
+-- whether a byte is one of the three
+abbrev pub is_leaver : Leavers → ℕ → Bool
+is_leaver l byte = (byte == l.a) || (byte == l.b) || (byte == l.c)
 
 -- each byte but the three leads from the state whose row is at this place to itself
 abbrev pub OthersStay : List ℕ → ℕ → Leavers → Type 0

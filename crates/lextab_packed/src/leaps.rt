@@ -1,8 +1,8 @@
 //! States that few bytes lead away from, so that a run of the others is passed many bytes at a time.
-ghost use Rattle.std.specs.Prelude.{◌≡◌, ◌==◌, ℕ, ◌+◌, ◌*◌, ◌<◌, ◌≤◌, true, length, map, get_or, None, IfOk};
+ghost use Rattle.std.specs.Prelude.{◌≡◌, ℕ, ◌+◌, ◌*◌, ◌<◌, ◌≤◌, true, length, map, get_or, None, IfOk};
 ghost use Rattle.std.specs.Option.{ForSome};
 ghost use Rattle.std.specs.Simd.Lanes.{mask_l};
-ghost use Rattle.lextab_packed.specs.Leaps.{StaysTo, OthersStay, AllOthers};
+ghost use Rattle.lextab_packed.specs.Leaps.{StaysTo, OthersStay, AllOthers, is_leaver};
 
 use std::alloc::{AllocError, Global};
 use std::simd::prelude::*;
@@ -74,39 +74,45 @@ pub(crate) fn leaps_of(
     Ok(leaps)
 }
 
-/// A bit for each of the bytes, which is set where it is this one.
+/// A bit for each of the bytes, which is set where it is one of the three.
 #[inline(always)]
-fn equal_to(lanes: u8x16, byte: u8) -> u64
-    ensures { result ≡ mask_l (map (λ x. x == byte) lanes) }
+fn leavers_in(lanes: u8x16, leavers: Leavers) -> u64
+    ensures { result ≡ mask_l (map (is_leaver leavers) lanes) }
 {
-    lanes.simd_eq(u8x16::splat(byte)).to_bitmask()
+    (lanes.simd_eq(u8x16::splat(leavers.a))
+        | lanes.simd_eq(u8x16::splat(leavers.b))
+        | lanes.simd_eq(u8x16::splat(leavers.c)))
+        .to_bitmask()
 }
 
-/// Whether none of the `LANES` bytes from `start` on is one of the three.
+/// How many of the `LANES` bytes from `start` on come before the first that is one of the three.
 #[inline(always)]
-fn passes(leavers: Leavers, bytes: &[u8], start: usize) -> bool
+fn others_at(leavers: Leavers, bytes: &[u8], start: usize) -> usize
     requires { start + 16 ≤ length bytes.now }
-    ensures { result ≡ true → AllOthers leavers bytes.now start (start + 16) }
+    ensures few { result ≤ 16 }
+    ensures others { AllOthers leavers bytes.now start (start + result) }
 {
-    let lanes = u8x16::from_slice(&bytes[start..]);
-    if equal_to(lanes, leavers.a) != 0 {
-        return false;
+    let found = leavers_in(u8x16::from_slice(&bytes[start..]), leavers);
+    if found == 0 {
+        LANES
+    } else {
+        found.trailing_zeros() as usize
     }
-    if equal_to(lanes, leavers.b) != 0 {
-        return false;
-    }
-    equal_to(lanes, leavers.c) == 0
 }
 
-/// The end of some of the bytes from `start` on that are none of the three: of as many times `LANES` as there are.
+/// The place of the first of the three from `start` on, or one from which on there are fewer than `LANES` bytes.
 #[inline(always)]
 pub(crate) fn pass_over(leavers: Leavers, bytes: &[u8], start: usize) -> usize
     requires { start ≤ length bytes.now }
     ensures { AllOthers leavers bytes.now start result }
 {
     let mut end = start;
-    'lanes: while LANES <= bytes.len() - end && passes(leavers, bytes, end) {
-        end += LANES;
+    'lanes: while LANES <= bytes.len() - end {
+        let others = others_at(leavers, bytes, end);
+        end += others;
+        if others < LANES {
+            return end;
+        }
     }
     end
 }
