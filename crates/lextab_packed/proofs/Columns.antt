@@ -174,3 +174,14 @@ set_one f g xs n y inside is before after = (
   ],
   λ k low lt. get_or-set_other xs n k y 0 (λ e. absurd (omega (arith, e, low))) ∙ after k (omega (arith, low)) (omega (arith, lt, length-set xs n y)),
 )
+
+-- one place more is what it should be: those up to it are f's, and those after it are g's
+pub keep_one : (f g : ℕ → ℕ) (xs : List ℕ) (n : ℕ) → slice_index xs n ≡ f n → ((k : ℕ) → k < n → slice_index xs k ≡ f k) → ((k : ℕ) → n ≤ k → k < length xs → slice_index xs k ≡ g k) →
+    ((k : ℕ) → k < n + 1 → slice_index xs k ≡ f k) × ((k : ℕ) → n + 1 ≤ k → k < length xs → slice_index xs k ≡ g k)
+keep_one f g xs n here before after = (
+  λ k lt. elim (cases_lt k n) [
+    | inl low ↦ before k low
+    | inr high ↦ (let e : n ≡ k = omega (arith, lt, high) in subst (λ i. slice_index xs i ≡ f i) e here)
+  ],
+  λ k low lt. after k (omega (arith, low)) lt,
+)

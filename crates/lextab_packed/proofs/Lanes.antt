@@ -1,8 +1,8 @@
 -- From the mask of a load to the bytes of a slice.
-use Rattle.std.proofs.Common.{◌≡◌, ◌≢◌, ℕ, ◌+◌, ◌%◌, ◌^◌, ◌<◌, ◌≤◌, eqb, Bool, true, false, not, ◌||◌, cond, List, [], ◌∷◌, map, length, get_or, replicate, refl, sym, ap, ap₂, ◌∙◌, arith}
+use Rattle.std.proofs.Common.{◌≡◌, ℕ, ◌+◌, ◌%◌, ◌^◌, ◌≤◌, eqb, Bool, true, false, not, ◌||◌, cond, List, [], ◌∷◌, map, length, get_or, replicate, refl, sym, ap, ap₂, ◌∙◌, arith}
 use Rattle.std.proofs.lemmas.Bool.{eq-eqb, ne_eqb, cond-true, cond-false}
 use Rattle.std.proofs.lemmas.List.{length-map}
-use Rattle.std.proofs.lemmas.Simd.{zip2_splat, map-map, mask_l-mod, first_set_mask_l, run_in_chunk_fails, run_in_chunk_le, length-chunk}
+use Rattle.std.proofs.lemmas.Simd.{zip2_splat, mask_l-mod, first_set_mask_l, run_in_chunk_fails, run_in_chunk_le, length-chunk}
 use Rattle.std.specs.List.{prefix_len}
 use lib.Bits.{bit_or}
 use lib.Count.{count_trailing_zeros}
@@ -45,9 +45,11 @@ other l x none = (λ e. clash (sym (ap (λ b. b || eqb x l.b || eqb x l.c) (eq-e
   where
     clash : true ≡ false → ⊥
     clash e = cc
+
     second : (p r : Bool) → (p || true || r) ≡ false → ⊥
     second true r e = cc
     second false r e = cc
+
     third : (p q : Bool) → (p || q || true) ≡ false → ⊥
     third true q e = cc
     third false true e = cc

@@ -14,7 +14,8 @@ ghost use Rattle.lextab_packed.specs.Machines.{table_machine, table_parts, state
 
 use crate::kinds::{Kind, kinds_of};
 use crate::leaps::{Leavers, leaps_of, pass_over};
-use crate::steps::{STOP, STOP_ECHO, STOP_OTHER, STOP_SILENT, flat_rows, mark_rows};
+use crate::rows::flat_rows;
+use crate::steps::{STOP, STOP_ECHO, STOP_OTHER, STOP_SILENT, mark_rows};
 use crate::tables::Tables;
 use lex_machine::{Cut, EndAction, Gist, Machine, Statement, Way};
 use std::alloc::{AllocError, Global};
@@ -61,7 +62,7 @@ impl Flat {
     {
         let kinds = kinds_of(alloc, &tables)?;
         let mut rows = rows;
-        mark_rows(&tables, &kinds, &mut rows);
+        mark_rows(alloc, &tables, &kinds, &mut rows)?;
         let leaps = leaps_of(alloc, &rows, kinds.len())?;
         Ok(Flat {
             tables,

@@ -31,11 +31,11 @@ fn next_leaver(rows: &[u32], place: u32, from: usize) -> usize
     byte
 }
 
-/// The byte, or the last one there is.
-fn byte_at(place: usize) -> u8
+/// The byte, or another where there is none.
+fn byte_or(place: usize, other: u8) -> u8
     ensures { place < 256 → result ≡ place }
 {
-    place.min(255) as u8
+    if place < 256 { place as u8 } else { other }
 }
 
 /// The bytes that lead from a state to another, by the row of the state, if they are no more than three.
@@ -49,10 +49,11 @@ fn leavers_of(rows: &[u32], place: u32) -> Option<Leavers>
     if next_leaver(rows, place, (c + 1).min(256)) < 256 {
         return None;
     }
+    let first = byte_or(a, 0);
     Some(Leavers {
-        a: byte_at(a),
-        b: byte_at(b),
-        c: byte_at(c),
+        a: first,
+        b: byte_or(b, first),
+        c: byte_or(c, first),
     })
 }
 
@@ -81,8 +82,7 @@ fn leavers_in(lanes: u8x16, leavers: Leavers) -> u64
 {
     (lanes.simd_eq(u8x16::splat(leavers.a))
         | lanes.simd_eq(u8x16::splat(leavers.b))
-        | lanes.simd_eq(u8x16::splat(leavers.c)))
-        .to_bitmask()
+        | lanes.simd_eq(u8x16::splat(leavers.c))).to_bitmask()
 }
 
 /// How many of the `LANES` bytes from `start` on come before the first that is one of the three.

@@ -4,7 +4,8 @@
 //! The modules, in an order for reading:
 //! - `parts`: the lists of which a table is made, as a file has them.
 //! - `tables`: a table that keeps to all that a table file is checked for.
-//! - `steps`: the state after one byte more, and rows of 256 targets for each state.
+//! - `steps`: the state after one byte more, and the marks of targets.
+//! - `rows`: a row of 256 targets for each state.
 //! - `machine`: what a table answers a scanner.
 //! - `kinds`: what is known of the first rule that each state accepts.
 //! - `leaps`: states that at most three bytes lead away from; runs of the others are passed 16 bytes at a time.
@@ -30,10 +31,11 @@ mod kinds;
 mod leaps;
 mod machine;
 mod parts;
+mod rows;
 mod steps;
 mod tables;
 
 pub use flat::Flat;
 pub use parts::{Row, TableCondition, TableParts, TableRule};
-pub use steps::flat_rows;
+pub use rows::flat_rows;
 pub use tables::{Tables, any_reject};

@@ -1,8 +1,9 @@
 //! How a table goes from state to state.
-ghost use Rattle.std.specs.Prelude.{◌≡◌, ℕ, ◌+◌, ◌*◌, ◌^◌, ◌<◌, ◌≤◌, length, slice_index, slice_get, Some, IfOk};
+ghost use Rattle.std.specs.Prelude.{◌≡◌, ℕ, ◌+◌, ◌*◌, ◌^◌, ◌<◌, ◌≤◌, length, slice_index, slice_get, Some, IfOk, OnOk};
 ghost use Rattle.lex_semantics.specs.Limits.{max_states};
+ghost use Rattle.lex_semantics.specs.Text.{flag};
 ghost use Rattle.lextab_packed.specs.Flats.{marked, marked_target, stop_of, kind_of};
-ghost use Rattle.lextab_packed.specs.Machines.{table_machine, states_of};
+ghost use Rattle.lextab_packed.specs.Machines.{table_machine, states_of, flags_of};
 ghost use Rattle.lextab_packed.specs.Checks.{IsTable};
 ghost use Rattle.lextab_packed.specs.Steps.{step_of};
 ghost use Rattle.lextab_packed.specs.Views.{table_of};
@@ -26,21 +27,6 @@ pub(crate) fn target(parts: &TableParts, state: u32, byte: u8) -> u32
     } else {
         row.default_target
     }
-}
-
-/// The state after each byte, 256 to a state: the row of state 0, then that of state 1, and so on.
-pub fn flat_rows(alloc: Global, parts: &TableParts) -> Result<Vec<u32>, AllocError>
-    requires { IsTable (table_of parts.now) }
-    ensures len { IfOk result (λ v. length v.items ≡ 256 * length parts.now.rows.items) }
-    ensures each { IfOk result (λ v. (s b : ℕ) → s < length parts.now.rows.items → b < 256
-        → slice_index v.items (256 * s + b) ≡ step_of (table_of parts.now) s b) }
-{
-    let places = 256 * parts.rows.len();
-    let mut next = Vec::with_capacity(alloc, places)?;
-    for place in 0..places {
-        next.push(target(parts, (place / 256) as u32, (place % 256) as u8))?;
-    }
-    Ok(next)
 }
 
 /// The least mark of a target at which the machine stops: no rule is accepted there.
@@ -79,21 +65,42 @@ fn mark(state: u32, kind: Kind, goes_on: bool) -> u32
     }
 }
 
+/// Each state as a target with its mark.
+fn marks_of(alloc: Global, tables: &Tables, kinds: &[Kind]) -> Result<Vec<u32>, AllocError>
+    requires kinds { length kinds.now ≡ states_of tables.now }
+    requires told { (s : ℕ) → s < states_of tables.now
+        → slice_get kinds.now s ≡ Some (kind_of (table_machine tables.now) s) }
+    ensures len { IfOk result (λ v. length v.items ≡ states_of tables.now) }
+    ensures each { IfOk result (λ v. (s : ℕ) → s < states_of tables.now → slice_index v.items s
+        ≡ marked (flag (flags_of tables.now) s) (kind_of (table_machine tables.now) s) s) }
+{
+    let mut marks = Vec::with_capacity(alloc, kinds.len())?;
+    for state in 0..kinds.len() {
+        marks.push(mark(state as u32, kinds[state], tables.goes_on[state]))?;
+    }
+    Ok(marks)
+}
+
 /// Marks the targets of rows, each in its place.
-pub(crate) fn mark_rows(tables: &Tables, kinds: &[Kind], rows: &mut Vec<u32>)
+pub(crate) fn mark_rows(
+    alloc: Global,
+    tables: &Tables,
+    kinds: &[Kind],
+    rows: &mut Vec<u32>,
+) -> Result<(), AllocError>
     requires kinds { length kinds.now ≡ states_of tables.now }
     requires told { (s : ℕ) → s < states_of tables.now
         → slice_get kinds.now s ≡ Some (kind_of (table_machine tables.now) s) }
     requires len { length rows.old.items ≡ 256 * length tables.now.parts.rows.items }
     requires steps { (s b : ℕ) → s < length tables.now.parts.rows.items → b < 256
         → slice_index rows.old.items (256 * s + b) ≡ step_of (table_of tables.now.parts) s b }
-    ensures len { length rows.new.items ≡ 256 * length tables.now.parts.rows.items }
-    ensures each { (s b : ℕ) → s < length tables.now.parts.rows.items → b < 256
-        → slice_index rows.new.items (256 * s + b) ≡ marked_target tables.now s b }
+    ensures len { OnOk result (length rows.new.items ≡ 256 * length tables.now.parts.rows.items) }
+    ensures each { OnOk result ((s b : ℕ) → s < length tables.now.parts.rows.items → b < 256
+        → slice_index rows.new.items (256 * s + b) ≡ marked_target tables.now s b) }
 {
+    let marks = marks_of(alloc, tables, kinds)?;
     for place in 0..rows.len() {
-        let state = rows[place];
-        let goes_on = tables.goes_on[state as usize];
-        rows[place] = mark(state, kinds[state as usize], goes_on);
+        rows[place] = marks[rows[place] as usize];
     }
+    Ok(())
 }

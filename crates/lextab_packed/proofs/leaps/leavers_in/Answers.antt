@@ -1,4 +1,3 @@
-use Rattle.std.proofs.Common.{arith}
 use Rattle.lextab_packed.proofs.Lanes.{three_masked}
 use Rattle.lextab_packed.proofs.leaps.leavers_in.Goals as goal
 

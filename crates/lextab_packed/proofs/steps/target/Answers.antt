@@ -9,18 +9,18 @@ use Rattle.lextab_packed.proofs.steps.target.Goals as goal
 pub index-requires-2 : goal.index-requires-2
 index-requires-2 c =
     let p = c.args.parts.now in let row = c.index-row.result.now in
-    let len = classes_len p c.requires.table c.args.state c.args.byte c.requires.state (omega arith) row c.index-row.ensures in
+    let len = classes_len p c.requires.table c.args.state c.requires.state row c.index-row.ensures c.args.byte (omega arith) in
     let class : c.from-2.result ≡ slice_index p.class_of.items c.args.byte = c.from-2.ensures ∙ get_or_read p.class_of.items c.args.byte c.index.result.now len (rw c.from.ensures at c.index.ensures) 0 in
-    let low = check_low p c.requires.table c.args.state c.args.byte c.requires.state (omega arith) row c.index-row.ensures in
+    let low = check_low p c.requires.table c.args.state c.requires.state row c.index-row.ensures c.args.byte (omega arith) in
     let all = p.checks.ok.0 in
     omega (arith, class, low, all)
 
 pub index-requires-then-index-state : goal.index-requires-then-index-state
 index-requires-then-index-state c =
     let p = c.args.parts.now in let row = c.index-row.result.now in
-    let len = classes_len p c.requires.table c.args.state c.args.byte c.requires.state (omega arith) row c.index-row.ensures in
+    let len = classes_len p c.requires.table c.args.state c.requires.state row c.index-row.ensures c.args.byte (omega arith) in
     let class : c.from-2.result ≡ slice_index p.class_of.items c.args.byte = c.from-2.ensures ∙ get_or_read p.class_of.items c.args.byte c.index.result.now len (rw c.from.ensures at c.index.ensures) 0 in
-    let low = next_low p c.requires.table c.args.state c.args.byte c.requires.state (omega arith) row c.index-row.ensures in
+    let low = next_low p c.requires.table c.args.state c.requires.state row c.index-row.ensures c.args.byte (omega arith) in
     let all = p.nexts.ok.0 in
     omega (arith, class, low, all)
 
@@ -28,11 +28,11 @@ pub returns-then-index-state-clause-state : goal.returns-then-index-state-clause
 returns-then-index-state-clause-state c =
     let p = c.args.parts.now in let row = c.index-row.result.now in
     let byte : c.args.byte < 256 = omega arith in
-    let len = classes_len p c.requires.table c.args.state c.args.byte c.requires.state byte row c.index-row.ensures in
+    let len = classes_len p c.requires.table c.args.state c.requires.state row c.index-row.ensures c.args.byte byte in
     let class : c.from-2.result ≡ slice_index p.class_of.items c.args.byte = c.from-2.ensures ∙ get_or_read p.class_of.items c.args.byte c.index.result.now len (rw c.from.ensures at c.index.ensures) 0 in
-    let check = get_or_read p.checks.items (row.base + slice_index p.class_of.items c.args.byte) c.index-2.result.now (check_low p c.requires.table c.args.state c.args.byte c.requires.state byte row c.index-row.ensures) (rw class at c.index-2.ensures) 0 in
-    let next = get_or_read p.nexts.items (row.base + slice_index p.class_of.items c.args.byte) c.index-then-index-state.result.now (next_low p c.requires.table c.args.state c.args.byte c.requires.state byte row c.index-row.ensures) (rw class at c.index-then-index-state.ensures) 0 in
-    next ∙ by_slot p c.requires.table c.args.state c.args.byte c.requires.state byte row c.index-row.ensures (sym check ∙ c.if-index-state.true)
+    let check = get_or_read p.checks.items (row.base + slice_index p.class_of.items c.args.byte) c.index-2.result.now (check_low p c.requires.table c.args.state c.requires.state row c.index-row.ensures c.args.byte byte) (rw class at c.index-2.ensures) 0 in
+    let next = get_or_read p.nexts.items (row.base + slice_index p.class_of.items c.args.byte) c.index-then-index-state.result.now (next_low p c.requires.table c.args.state c.requires.state row c.index-row.ensures c.args.byte byte) (rw class at c.index-then-index-state.ensures) 0 in
+    next ∙ by_slot p c.requires.table c.args.state c.requires.state row c.index-row.ensures c.args.byte byte (sym check ∙ c.if-index-state.true)
 
 pub returns-then-index-state-clause-known : goal.returns-then-index-state-clause-known
 returns-then-index-state-clause-known c =
@@ -46,10 +46,10 @@ pub returns-else-index-state-clause-state : goal.returns-else-index-state-clause
 returns-else-index-state-clause-state c =
     let p = c.args.parts.now in let row = c.index-row.result.now in
     let byte : c.args.byte < 256 = omega arith in
-    let len = classes_len p c.requires.table c.args.state c.args.byte c.requires.state byte row c.index-row.ensures in
+    let len = classes_len p c.requires.table c.args.state c.requires.state row c.index-row.ensures c.args.byte byte in
     let class : c.from-2.result ≡ slice_index p.class_of.items c.args.byte = c.from-2.ensures ∙ get_or_read p.class_of.items c.args.byte c.index.result.now len (rw c.from.ensures at c.index.ensures) 0 in
-    let check = get_or_read p.checks.items (row.base + slice_index p.class_of.items c.args.byte) c.index-2.result.now (check_low p c.requires.table c.args.state c.args.byte c.requires.state byte row c.index-row.ensures) (rw class at c.index-2.ensures) 0 in
-    by_default p c.requires.table c.args.state c.args.byte c.requires.state byte row c.index-row.ensures (λ e. c.if-index-state.false (check ∙ e))
+    let check = get_or_read p.checks.items (row.base + slice_index p.class_of.items c.args.byte) c.index-2.result.now (check_low p c.requires.table c.args.state c.requires.state row c.index-row.ensures c.args.byte byte) (rw class at c.index-2.ensures) 0 in
+    by_default p c.requires.table c.args.state c.requires.state row c.index-row.ensures c.args.byte byte (λ e. c.if-index-state.false (check ∙ e))
 
 pub returns-else-index-state-clause-known : goal.returns-else-index-state-clause-known
 returns-else-index-state-clause-known c =

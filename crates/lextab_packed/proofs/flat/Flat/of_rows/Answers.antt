@@ -1,11 +1,11 @@
-use Rattle.std.proofs.Common.{◌*◌, subst, arith, ◌∙◌}
+use Rattle.std.proofs.Common.{◌*◌, subst, arith}
 use Rattle.lextab_packed.specs.Leaps.{OthersStay}
 use Rattle.lextab_packed.proofs.flat.Flat.of_rows.Goals as goal
 
 pub invariant_of-result : goal.invariant_of-result
 invariant_of-result c = record {
-  sizes = c.mark_rows.ensures.len;
-  targets = c.mark_rows.ensures.each;
+  sizes = c.in_ok-mark_rows.ensures.len;
+  targets = c.in_ok-mark_rows.ensures.each;
   column = c.in_ok-kinds.ensures.len;
   told = c.in_ok-kinds.ensures.each;
   leap_column = omega (arith, c.in_ok-leaps.ensures.len, c.len.ensures, c.in_ok-kinds.ensures.len);
