@@ -1,5 +1,5 @@
 -- What is told of a machine's rules is told of those of its specification.
-use Rattle.std.proofs.Common.{Some, ◌≡◌, ℕ, suc, ◌+◌, ◌-◌, ◌<◌, ◌≤◌, Bool, true, false, cond, List, ◌++◌, length, refl, arith}
+use Rattle.std.proofs.Common.{Some, ◌≡◌, ℕ, suc, ◌+◌, ◌-◌, ◌<◌, ◌≤◌, Bool, true, false, cond, List, ◌++◌, length, refl, arith, Ok, Err}
 use Rattle.std.specs.Prelude.{nat_lt}
 use Rattle.std.proofs.lemmas.Bool.{ltb-true}
 use Rattle.lex_semantics.specs.Spec.{Spec}
@@ -8,11 +8,14 @@ use Rattle.lex_semantics.specs.Sound.{IsSound}
 use Rattle.lex_semantics.specs.Machine.{Machine, rules_of_machine}
 use Rattle.lex_semantics.specs.MachineLaws.{MachineLaws}
 use Rattle.lex_semantics.specs.TableFor.{TableFor}
-use Rattle.lex_semantics.specs.Acting.{Ending, StackFault}
+use Rattle.lex_semantics.specs.Acting.{Ending, Status, StackFault}
 use Rattle.lex_semantics.proofs.Both.{same_after, same_run}
 use Rattle.lexscan_window.specs.declared.error.RunError.{RunError}
 use Rattle.lexscan.specs.TurnInvariants.{RunCompleted}
 use Rattle.lexscan.specs.Runs.{RunStopped}
+use Rattle.lexauto.specs.declared.subsets.Limits.{Limits}
+use Rattle.lexkit.specs.Headline.{IsWithin, ScansBy, max_reads}
+use Rattle.lexkit.specs.declared.errors.ScanError.TheVariants.{Run}
 
 -- the reads of a scan, by whether its end was answered
 pub few_reads : (given : List ℕ) (m e e' f f' : ℕ) → length given + (e' - e) + (f' - f) ≤ m → length given + cond (nat_lt e e') 1 0 + (f' - f) ≤ m
@@ -53,3 +56,18 @@ module _ (M : Machine) (laws : MachineLaws M) (S : Spec) (sound : IsSound S) (ta
     too_many = h.too_many;
     fault = λ is. ran_to given out at_end StackFault (h.fault is);
   }
+
+-- The scan by a machine that is the table's was one by the specification: it came to its end, or it was stopped.
+module _ {A B : Type 0} (gave : A → List ℕ → A → Type 0) (wrote : B → List ℕ → B → Type 0) (s s' : A) (t t' : B) (e e' f f' : ℕ) (limits : Limits) (S : Spec) (sound : IsSound S) (within : IsWithin limits S)
+    (M : Machine) (laws : MachineLaws M) (table : TableFor M S) (given out : List ℕ) (source : gave s given s') (sink : wrote t out t') (few : length given + (e' - e) + (f' - f) ≤ max_reads) where
+  pub came_to : (status : ℕ) → RunCompleted (rules_of_machine M) given out (nat_lt e e') (Status status) → ScansBy gave wrote s s' t t' (nat_lt e e') (f' - f) limits S (Ok status)
+  came_to status h = (
+    within,
+    record { given = given; out = out; source = source; sink = sink; ran = ran_to M laws S sound table given out (nat_lt e e') (Status status) h; few_reads = few_reads given max_reads e e' f f' few },
+  )
+
+  pub stopped_at : (error : RunError) → RunStopped (rules_of_machine M) given out (nat_lt e e') max_reads error → ScansBy gave wrote s s' t t' (nat_lt e e') (f' - f) limits S (Err (Run error))
+  stopped_at error h = (
+    within,
+    record { given = given; out = out; source = source; sink = sink; ran = ran_into M laws S sound table given out (nat_lt e e') max_reads error h; few_reads = few_reads given max_reads e e' f f' few },
+  )

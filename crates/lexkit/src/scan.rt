@@ -19,7 +19,7 @@ use crate::options::Options;
 use lexauto::Limits;
 use lexscan::{Source, run};
 use lexspec::Spec;
-use lextab::{Flat, Sink, Tables, pack, read_flat};
+use lextab::{Flat, Sink, Tables, pack_flat, read_flat};
 use std::alloc::Global;
 
 /// How many reads a scan makes at most: 2^40.
@@ -86,41 +86,12 @@ pub fn scan_by<S: Source, K: Sink>(
         Err(error) => return Err(ScanError::Generate(error)),
         Ok(least) => least,
     };
-    let tables = match pack(alloc, &least.automaton, spec) {
-        Err(_) => return Err(ScanError::Generate(GenError::OutOfMemory)),
-        Ok(tables) => tables,
-    };
-    scan_tables(alloc, tables, source, sink)
-}
-
-/// Scans the source by the tables of a specification: lays them flat, and runs the scanner over them.
-fn scan_tables<S: Source, K: Sink>(
-    alloc: Global,
-    tables: Tables,
-    source: &mut S,
-    sink: &mut K,
-) -> Result<u8, ScanError>
-    requires few_ends { S.ends source.old < 2 ^ 64 - 1 }
-    requires few_read_faults { S.failures source.old < 2 ^ 64 - 1 }
-    requires few_write_faults { K.failures sink.old < 2 ^ 64 - 1 }
-    ensures told { (limits : Given) (spec : Meant) → IsSound spec → IsWithin limits spec
-        → TableFor (table_machine tables) spec
-        → ScansBy S.gave K.wrote source.old source.new sink.old sink.new
-        (nat_lt (S.ends source.old) (S.ends source.new)) (S.failures source.new - S.failures source.old)
-        limits spec result }
-    ensures read_faults { S.failures source.new ≡ S.failures source.old + read_faults result }
-    ensures write_faults { K.failures sink.new ≡ K.failures sink.old + write_faults result }
-    ensures ends_stay { S.ends source.old ≤ S.ends source.new }
-    ensures one_end { S.ends source.new ≤ S.ends source.old + 1 }
-    ensures not_failed { IsErrOf result (ScanError.Run Failed) → ⊥ }
-    ensures handed_on { HandedOn (K.flushed sink.new) result }
-{
-    let machine = match Flat::new(alloc, tables) {
+    let machine = match pack_flat(alloc, &least.automaton, spec) {
         Err(_) => return Err(ScanError::Generate(GenError::OutOfMemory)),
         Ok(machine) => machine,
     };
     match run(alloc, &machine, source, sink, MAX_READS) {
-        Err(fault) => Err(ScanError::Run(fault)),
+        Err(error) => Err(ScanError::Run(error)),
         Ok(status) => Ok(status),
     }
 }
@@ -147,7 +118,14 @@ pub fn scan_made<S: Source, K: Sink>(
     ensures not_failed { IsErrOf result (ScanError.Run Failed) → ⊥ }
     ensures handed_on { HandedOn (K.flushed sink.new) result }
 {
-    scan_tables(alloc, tables, source, sink)
+    let machine = match Flat::new(alloc, tables) {
+        Err(_) => return Err(ScanError::Generate(GenError::OutOfMemory)),
+        Ok(machine) => machine,
+    };
+    match run(alloc, &machine, source, sink, MAX_READS) {
+        Err(error) => Err(ScanError::Run(error)),
+        Ok(status) => Ok(status),
+    }
 }
 
 /// Scans the source by a table file, and writes to the sink. It answers the status that the table's rules end with, 0

@@ -9,7 +9,7 @@
 //! - `filling`: the checks and the nexts.
 //! - `packing`: these together.
 //! - `assembling`: the conditions, rules and rows of a table.
-//! - `tables`: `pack`.
+//! - `tables`: `pack`, and `pack_flat` for a scan.
 //! - `plain`: the automaton as it was built, with the actions of its specification, and `plain_machine`: what it
 //!   answers. Tests use it alone.
 //! - `laws`: an automaton has one packing, which goes as it does and keeps the limits; a worked example.
@@ -54,4 +54,4 @@ pub use lextab_file::{
 };
 pub use lextab_packed::{Flat, Tables};
 pub use plain::Plain;
-pub use tables::pack;
+pub use tables::{pack, pack_flat};

@@ -6,6 +6,7 @@ ghost use Rattle.lexauto_dfa.specs.Invariant.{IsAutomaton};
 ghost use Rattle.lexauto_dfa.specs.Automata.{machine_of, conditions_of, states_of, next_of};
 ghost use Rattle.lexspec.specs.Views.{spec_of, conditions_in};
 ghost use Rattle.lextab_packed.specs.Views.{table_of};
+ghost use Rattle.lextab_packed.specs.FlatViews.{tables_of};
 ghost use Rattle.lextab_packed.specs.Machines.{table_machine, table_parts};
 ghost use Rattle.lextab.specs.Assembled.{assembled, HasTexts};
 ghost use Rattle.lextab.specs.Packing.{IsPacked};
@@ -15,7 +16,7 @@ use crate::assembling::{table_conditions, table_rows, table_rules};
 use crate::packing::{Packed, pack_rows};
 use lexauto_dfa::{Dfa, OutOfMemory, Parts};
 use lexspec::Spec;
-use lextab_packed::{TableParts, Tables};
+use lextab_packed::{Flat, TableParts, Tables};
 use std::alloc::{AllocError, Global};
 
 /// The parts of the table of an automaton that is packed so.
@@ -60,4 +61,16 @@ pub fn pack(alloc: Global, dfa: &Dfa, spec: &Spec) -> Result<Tables, OutOfMemory
     let table = table_parts(alloc, parts, spec, packed)?;
     let goes_on = Vec::from_slice(alloc, &parts.goes_on)?;
     Ok(Tables::new(table, goes_on))
+}
+
+/// The machine of a scan by an automaton that is one for the specification: its packed tables, with the rows that the
+/// automaton has. They are not laid out from the slots.
+pub fn pack_flat(alloc: Global, dfa: &Dfa, spec: &Spec) -> Result<Flat, OutOfMemory>
+    requires conditions { conditions_of dfa.now ≡ length (conditions_in (spec_of spec.now)) }
+    requires table { TableFor (machine_of dfa.now (spec_of spec.now)) (spec_of spec.now) }
+    ensures { IfOk result (λ f. table_machine (tables_of f) ≡ machine_of dfa.now (spec_of spec.now)) }
+{
+    let tables = pack(alloc, dfa, spec)?;
+    let rows = Vec::from_slice(alloc, &dfa.parts().next)?;
+    Ok(Flat::of_rows(alloc, tables, rows)?)
 }
