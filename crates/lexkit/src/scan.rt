@@ -91,7 +91,7 @@ pub fn scan_by<S: Source, K: Sink>(
         Ok(machine) => machine,
     };
     match run(alloc, &machine, source, sink, MAX_READS) {
-        Err(error) => Err(ScanError::Run(error)),
+        Err(fault) => Err(ScanError::Run(fault)),
         Ok(status) => Ok(status),
     }
 }
@@ -118,13 +118,13 @@ pub fn scan_made<S: Source, K: Sink>(
     ensures not_failed { IsErrOf result (ScanError.Run Failed) → ⊥ }
     ensures handed_on { HandedOn (K.flushed sink.new) result }
 {
-    let machine = match Flat::new(alloc, tables) {
+    let flat = match Flat::new(alloc, tables) {
         Err(_) => return Err(ScanError::Generate(GenError::OutOfMemory)),
-        Ok(machine) => machine,
+        Ok(flat) => flat,
     };
-    match run(alloc, &machine, source, sink, MAX_READS) {
-        Err(error) => Err(ScanError::Run(error)),
-        Ok(status) => Ok(status),
+    match run(alloc, &flat, source, sink, MAX_READS) {
+        Err(stop) => Err(ScanError::Run(stop)),
+        Ok(end) => Ok(end),
     }
 }
 

@@ -35,6 +35,12 @@ pub record IsMarked (old ks : List ℕ) (b n : ℕ) (new : List ℕ) : Type 0 wh
 abbrev pub AreAllBytes : List ℕ → Type 0
 AreAllBytes heads = length heads ≡ 256 → (k : ℕ) → k < 256 → slice_index heads k ≡ k
 
+-- the rows of so many states, and the byte that each class begins with
+pub record HasRows (next heads : List ℕ) (states : ℕ) : Type 0 where
+  pub rows : length next ≡ 256 * states
+  pub few : length heads ≤ 256
+  pub all : AreAllBytes heads
+
 -- the first i bytes have classes, numbered in order of their first byte
 pub record AreNumbered (leads class_of heads : List ℕ) (i : ℕ) : Type 0 where
   pub len : length class_of ≡ i

@@ -1,7 +1,7 @@
 //! The slots of the entries.
 ghost use Rattle.std.specs.Prelude.{◌≡◌, ◌≢◌, ℕ, ◌+◌, ◌*◌, ◌<◌, ◌≤◌, ◌^◌, length, slice_index, OnOk, IfOk};
 ghost use Rattle.lextab.specs.Columns.{IsBase, IsSize, AreSlots};
-ghost use Rattle.lextab.specs.Searching.{by_head, AreAllBytes, AreFilled};
+ghost use Rattle.lextab.specs.Searching.{by_head, HasRows, AreFilled};
 ghost use Rattle.lex_semantics.specs.Limits.{max_states};
 
 use crate::rows::{read_entries, read_row};
@@ -47,10 +47,8 @@ fn fill_all(
     check: &mut [u32],
     targets: &mut [u32],
 ) -> Result<(), AllocError>
-    requires rows { length next.now ≡ 256 * length bases.now }
+    requires laid { HasRows next.now heads.now (length bases.now) }
     requires states { length bases.now ≤ max_states }
-    requires few { length heads.now ≤ 256 }
-    requires all { AreAllBytes heads.now }
     requires defaults { length defaults.now ≡ length bases.now }
     requires placed { (s : ℕ) → s < length bases.now
         → IsBase (by_head next.now heads.now) (length heads.now) defaults.now bases.now s (slice_index bases.now s) }
@@ -93,10 +91,8 @@ pub(crate) fn slots_of(
     bases: &[u32],
 ) -> Result<Slots, AllocError>
     requires some { 0 < length bases.now }
-    requires rows { length next.now ≡ 256 * length bases.now }
+    requires laid { HasRows next.now heads.now (length bases.now) }
     requires states { length bases.now ≤ max_states }
-    requires few { length heads.now ≤ 256 }
-    requires all { AreAllBytes heads.now }
     requires defaults { length defaults.now ≡ length bases.now }
     requires placed { (s : ℕ) → s < length bases.now
         → IsBase (by_head next.now heads.now) (length heads.now) defaults.now bases.now s (slice_index bases.now s) }

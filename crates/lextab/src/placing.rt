@@ -2,7 +2,7 @@
 ghost use Rattle.std.specs.Prelude.{◌≡◌, ◌≢◌, true, ℕ, ◌+◌, ◌*◌, ◌<◌, ◌≤◌, ◌^◌};
 ghost use Rattle.std.specs.Prelude.{length, vec_len, slice_index, OnOk, IfOk};
 ghost use Rattle.lextab.specs.Columns.{IsBase, IsEntry};
-ghost use Rattle.lextab.specs.Searching.{slot_bit, AreAllBytes, Hits, IsFirstFit, IsMarked, IsEarlier, by_head};
+ghost use Rattle.lextab.specs.Searching.{slot_bit, HasRows, Hits, IsFirstFit, IsMarked, IsEarlier, by_head};
 ghost use Rattle.lex_semantics.specs.Limits.{max_states};
 
 use crate::rows::{read_entries, read_row};
@@ -22,10 +22,10 @@ fn place(
     requires from { (c : ℕ) → c < from → Hits words.old.items entries.now c }
     requires small { (j : ℕ) → j < length entries.now → slice_index entries.now j < 256 }
     ensures low { IfOk result (λ b. b ≤ 64 * vec_len words.old) }
-    ensures first { IfOk result (λ b. IsFirstFit words.old.items entries.now b) }
-    ensures marked { IfOk result (λ b. IsMarked words.old.items entries.now b (length entries.now) words.new.items) }
-    ensures least { OnOk result (vec_len words.old ≤ vec_len words.new) }
-    ensures most { OnOk result (vec_len words.new ≤ vec_len words.old + 5) }
+    ensures placed { IfOk result (λ b. IsFirstFit words.old.items entries.now b
+        × IsMarked words.old.items entries.now b (length entries.now) words.new.items) }
+    ensures room { OnOk result ((vec_len words.old ≤ vec_len words.new)
+        × (vec_len words.new ≤ vec_len words.old + 5)) }
 {
     if entries.is_empty() {
         return Ok(0);
@@ -101,10 +101,8 @@ pub(crate) fn bases_of(
     heads: &[u8],
     defaults: &[u32],
 ) -> Result<Vec<u32>, AllocError>
-    requires rows { length next.now ≡ 256 * states }
+    requires laid { HasRows next.now heads.now states }
     requires states { states ≤ max_states }
-    requires few { length heads.now ≤ 256 }
-    requires all { AreAllBytes heads.now }
     requires defaults { length defaults.now ≡ states }
     ensures len { IfOk result (λ v. length v.items ≡ states) }
     ensures small { IfOk result (λ v. (s : ℕ) → s < states → slice_index v.items s ≤ 320 * states) }

@@ -2,7 +2,7 @@
 ghost use Rattle.std.specs.Prelude.{◌≡◌, true, ℕ, ◌≢◌, ◌+◌, ◌*◌, ◌<◌, ◌≤◌, ◌^◌};
 ghost use Rattle.std.specs.Prelude.{◌⊎◌, length, slice_index, map, OnOk, IfOk};
 ghost use Rattle.lextab.specs.Columns.{often, IsDefault};
-ghost use Rattle.lextab.specs.Searching.{AreAllBytes, AreEntries, by_head};
+ghost use Rattle.lextab.specs.Searching.{AreAllBytes, AreEntries, HasRows, by_head};
 
 use std::alloc::{AllocError, Global};
 
@@ -145,10 +145,8 @@ pub(crate) fn defaults_of(
     heads: &[u8],
     counts: &mut [u32],
 ) -> Result<Vec<u32>, AllocError>
-    requires rows { length next.now ≡ 256 * states }
+    requires laid { HasRows next.now heads.now states }
     requires some { 0 < length heads.now }
-    requires few { length heads.now ≤ 256 }
-    requires all { AreAllBytes heads.now }
     requires below { (i : ℕ) → i < length next.now → slice_index next.now i < states }
     requires counts { length counts.old ≡ states }
     requires none { (t : ℕ) → slice_index counts.old t ≡ 0 }

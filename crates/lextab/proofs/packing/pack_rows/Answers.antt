@@ -1,16 +1,19 @@
-use Rattle.std.proofs.Common.{rules, length, sym, refl, subst, ◌∙◌}
-use Rattle.lextab.specs.Searching.{AreAllBytes}
+use Rattle.std.proofs.Common.{◌≡◌, rules, length, sym, refl, ap, subst, ◌∙◌, arith}
+use Rattle.lextab.specs.Searching.{HasRows}
 use Rattle.lextab.proofs.Whole.{bases_at, defaults_at, slots_at, size_at, whole}
 use Rattle.lextab.proofs.packing.pack_rows.Goals as goal
 
-pub defaults_of-requires-clause-all : goal.defaults_of-requires-clause-all
-defaults_of-requires-clause-all c = subst AreAllBytes (sym c.deref.ensures.value) c.in_ok-classes.ensures.all
+pub defaults_of-requires-clause-laid : goal.defaults_of-requires-clause-laid
+defaults_of-requires-clause-laid c = subst (λ hs. HasRows c.args.next.now hs c.args.states) (sym c.deref.ensures.value) (record { rows = c.requires.rows; few = c.in_ok-classes.ensures.few.1; all = c.in_ok-classes.ensures.all })
 
-pub bases_of-requires-clause-all : goal.bases_of-requires-clause-all
-bases_of-requires-clause-all c = subst AreAllBytes (sym c.deref-2.ensures.value) c.in_ok-classes.ensures.all
+pub bases_of-requires-clause-laid : goal.bases_of-requires-clause-laid
+bases_of-requires-clause-laid c = subst (λ hs. HasRows c.args.next.now hs c.args.states) (sym c.deref-2.ensures.value) (record { rows = c.requires.rows; few = c.in_ok-classes.ensures.few.1; all = c.in_ok-classes.ensures.all })
 
-pub slots_of-requires-clause-all : goal.slots_of-requires-clause-all
-slots_of-requires-clause-all c = subst AreAllBytes (sym c.deref-4.ensures.value) c.in_ok-classes.ensures.all
+pub slots_of-requires-clause-laid : goal.slots_of-requires-clause-laid
+slots_of-requires-clause-laid c =
+    let len : length c.deref-6.result.now ≡ c.args.states = ap length c.deref-6.ensures.value ∙ c.in_ok-bases.ensures.len in
+    subst (λ hs. HasRows c.args.next.now hs (length c.deref-6.result.now)) (sym c.deref-4.ensures.value)
+    (record { rows = omega (arith, c.requires.rows, len); few = c.in_ok-classes.ensures.few.1; all = c.in_ok-classes.ensures.all })
 
 pub slots_of-requires-clause-placed : goal.slots_of-requires-clause-placed
 slots_of-requires-clause-placed c = bases_at c.args.next.now c.deref-2.result.now c.deref-4.result.now c.deref-3.result.now c.deref-5.result.now

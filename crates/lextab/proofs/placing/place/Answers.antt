@@ -1,11 +1,11 @@
 use Rattle.std.proofs.Common.{rules, ◌≡◌, ℕ, ◌<◌, List, ◌-◌, ◌+◌, ◌/◌, ◌++◌, length, ap, subst, sym, ◌∙◌, take, drop, Vec, Global}
-use Rattle.lextab.specs.Searching.{Hits, IsMarked, slot_bit}
+use Rattle.lextab.specs.Searching.{Hits, IsFirstFit, IsMarked, slot_bit}
 use Rattle.lextab.proofs.Placements.{written_back, bit_resized, marked_from}
 use Rattle.lextab.proofs.placing.place.Goals.{then-len-need+in_ok-resize, else-len-need}
 use Rattle.lextab.proofs.placing.place.Goals as goal
 
-pub returns-clause-marked : goal.returns-clause-marked
-returns-clause-marked c =
+pub returns-clause-placed : goal.returns-clause-placed
+returns-clause-placed c =
     let items = λ (v : Vec ℕ Global). v.items in
     let old = c.args.words.now.items in
     let mid = c.if-len-need.words.items in
@@ -18,8 +18,11 @@ returns-clause-marked c =
     ] in
     let m : IsMarked mid c.args.entries.now c.first_fit-base.result (length c.args.entries.now) c.mark.new.words =
     subst (λ (l : List ℕ). IsMarked l c.args.entries.now c.first_fit-base.result (length c.args.entries.now) c.mark.new.words) c.deref_mut.ensures.value c.mark.ensures in
-    subst (λ (l : List ℕ). IsMarked old c.args.entries.now c.first_fit-base.result (length c.args.entries.now) l) (sym back)
-    (marked_from old mid c.mark.new.words c.args.entries.now c.first_fit-base.result (length c.args.entries.now) bits m)
+    (
+      subst (λ (l : List ℕ). IsFirstFit l c.args.entries.now c.first_fit-base.result) c.deref.ensures.value c.first_fit-base.ensures.first,
+      subst (λ (l : List ℕ). IsMarked old c.args.entries.now c.first_fit-base.result (length c.args.entries.now) l) (sym back)
+      (marked_from old mid c.mark.new.words c.args.entries.now c.first_fit-base.result (length c.args.entries.now) bits m),
+    )
 
 pub first_fit-base-requires-clause-from : goal.first_fit-base-requires-clause-from
 first_fit-base-requires-clause-from c = subst (λ (l : List ℕ). (i : ℕ) → i < c.args.from → Hits l c.args.entries.now i) (sym c.deref.ensures.value) c.requires.from
