@@ -34,8 +34,8 @@ module _ (M : Machine) (laws : MachineLaws M) (S : Spec) (sound : IsSound S) (ta
     scanned = λ x k. (same_after M laws S sound table x k.0 h.turns (record { written = out; place = h.place; ended = Some d }) _ at_end).0 (h.scanned x k);
   }
 
-  pub ran_into : (given out : List ℕ) (at_end : Bool) (max_reads : ℕ) (e : RunError) → RunStopped (rules_of_machine M) given out at_end max_reads e → RunStopped (rules_of S) given out at_end max_reads e
-  ran_into given out at_end max_reads e h = record {
+  pub ran_into : (given out : List ℕ) (at_end : Bool) (most : ℕ) (e : RunError) → RunStopped (rules_of_machine M) given out at_end most e → RunStopped (rules_of S) given out at_end most e
+  ran_into given out at_end most e h = record {
     turns = h.turns;
     had = h.had;
     got = h.got;
