@@ -6,6 +6,7 @@ pub mod CycleLaws
 pub mod DefinitionLaws
 pub mod EntryLaws
 pub mod FaultLaws
+pub mod FirstFaults
 pub mod FrontLaws
 pub mod GrammarLaws
 pub mod LengthLaws
