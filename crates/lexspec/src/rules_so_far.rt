@@ -5,7 +5,7 @@ ghost use Rattle.lex_semantics.specs.Reading.{begins};
 ghost use Rattle.lexspec_lines.specs.Lines.{newlines};
 ghost use Rattle.lexspec.specs.ItemRuns.{code_of_item};
 ghost use Rattle.lexspec.specs.ItemReads.{NoneLeft, NoRulesAfter};
-ghost use Rattle.lexspec.specs.Agreeing.{Agrees, GoesOn};
+ghost use Rattle.lexspec.specs.Agreeing.{GoesOn, Passes};
 ghost use Rattle.lexspec.specs.Keeping.{HasRoom, Keeps};
 ghost use Rattle.lexspec.specs.KeptNames.{AreKept};
 ghost use Rattle.lexspec.specs.SkipViews.{item_of, TakesItem};
@@ -195,9 +195,7 @@ impl RulesSoFar {
         requires no_end { begins (codes "%%") text.now ≡ false }
         requires line { line + 1 < 2 ^ 32 }
         requires room { length self.rules.items + length self.waiting.items ≤ max_rules }
-        ensures found { IfOk result (λ x. (start : ℕ) (whole : List ℕ)
-            → Agrees declarations.now start whole self line text.now
-            → Agrees declarations.now start whole x.0 (line + (newlines text.now - newlines x.1.now)) x.1.now) }
+        ensures found { IfOk result (λ x. Passes declarations.now line text.now x.1.now self x.0) }
         ensures keeps { IfOk result (λ x. Keeps declarations.now self → Keeps declarations.now x.0) }
         ensures known { OnOk result (AreKept declarations.now names.new) }
         ensures code { IfOk result (λ x. TakesItem line text.now x.1.now skipped.old skipped.new) }

@@ -11,11 +11,10 @@ use Rattle.lexspec.proofs.rules_so_far.RulesSoFar.with_item.Goals as goal
 use Rattle.lex_semantics.specs.Limits.{max_rules}
 
 pub returns-in-Err-clause-none : goal.returns-in-Err-clause-none
-returns-in-Err-clause-none c = plain_refused c.args.declarations.now c.args.self c.args.line c.args.text.now c.in-Err.kind c.requires.some c.requires.no_end c.in-Err.ensures.none
+returns-in-Err-clause-none c = plain_refused c.args.declarations.now c.args.self c.args.line c.args.text.now c.in-Err.kind c.in-Err.ensures.none
 
 pub returns-in-Some-clause-found : goal.returns-in-Some-clause-found
-returns-in-Some-clause-found c = λ start whole a.
-    plain_agrees c.args.declarations.now c.args.self start c.args.line whole c.args.text.now c.in-Some.skip c.in-Some.rest.now (rw c.in-Some.is at c.in-Ok.ensures.found) a
+returns-in-Some-clause-found c = plain_agrees c.args.declarations.now c.args.self c.args.line c.args.text.now c.in-Some.skip c.in-Some.rest.now (rw c.in-Some.is at c.in-Ok.ensures.found)
 
 pub returns-in-Some-clause-code : goal.returns-in-Some-clause-code
 returns-in-Some-clause-code c = record { item = item_of c.in-Some.skip; here = rw c.in-Some.is at c.in-Ok.ensures.found; code = c.in_ok-add_skip.ensures }
@@ -51,8 +50,7 @@ returns-then-len-ge-MAX_RULES-clause-none c =
     (search rules)
 
 pub returns-in-Ok-with_rule-clause-found : goal.returns-in-Ok-with_rule-clause-found
-returns-in-Ok-with_rule-clause-found c = λ start whole a.
-    c.in-Ok-with_rule.ensures.found start c.args.line whole c.args.text.now c.in-Ok-read_rule_text.found.rest.now c.in-Ok-read_rule_text.ensures.found a
+returns-in-Ok-with_rule-clause-found c = c.in-Ok-with_rule.ensures.found c.args.line c.args.text.now c.in-Ok-read_rule_text.found.rest.now c.in-Ok-read_rule_text.ensures.found
 
 has_place : (c : goal.In-Ok-with_rule) → begins_end c.args.text.now ≡ false → length c.args.self.rules.items + length c.args.self.waiting.items < max_rules
 has_place c = elim c.if-begins_end.branch [
