@@ -1,5 +1,5 @@
 -- The rules section, from its first line to its last.
-use Rattle.std.proofs.Common.{◌≡◌, ℕ, ◌+◌, ◌-◌, ◌<◌, ◌≤◌, ◌==◌, true, List, [], ◌∷◌, ◌++◌, map, length, take, inl, refl, sym, ap, subst, ◌∙◌, arith, length-append, inr, false}
+use Rattle.std.proofs.Common.{◌≡◌, ◌≢◌, ℕ, ◌+◌, ◌-◌, ◌<◌, ◌≤◌, ◌==◌, true, List, [], ◌∷◌, ◌++◌, map, length, take, inl, refl, sym, ap, subst, ◌∙◌, arith, length-append, inr, false}
 use Rattle.lex_semantics.specs.Reading.{begins}
 use Rattle.std.specs.Prelude.{codes, Result, Ok, Err, IfOk, IfErr}
 use Rattle.std.proofs.lemmas.List.{append-nil, length-map}
@@ -18,7 +18,7 @@ use Rattle.lexspec.specs.Agreeing.{Agrees, Passes}
 use Rattle.lexspec.specs.Files.{AreSingle}
 use Rattle.lexspec.specs.Keeping.{Keeps}
 use Rattle.lex_semantics.specs.Sound.{HaveSoundSides}
-use Rattle.lexspec.specs.SectionReads.{HasRules, NoSuchRules}
+use Rattle.lexspec.specs.SectionReads.{HasRules, NoSuchRules, IsRefused, line_of_last}
 use Rattle.lexspec_lines.specs.Outcome.{UnlessMemory}
 use Rattle.lexspec_lines.specs.declared.declarations.Declarations.{Declarations}
 use Rattle.lexre_bytes.specs.declared.refusals.SpecError.{SpecError}
@@ -30,6 +30,8 @@ use Rattle.lexspec_lines.proofs.OneSection.{no_true}
 use Rattle.lexspec.proofs.OneItems.{both_ways, no_item_at_end}
 use Rattle.lexspec.proofs.RulesLaws.{both_items}
 use Rattle.lexre_bytes.proofs.MemoryLaws.{unless_memory, always}
+use Rattle.lexspec.proofs.FaultLineLaws.{item_fault, end_fault, fault_line}
+use Rattle.lexre_bytes.specs.declared.refusals.SpecErrorKind.TheVariants.{DanglingBar}
 use Rattle.lexspec.proofs.RulesLaws.{agree_first}
 use Rattle.lexspec_lines.proofs.CodeLaws.{tells_more}
 use Rattle.lexspec.specs.SkipViews.{TakesItem}
@@ -106,25 +108,25 @@ module _ (d : Declarations) where
       from (rule asked (matching anchored head after) action) later (r, others, all, one, more) h = omega (arith, ap length all)
 
   -- what is not spelled from a place on is not spelled from the first line on
-  pub section_refused : (start n : ℕ) (whole t : List ℕ) (before : List (ℕ × Item)) (s : RulesSoFar) (e : SpecErrorKind) → ItemsUpTo start whole before n t → Agrees d before s → (EndsRules t → ⊥)
-      → UnlessMemory e (NoneLeft d s n t) → UnlessMemory e (NoSuchRules d start whole)
-  section_refused start n whole t before s e upto a goes h = unless_memory e (NoneLeft d s n t) (NoSuchRules d start whole) (λ none items R E here are few single.
+  section_refused : (start n : ℕ) (whole t : List ℕ) (before : List (ℕ × Item)) (s : RulesSoFar) → ItemsUpTo start whole before n t → Agrees d before s → (EndsRules t → ⊥)
+      → NoneLeft d s n t → NoSuchRules d start whole
+  section_refused start n whole t before s upto a goes none items R E here are few single =
       let (is, all, there) = split_items start whole before n t items upto here in
       let (T, F, p, q, left) = a.on is R E (left_of (before ++ is) R E (subst (λ z. RulesFrom (names_in d) d.options d.stack d.definitions z R E) all are)) in
       let count : length R ≡ length (map rule_of s.rules.items) + length T = ap length p ∙ length-append (map rule_of s.rules.items) T in
       let done : length (map rule_of s.rules.items) ≡ length s.rules.items = length-map s.rules.items rule_of in
       let room : length s.rules.items + length T ≤ max_rules = omega arith in
-      from none is there T F left room (subst (AreSingle (length d.conditions.items)) q single)) h
+      from is there T F left room (subst (AreSingle (length d.conditions.items)) q single)
     where
-      from : NoneLeft d s n t → (is : List (ℕ × Item)) → ItemsFrom n t is → (T : List S.Rule) (F : List EndRule) → Left (names_in d) d.options d.stack d.definitions is (map rule_of s.waiting.items) T F
+      from : (is : List (ℕ × Item)) → ItemsFrom n t is → (T : List S.Rule) (F : List EndRule) → Left (names_in d) d.options d.stack d.definitions is (map rule_of s.waiting.items) T F
           → length s.rules.items + length T ≤ max_rules → AreSingle (length d.conditions.items) (map end_rule_of s.ends.items ++ F) → ⊥
-      from none [] over T F left room single = goes over
-      from none (i ∷ is) (next, line, item, more) T F left room single =
+      from [] over T F left room single = goes over
+      from (i ∷ is) (next, line, item, more) T F left room single =
           let here = subst (λ z. Left (names_in d) d.options d.stack d.definitions ((z, i.1) ∷ is) (map rule_of s.waiting.items) T F) line left in
           none i.1 next is T F item here (room_for s n i.1 is T F here room, single)
 
   -- no rule waits at the end
-  pub end_waits : (start n : ℕ) (whole t : List ℕ) (before : List (ℕ × Item)) (s : RulesSoFar) → ItemsUpTo start whole before n t → Agrees d before s → EndsRules t → (length s.waiting.items ≡ 0 → ⊥)
+  end_waits : (start n : ℕ) (whole t : List ℕ) (before : List (ℕ × Item)) (s : RulesSoFar) → ItemsUpTo start whole before n t → Agrees d before s → EndsRules t → (length s.waiting.items ≡ 0 → ⊥)
       → NoSuchRules d start whole
   end_waits start n whole t before s upto a over some items R E here are few single =
       let (is, all, there) = split_items start whole before n t items upto here in
@@ -174,10 +176,24 @@ module _ (d : Declarations) where
   ended_found (Err e) start n whole t s a keeps over none rules ends rest = tt
   ended_found (Ok x) start n whole t s a keeps over none rules ends rest = all_read start n whole t a.before s x a.up_to a.agrees keeps over none rules ends rest
 
-  pub ended_none : (r : Result RulesSection SpecError) (start n : ℕ) (whole t : List ℕ) (s : RulesSoFar) → IsReadTo start whole s n t → EndsRules t → IfErr r (λ e. length s.waiting.items ≡ 0 → ⊥)
-      → IfErr r (λ e. UnlessMemory e.kind (NoSuchRules d start whole))
-  ended_none (Ok x) start n whole t s a over some = tt
-  ended_none (Err e) start n whole t s a over some = always e.kind (NoSuchRules d start whole) (end_waits start n whole t a.before s a.up_to a.agrees over some)
+  -- the fault of an item, and of the end
+  pub item_refused : (start n : ℕ) (whole t : List ℕ) (s : RulesSoFar) (e : SpecError) → IsReadTo start whole s n t → Keeps d s → (EndsRules t → ⊥) → UnlessMemory e.kind (NoneLeft d s n t)
+      → (e.kind ≢ DanglingBar → e.line ≡ n) → (e.kind ≡ DanglingBar → e.line ≡ line_of_last n s.waiting.items) → UnlessMemory e.kind (IsRefused d start whole e)
+  item_refused start n whole t s e a keeps goes none other bar =
+      unless_memory e.kind (NoneLeft d s n t) (IsRefused d start whole e) (λ h. record {
+        none = section_refused start n whole t a.before s a.up_to a.agrees goes h;
+        first = item_fault d a.before s a.agrees start n whole t e a.up_to keeps goes h other bar;
+        from_first = fault_line d a.before s a.agrees start n whole t e a.up_to other bar;
+      }) none
+
+  pub ended_refused : (r : Result RulesSection SpecError) (start n : ℕ) (whole t : List ℕ) (s : RulesSoFar) → IsReadTo start whole s n t → Keeps d s → EndsRules t → IfErr r (λ e. length s.waiting.items ≡ 0 → ⊥)
+      → IfErr r (λ e. e ≡ record { line = line_of_last n s.waiting.items; kind = DanglingBar }) → IfErr r (λ e. UnlessMemory e.kind (IsRefused d start whole e))
+  ended_refused (Ok x) start n whole t s a keeps over some is = tt
+  ended_refused (Err e) start n whole t s a keeps over some is = always e.kind (IsRefused d start whole e) (record {
+    none = end_waits start n whole t a.before s a.up_to a.agrees over some;
+    first = end_fault d a.before s a.agrees start n whole t e a.up_to keeps over some is;
+    from_first = fault_line d a.before s a.agrees start n whole t e a.up_to (λ other. absurd (other (ap (λ (x : SpecError). x.kind) is))) (λ same. ap (λ (x : SpecError). x.line) is);
+  })
 
 pub ended_line : (r : Result RulesSection SpecError) (line all : ℕ) (t : List ℕ) → IfOk r (λ x. x.line ≡ line) → IfOk r (λ x. x.rest.now ≡ t) → line + newlines t ≡ all
     → IfOk r (λ x. x.line + newlines x.rest.now ≡ all)

@@ -3,8 +3,8 @@ use Rattle.std.proofs.lemmas.Bool.{eqb-true}
 use Rattle.lexspec.proofs.KeepLaws.{keeps_first}
 use Rattle.lexspec.specs.ItemRuns.{EndsRules, IsLine, code_of_item}
 use Rattle.lexspec_lines.proofs.CodeLaws.{tells_none}
-use Rattle.lexspec.proofs.RestLaws.{over_empty, agrees_first, section_refused, goes_on, item_read, ended_found, ended_line, ended_none, item_told, ended_code, newlines_few}
-use Rattle.lexspec.proofs.rules_section.read_rules.Goals.{then-items-test+else-not-starts_with, else-items-test}
+use Rattle.lexspec.proofs.RestLaws.{over_empty, agrees_first, item_refused, goes_on, item_read, ended_found, ended_line, ended_refused, item_told, ended_code, newlines_few}
+use Rattle.lexspec.proofs.rules_section.read_rules.Goals.{then-items-test+else-not-starts_with, else-items-test, in-DanglingBar, in_default}
 use Rattle.lexspec.proofs.rules_section.read_rules.Goals as goal
 
 pub items-init : goal.items-init
@@ -23,10 +23,18 @@ with_item-requires-clause-line c = omega (arith, c.items.invariant.line, newline
 pub with_item-requires-clause-room : goal.with_item-requires-clause-room
 with_item-requires-clause-room c = c.items.invariant.keeps.few
 
-pub returns-in-Err-clause-none : goal.returns-in-Err-clause-none
-returns-in-Err-clause-none c =
-    section_refused c.args.declarations.now c.args.first c.items.line c.args.text.now c.items.rest.now c.items.invariant.read.before c.items.progress c.in-Err.kind c.items.invariant.read.up_to c.items.invariant.read.agrees
+pub returns-in-Err-clause-refused : goal.returns-in-Err-clause-refused
+returns-in-Err-clause-refused c =
+    item_refused c.args.declarations.now c.args.first c.items.line c.args.text.now c.items.rest.now c.items.progress _ c.items.invariant.read c.items.invariant.keeps
     (goes_on c.items.rest.now (search rules) (search rules)) c.in-Err.ensures.none
+    (elim c.match-kind.branch [
+      | in-DanglingBar w ↦ λ other. absurd (other w.in-DanglingBar.is)
+      | in_default w ↦ λ other. w.line-is
+    ])
+    (elim c.match-kind.branch [
+      | in-DanglingBar w ↦ λ same. w.line-is ∙ c.line_waiting-waiting.ensures
+      | in_default w ↦ λ same. absurd (w.in_default.not-DanglingBar same)
+    ])
 
 pub newlines_before-line-requires : goal.newlines_before-line-requires
 newlines_before-line-requires c = omega (arith, c.items.invariant.shorter, c.requires.short)
@@ -66,6 +74,6 @@ returns-clause-line c = ended_line c.finish.result c.items.line _ c.items.rest.n
 pub returns-clause-code : goal.returns-clause-code
 returns-clause-code c = ended_code c.finish.result _ c.args.text.now c.items.rest.now _ _ c.items.invariant.code c.finish.ensures.rest
 
-pub returns-clause-none : goal.returns-clause-none
-returns-clause-none c =
-    ended_none c.args.declarations.now c.finish.result c.args.first c.items.line c.args.text.now c.items.rest.now c.items.progress c.items.invariant.read (is_over c) c.finish.ensures.none
+pub returns-clause-refused : goal.returns-clause-refused
+returns-clause-refused c =
+    ended_refused c.args.declarations.now c.finish.result c.args.first c.items.line c.args.text.now c.items.rest.now c.items.progress c.items.invariant.read c.items.invariant.keeps (is_over c) c.finish.ensures.none c.finish.ensures.fault
