@@ -19,7 +19,12 @@ use Rattle.lexre_bytes.specs.declared.refusals.SpecErrorKind.TheVariants.{Dangli
 use Rattle.lexspec.proofs.OneItems.{no_item_at_end}
 use Rattle.lexspec.specs.Agreeing.{Agrees}
 use Rattle.lexspec.specs.EndRules.{end_rule_of}
-use Rattle.lexspec.specs.FaultLines.{rule_lines, last_of, MayBegin, IsFirstFault}
+use Rattle.lexspec.specs.FaultLines.{is_rule, last_of, MayBegin, IsFirstFault}
+use Rattle.lexspec.specs.FaultLines as P
+use Rattle.lexspec.specs.Items as F
+use Rattle.lexspec.specs.RuleItems.{AreRules}
+use Rattle.lexspec.proofs.ItemRunLaws.{trail_as, subject_as, kept_as, all_as, line_back, up_to_on, all_more}
+use Rattle.lexspec.proofs.RuleRunLaws.{rules_first, rules_off, as_passed, same_behind}
 use Rattle.lexspec.specs.Files.{AreSingle}
 use Rattle.lexspec.specs.ItemReads.{names_in, NoneLeft}
 use Rattle.lexspec.specs.ItemRuns.{Item, ItemsUpTo, EndsRules, skipped, skipped_line, skipped_block, rule, IsLine, no_trail, at_end, matching, brings_rule}
@@ -44,6 +49,29 @@ is_bar DanglingBar = inl refl
 is_bar k = inr (λ e. cc)
 
 -- Lines.
+
+-- the lines of the rules with patterns
+abbrev rule_lines : List (ℕ × Item) → List ℕ
+rule_lines items = map (λ i. i.0) (filter (λ i. brings_rule i.1) items)
+
+one_rule : (i : Item) → is_rule (kept_as i) ≡ brings_rule i
+one_rule skipped = refl
+one_rule skipped_line = refl
+one_rule skipped_block = refl
+one_rule (rule asked at_end action) = refl
+one_rule (rule asked (matching anchored head after) action) = refl
+
+same_lines : (is : List (ℕ × Item)) → P.rule_lines (all_as is) ≡ rule_lines is
+same_lines [] = refl
+same_lines (i ∷ is) = go (same_lines is) (is_rule (kept_as i.1)) (brings_rule i.1) (one_rule i.1)
+  where
+    go : P.rule_lines (all_as is) ≡ rule_lines is → (b c : Bool) → b ≡ c
+        → map (λ (j : ℕ × F.Item). j.0) (cond b ((i.0, kept_as i.1) ∷ filter (λ j. is_rule j.1) (all_as is)) (filter (λ j. is_rule j.1) (all_as is)))
+        ≡ map (λ (j : ℕ × Item). j.0) (cond c (i ∷ filter (λ j. brings_rule j.1) is) (filter (λ j. brings_rule j.1) is))
+    go e true true same = ap (λ z. i.0 ∷ z) e
+    go e false false same = e
+    go e true false same = cc
+    go e false true same = cc
 
 abbrev lines_of : List Rule → List ℕ
 lines_of rs = map (λ r. r.line) rs
@@ -147,7 +175,7 @@ module _ (d : Declarations) (before : List (ℕ × Item)) (s : RulesSoFar) (a : 
       subst (λ z. In (before ++ (0, closing) ∷ []) z (map end_rule_of s.ends.items ++ [])) (sym left.whole) left.are
 
   -- the lines of the rules that were read, and of those that wait, are those of the items
-  pub lines_read : rule_lines before ≡ lines_of done ++ lines_of waiting
+  lines_read : rule_lines before ≡ lines_of done ++ lines_of waiting
   lines_read =
       let all = rules_lines (names_in d) d.options d.stack d.definitions (before ++ (0, closing) ∷ []) (done ++ filled waiting last) (map end_rule_of s.ends.items ++ []) closed in
       let items : rule_lines (before ++ (0, closing) ∷ []) ≡ rule_lines before ++ 0 ∷ [] = more_lines before ((0, closing) ∷ []) in
@@ -156,7 +184,7 @@ module _ (d : Declarations) (before : List (ℕ × Item)) (s : RulesSoFar) (a : 
       map-append (λ (r : Rule). r.line) done (filled waiting last) ∙ ap (λ z. lines_of done ++ z) filled_lines ∙ sym (append_assoc (lines_of done) (lines_of waiting) (0 ∷ [])) in
       append_cancel_right (rule_lines before) (lines_of done ++ lines_of waiting) (0 ∷ []) (sym items ∙ sym all ∙ rules)
 
-  pub count_read : length (rule_lines before) ≡ length s.rules.items + length s.waiting.items
+  count_read : length (rule_lines before) ≡ length s.rules.items + length s.waiting.items
   count_read =
       let e = ap length lines_read ∙ length-append (lines_of done) (lines_of waiting) in
       let p : length (lines_of done) ≡ length s.rules.items = length-map done (λ (r : Rule). r.line) ∙ length-map s.rules.items rule_of in
@@ -166,14 +194,23 @@ module _ (d : Declarations) (before : List (ℕ × Item)) (s : RulesSoFar) (a : 
   named : length (names_in d) ≡ length d.conditions.items
   named = length-map d.conditions.items (λ c. c.name.items)
 
-  pub may_begin : Keeps d s → MayBegin (names_in d) d.options d.stack d.definitions before
+  abbrev Are : List (ℕ × F.Item) → List Rule → List EndRule → Type 0
+  Are items rules ends = AreRules (names_in d) d.options d.stack d.definitions items rules ends false
+
+  to_file : (is : List (ℕ × Item)) (R : List Rule) (E : List EndRule) → In is R E → Are (all_as is) R E
+  to_file is R E h = rules_first (names_in d) d.options d.stack d.definitions is R E h
+
+  of_file : (is : List (ℕ × Item)) (R : List Rule) (E : List EndRule) → Are (all_as is) R E → In is R E
+  of_file is R E h = (rules_off (names_in d) d.options d.stack d.definitions false is R E h).0
+
+  may_begin : Keeps d s → MayBegin (names_in d) d.options d.stack d.definitions (all_as before)
   may_begin keeps = record {
-    later = (0, closing) ∷ [];
+    later = all_as ((0, closing) ∷ []);
     rules = done ++ filled waiting last;
     ends = map end_rule_of s.ends.items ++ [];
-    are = closed;
+    are = subst (λ z. Are z (done ++ filled waiting last) (map end_rule_of s.ends.items ++ [])) (all_more before ((0, closing) ∷ [])) (to_file (before ++ (0, closing) ∷ []) (done ++ filled waiting last) (map end_rule_of s.ends.items ++ []) closed);
     single = subst (λ z. AreSingle z (map end_rule_of s.ends.items ++ [])) (sym named) (subst (AreSingle (length d.conditions.items)) (sym (append-nil (map end_rule_of s.ends.items))) keeps.single);
-    few = omega (arith, keeps.few, count_read);
+    few = omega (arith, keeps.few, count_read, ap length (same_lines before));
   }
 
   left_of : (items : List (ℕ × Item)) (R : List Rule) (E : List EndRule) → In items R E → Left (names_in d) d.options d.stack d.definitions items [] R E
@@ -183,14 +220,21 @@ module _ (d : Declarations) (before : List (ℕ × Item)) (s : RulesSoFar) (a : 
   one_more n i h = ap length (more_lines before ((n, i) ∷ [])) ∙ length-append (rule_lines before) (rule_lines ((n, i) ∷ [])) ∙ ap (λ b. length (rule_lines before) + length (map (λ (i : ℕ × Item). i.0) (cond b ((n, i) ∷ []) []))) h
 
   -- an item that may not follow these rules may not stand behind the items
-  pub not_behind : (n : ℕ) (t : List ℕ) → NoneLeft d s n t → (i : Item) (next : List ℕ) → IsLine t i next → MayBegin (names_in d) d.options d.stack d.definitions (before ++ (n, i) ∷ []) → ⊥
-  not_behind n t none i next item m =
-      let (S, F, p, q, left) = a.on ((n, i) ∷ m.later) m.rules m.ends (left_of (before ++ (n, i) ∷ m.later) m.rules m.ends (subst (λ z. In z m.rules m.ends) (append_assoc before ((n, i) ∷ []) m.later) m.are)) in
+  not_behind : (n : ℕ) (t : List ℕ) → NoneLeft d s n t → (j : F.Item) (next : List ℕ) → F.IsLine t j next → MayBegin (names_in d) d.options d.stack d.definitions (all_as before ++ (n, j) ∷ []) → ⊥
+  not_behind n t none j next line m =
+      let (i, same, item) = line_back t j next line in
+      let one : all_as (before ++ (n, i) ∷ []) ≡ all_as before ++ (n, j) ∷ [] = all_more before ((n, i) ∷ []) ∙ ap (λ z. all_as before ++ (n, z) ∷ []) same in
+      let passed = same_behind (names_in d) d.options d.stack d.definitions false (all_as before ++ (n, j) ∷ []) m.later m.rules m.ends m.are in
+      let items : (all_as before ++ (n, j) ∷ []) ++ all_as (as_passed m.later) ≡ all_as (before ++ (n, i) ∷ as_passed m.later) =
+      ap (λ z. z ++ all_as (as_passed m.later)) (sym one) ∙ sym (all_more (before ++ (n, i) ∷ []) (as_passed m.later)) ∙ ap all_as (append_assoc before ((n, i) ∷ []) (as_passed m.later)) in
+      let are : In (before ++ (n, i) ∷ as_passed m.later) m.rules m.ends = of_file (before ++ (n, i) ∷ as_passed m.later) m.rules m.ends (subst (λ z. Are z m.rules m.ends) items passed) in
+      let (S, F, p, q, left) = a.on ((n, i) ∷ as_passed m.later) m.rules m.ends (left_of (before ++ (n, i) ∷ as_passed m.later) m.rules m.ends are) in
       let single = subst (AreSingle (length d.conditions.items)) q (subst (λ z. AreSingle z m.ends) named m.single) in
-      none i next m.later S F item left (λ h. omega (arith, m.few, one_more n i h, count_read), single)
+      let lines : P.rule_lines (all_as before ++ (n, j) ∷ []) ≡ rule_lines (before ++ (n, i) ∷ []) = ap P.rule_lines (sym one) ∙ same_lines (before ++ (n, i) ∷ []) in
+      none i next (as_passed m.later) S F item left (λ h. omega (arith, m.few, ap length lines, one_more n i h, count_read), single)
 
   -- at the end rules that wait are none
-  pub no_rules_alone : (length s.waiting.items ≡ 0 → ⊥) → (R : List Rule) (E : List EndRule) → In before R E → ⊥
+  no_rules_alone : (length s.waiting.items ≡ 0 → ⊥) → (R : List Rule) (E : List EndRule) → In before R E → ⊥
   no_rules_alone some R E are =
       let (S, F, p, q, left) = a.on [] R E (left_of (before ++ []) R E (subst (λ z. In z R E) (sym (append-nil before)) are)) in from s.waiting.items some left.next
     where
@@ -212,7 +256,7 @@ module _ (d : Declarations) (before : List (ℕ × Item)) (s : RulesSoFar) (a : 
       from (w ∷ ws) e h = absurd (omega arith)
 
   -- the line of the last rule that waits
-  pub waits_at : (n : ℕ) → (length s.waiting.items ≡ 0 → ⊥) → line_of_last n s.waiting.items ≡ last_of n (rule_lines before)
+  waits_at : (n : ℕ) → (length s.waiting.items ≡ 0 → ⊥) → line_of_last n s.waiting.items ≡ last_of n (rule_lines before)
   waits_at n some = from s.waiting.items refl some
     where
       from : (ws : List RuleKept) → s.waiting.items ≡ ws → (length ws ≡ 0 → ⊥) → line_of_last n s.waiting.items ≡ last_of n (rule_lines before)
@@ -225,30 +269,30 @@ module _ (d : Declarations) (before : List (ℕ × Item)) (s : RulesSoFar) (a : 
   pub item_fault : (start n : ℕ) (whole_text t : List ℕ) (e : SpecError) → ItemsUpTo start whole_text before n t → Keeps d s → (EndsRules t → ⊥) → NoneLeft d s n t
       → (e.kind ≢ DanglingBar → e.line ≡ n) → (e.kind ≡ DanglingBar → e.line ≡ line_of_last n s.waiting.items) → IsFirstFault (names_in d) d.options d.stack d.definitions start whole_text e
   item_fault start n whole_text t e upto keeps goes none other bar = record {
-    items = before;
+    items = all_as before;
     place = n;
     rest = t;
-    read = upto;
+    read = up_to_on start whole_text before n t upto;
     begun = may_begin keeps;
     stuck = not_behind n t none;
     ended = (λ R E over are. goes over);
     told = other;
-    bar = (λ is alone. bar is ∙ waits_at n (λ empty. alone (done ++ []) (map end_rule_of s.ends.items ++ []) (rules_alone empty)));
+    bar = (λ is alone. bar is ∙ waits_at n (λ empty. alone (done ++ []) (map end_rule_of s.ends.items ++ []) (to_file before (done ++ []) (map end_rule_of s.ends.items ++ []) (rules_alone empty))) ∙ ap (last_of n) (sym (same_lines before)));
   }
 
   -- The fault of the end.
   pub end_fault : (start n : ℕ) (whole_text t : List ℕ) (e : SpecError) → ItemsUpTo start whole_text before n t → Keeps d s → EndsRules t → (length s.waiting.items ≡ 0 → ⊥)
       → e ≡ record { line = line_of_last n s.waiting.items; kind = DanglingBar } → IsFirstFault (names_in d) d.options d.stack d.definitions start whole_text e
   end_fault start n whole_text t e upto keeps over some is = record {
-    items = before;
+    items = all_as before;
     place = n;
     rest = t;
-    read = upto;
+    read = up_to_on start whole_text before n t upto;
     begun = may_begin keeps;
-    stuck = (λ i next item m. no_item_at_end t i next over item);
-    ended = (λ R E over are. no_rules_alone some R E are);
+    stuck = (λ j next line m. let (i, same, item) = line_back t j next line in no_item_at_end t i next over item);
+    ended = (λ R E over are. no_rules_alone some R E (of_file before R E are));
     told = (λ other. absurd (other (ap (λ (x : SpecError). x.kind) is)));
-    bar = (λ same alone. ap (λ (x : SpecError). x.line) is ∙ waits_at n some);
+    bar = (λ same alone. ap (λ (x : SpecError). x.line) is ∙ waits_at n some ∙ ap (last_of n) (sym (same_lines before)));
   }
 
   -- No fault is told before the first line.

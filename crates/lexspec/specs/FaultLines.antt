@@ -1,24 +1,39 @@
 -- The first faulty line of a rules section: that of the first item that may not stand behind those before it.
 -- (Which of several faults is told is this project's.)
-use Rattle.std.specs.Prelude.{◌≡◌, ◌≢◌, ◌↔◌, ℕ, ◌<◌, ◌≤◌, Bool, List, [], ◌∷◌, ◌++◌, map, filter, length}
-use Rattle.lex_semantics.specs.Limits.{max_file_bytes, max_rules}
+use Rattle.std.specs.Prelude.{◌≡◌, ◌≢◌, ◌↔◌, ℕ, ◌+◌, ◌-◌, ◌<◌, ◌≤◌, Bool, true, false, ◌||◌, List, [], ◌∷◌, ◌++◌, ◌⊎◌, map, filter, length, Option, codes}
+use Rattle.std.specs.FinMap.{from_entries}
+use Rattle.std.specs.List.{list_all}
+use Rattle.lex_semantics.specs.Limits.{max_conditions, max_file_bytes, max_rules}
+use Rattle.lex_semantics.specs.Reading.{IsCut, begins}
 use Rattle.lex_semantics.specs.Spec.{Rule}
+use Rattle.lex_semantics.specs.Text.{Pairwise}
 use Rattle.lexre.specs.Definitions.{Definitions}
 use Rattle.lexre.specs.declared.options.ReadOptions.{ReadOptions}
 use Rattle.lexre_bytes.specs.declared.refusals.SpecError.{SpecError}
 use Rattle.lexre_bytes.specs.declared.refusals.SpecErrorKind.TheVariants.{DanglingBar, TooLong}
 use Rattle.lexspec.specs.Files.{AreSingle}
-use Rattle.lexspec.specs.ItemRuns.{Item, ItemsUpTo, EndsRules, IsLine, brings_rule}
-use Rattle.lexspec.specs.RuleItems.{EndRule}
-use Rattle.lexspec.specs.WaitingRules.{RulesFrom}
+use Rattle.lexspec.specs.Items.{Item, IsLine, rule, matching}
+use Rattle.lexspec.specs.RuleItems.{EndRule, AreRules}
+use Rattle.lexspec_lines.specs.DefinitionLines.{Definition, definition_at, all_conditions, has_name, substitutes_of, all_options, known_options}
+use Rattle.lexspec_lines.specs.Lines.{without_returns, line_in, newlines}
 
 -- a file of too many bytes is told as too long at line 0, and nothing else at that line
 abbrev pub TellsLength : List ℕ → SpecError → Type 0
 TellsLength file e = ((e.line ≡ 0) ↔ (max_file_bytes < length file)) × (e.line ≡ 0 → e.kind ≡ TooLong)
 
+-- these items begin the text, whose first line is n, and this is left at the line m
+abbrev pub AreUpTo : ℕ → List ℕ → List (ℕ × Item) → ℕ → List ℕ → Type 0
+AreUpTo n t [] m rest = (n ≡ m) × (t ≡ rest)
+AreUpTo n t (i ∷ is) m rest = (next : List ℕ) × (i.0 ≡ n) × IsLine t i.1 next × AreUpTo (n + (newlines t - newlines next)) next is m rest
+
+-- the item is a rule with a pattern
+abbrev pub is_rule : Item → Bool
+is_rule (rule asked (matching anchored head trail) action) = true
+is_rule _ = false
+
 -- the lines of the rules with patterns
 abbrev pub rule_lines : List (ℕ × Item) → List ℕ
-rule_lines items = map (λ i. i.0) (filter (λ i. brings_rule i.1) items)
+rule_lines items = map (λ i. i.0) (filter (λ i. is_rule i.1) items)
 
 -- the last of these lines, or else n
 abbrev pub last_of : ℕ → List ℕ → ℕ
@@ -32,7 +47,7 @@ module _ (names : List (List ℕ)) (how : ReadOptions) (stack : Bool) (defined :
     pub later : List (ℕ × Item)
     pub rules : List Rule
     pub ends : List EndRule
-    pub are : RulesFrom names how stack defined (items ++ later) rules ends
+    pub are : AreRules names how stack defined (items ++ later) rules ends false
     pub single : AreSingle (length names) ends
     pub few : length (rule_lines items) ≤ max_rules
 
@@ -43,9 +58,9 @@ module _ (names : List (List ℕ)) (how : ReadOptions) (stack : Bool) (defined :
     pub items : List (ℕ × Item)
     pub place : ℕ
     pub rest : List ℕ
-    pub read : ItemsUpTo n text items place rest
+    pub read : AreUpTo n text items place rest
     pub begun : MayBegin items
     pub stuck : (i : Item) (next : List ℕ) → IsLine rest i next → MayBegin (items ++ (place, i) ∷ []) → ⊥
-    pub ended : (rules : List Rule) (ends : List EndRule) → EndsRules rest → RulesFrom names how stack defined items rules ends → ⊥
+    pub ended : (rules : List Rule) (ends : List EndRule) → (rest ≡ []) ⊎ (begins (codes "%%") rest ≡ true) → AreRules names how stack defined items rules ends false → ⊥
     pub told : e.kind ≢ DanglingBar → e.line ≡ place
-    pub bar : e.kind ≡ DanglingBar → ((rules : List Rule) (ends : List EndRule) → RulesFrom names how stack defined items rules ends → ⊥) → e.line ≡ last_of place (rule_lines items)
+    pub bar : e.kind ≡ DanglingBar → ((rules : List Rule) (ends : List EndRule) → AreRules names how stack defined items rules ends false → ⊥) → e.line ≡ last_of place (rule_lines items)
