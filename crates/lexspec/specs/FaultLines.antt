@@ -64,3 +64,15 @@ module _ (names : List (List ℕ)) (how : ReadOptions) (stack : Bool) (defined :
     pub ended : (rules : List Rule) (ends : List EndRule) → (rest ≡ []) ⊎ (begins (codes "%%") rest ≡ true) → AreRules names how stack defined items rules ends false → ⊥
     pub told : e.kind ≢ DanglingBar → e.line ≡ place
     pub bar : e.kind ≡ DanglingBar → ((rules : List Rule) (ends : List EndRule) → AreRules names how stack defined items rules ends false → ⊥) → e.line ≡ last_of place (rule_lines items)
+
+-- In a file that is not too long, whose definitions section stands before a line that begins with `%%`, the first faulty line behind
+-- that is told.
+abbrev pub TellsRules : ReadOptions → List ℕ → SpecError → Type 0
+TellsRules how file e = (definitions : List Definition) (rest : List ℕ) → length file ≤ max_file_bytes
+    → IsCut definition_at (λ t. t ≡ rest) (without_returns file) definitions → begins (codes "%%") rest ≡ true
+    → Pairwise ◌≢◌ (map (λ c. c.1) (all_conditions definitions)) → Pairwise ◌≢◌ (map (λ d. d.0) (substitutes_of definitions))
+    → list_all (has_name known_options) (all_options definitions) ≡ true → length (all_conditions definitions) ≤ max_conditions
+    → IsFirstFault (map (λ c. c.1) (all_conditions definitions))
+    (record { fold = how.fold || has_name (all_options definitions) (codes "case-insensitive"); posix = how.posix })
+    (has_name (all_options definitions) (codes "stack")) (from_entries (substitutes_of definitions))
+    (2 + newlines file - newlines rest) (line_in rest).1 e
