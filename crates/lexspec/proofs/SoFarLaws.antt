@@ -60,9 +60,9 @@ module _ (d : Declarations) where
     rule h.asked (matching h.anchored h.head h.after) None,
     subst (λ z. IsLine t (rule h.asked (matching h.anchored h.head h.after) z) rest) is h.item,
     from (before ++ (n, rule h.asked (matching h.anchored h.head h.after) None) ∷ []) s' (map rule_of s.rules.items) (map end_rule_of s.ends.items) (map rule_of s.waiting.items ++ rule_of r ∷ [])
-    (ap (map rule_of) rules) (ap (map end_rule_of) ends) (ap (map rule_of) waiting ∙ map-append rule_of s.waiting.items (r ∷ []))
-    (agree_bar (names_in d) d.options d.stack d.definitions before (map rule_of s.rules.items) (map end_rule_of s.ends.items) (map rule_of s.waiting.items) n h.asked h.anchored h.head h.after (rule_of r)
-    h.has_head (to before s a)),
+        (ap (map rule_of) rules) (ap (map end_rule_of) ends) (ap (map rule_of) waiting ∙ map-append rule_of s.waiting.items (r ∷ []))
+        (agree_bar (names_in d) d.options d.stack d.definitions before (map rule_of s.rules.items) (map end_rule_of s.ends.items) (map rule_of s.waiting.items) n h.asked h.anchored h.head h.after (rule_of r)
+        h.has_head (to before s a)),
   )
 
   pub rule_taken : (r : Rule) (action : List ℕ) (ss : List S.Statement) (cs : List Condition) (s s' : RulesSoFar) → action_of action ≡ Some action
@@ -73,10 +73,10 @@ module _ (d : Declarations) where
     rule h.asked (matching h.anchored h.head h.after) (Some action),
     subst (λ z. IsLine t (rule h.asked (matching h.anchored h.head h.after) z) rest) is h.item,
     from (before ++ (n, rule h.asked (matching h.anchored h.head h.after) (Some action)) ∷ []) s' (map rule_of s.rules.items ++ (map (acting ss) (map rule_of s.waiting.items) ++ acting ss (rule_of r) ∷ []))
-    (map end_rule_of s.ends.items) [] rules (ap (map end_rule_of) ends) (ap (map rule_of) waiting)
-    (agree_rule (names_in d) d.options d.stack d.definitions before (map rule_of s.rules.items) (map end_rule_of s.ends.items) (map rule_of s.waiting.items) n h.asked h.anchored h.head h.after action
-    (rule_of r) ss h.has_head
-    (subst (λ z. SpellsAction (known_in (names_of z) d.stack) action ss) same acts) (to before s a)),
+        (map end_rule_of s.ends.items) [] rules (ap (map end_rule_of) ends) (ap (map rule_of) waiting)
+        (agree_rule (names_in d) d.options d.stack d.definitions before (map rule_of s.rules.items) (map end_rule_of s.ends.items) (map rule_of s.waiting.items) n h.asked h.anchored h.head h.after action
+        (rule_of r) ss h.has_head
+        (subst (λ z. SpellsAction (known_in (names_of z) d.stack) action ss) same acts) (to before s a)),
   )
 
   pub rule_refused : (r : Rule) (action : List ℕ) (kind : SpecErrorKind) (cs : List Condition) (s : RulesSoFar) → action_of action ≡ Some action
@@ -113,11 +113,11 @@ module _ (d : Declarations) where
         rule h.asked at_end (Some action),
         subst (λ z. IsLine t (rule h.asked at_end z) rest) is h.item,
         from (before ++ (n, rule h.asked at_end (Some action)) ∷ []) s' (map rule_of s.rules.items) (map end_rule_of s.ends.items ++ end_rule_of e ∷ []) []
-        (ap (map rule_of) rules) (ap (map end_rule_of) ends ∙ map-append end_rule_of s.ends.items (e ∷ [])) (ap (map rule_of) waiting ∙ none)
-        (agree_end (names_in d) d.options d.stack d.definitions before (map rule_of s.rules.items) (map end_rule_of s.ends.items) n h.asked action (option_map (λ v. v.items) e.conditions) (end_action_of e.action)
-        (subst (λ z. numbers_of (number_from 0 (names_in d)) (length (names_in d)) h.asked ≡ Some (option_map (λ (v : Vec ℕ Global). v.items) z)) (sym listed) h.numbered)
-        (subst (λ z. SpellsEndAction (known_in (names_of z) d.stack) action (end_action_of e.action)) same acts)
-        (subst (λ z. Now before (map rule_of s.rules.items) (map end_rule_of s.ends.items) z) none (to before s a))),
+            (ap (map rule_of) rules) (ap (map end_rule_of) ends ∙ map-append end_rule_of s.ends.items (e ∷ [])) (ap (map rule_of) waiting ∙ none)
+            (agree_end (names_in d) d.options d.stack d.definitions before (map rule_of s.rules.items) (map end_rule_of s.ends.items) n h.asked action (option_map (λ v. v.items) e.conditions) (end_action_of e.action)
+            (subst (λ z. numbers_of (number_from 0 (names_in d)) (length (names_in d)) h.asked ≡ Some (option_map (λ (v : Vec ℕ Global). v.items) z)) (sym listed) h.numbered)
+            (subst (λ z. SpellsEndAction (known_in (names_of z) d.stack) action (end_action_of e.action)) same acts)
+            (subst (λ z. Now before (map rule_of s.rules.items) (map end_rule_of s.ends.items) z) none (to before s a))),
       )
 
   pub end_refused : (numbers : Option (Vec ℕ Global)) (action : List ℕ) (kind : SpecErrorKind) (cs : List Condition) (s : RulesSoFar) → action_of action ≡ Some action

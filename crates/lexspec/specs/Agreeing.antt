@@ -1,5 +1,5 @@
 -- What is read so far, and what is left.
-use Rattle.std.specs.Prelude.{◌≡◌, ℕ, List, [], ◌∷◌, ◌++◌, map}
+use Rattle.std.specs.Prelude.{◌≡◌, ℕ, ◌+◌, ◌-◌, ◌<◌, List, [], ◌∷◌, ◌++◌, map, length, take}
 use Rattle.lex_semantics.specs.Spec.{Rule}
 use Rattle.lexspec.specs.RuleItems.{EndRule}
 use Rattle.lexspec.specs.WaitingRules.{Left}
@@ -7,6 +7,10 @@ use Rattle.lexspec.specs.RuleViews.{rule_of}
 use Rattle.lexspec.specs.EndRules.{end_rule_of}
 use Rattle.lexspec.specs.ItemReads.{names_in, ReadsFront}
 use Rattle.lexspec.specs.ItemRuns.{Item, IsLine}
+use Rattle.lexspec.specs.Keeping.{Keeps}
+use Rattle.lexspec.specs.SkipViews.{TakesItem}
+use Rattle.lexspec_lines.specs.Lines.{newlines}
+use Rattle.lexspec_lines.specs.declared.skipped.Skipped.{Skipped}
 use Rattle.lexspec.specs.declared.rule_text.Front.{Front}
 use Rattle.lexspec_lines.specs.declared.declarations.Declarations.{Declarations}
 use Rattle.lexspec.specs.declared.rules_so_far.RulesSoFar.{RulesSoFar}
@@ -26,3 +30,11 @@ Passes d n t rest s later = (before : List (ℕ × Item)) → Agrees d before s 
 -- so for a rule with this front and this action
 abbrev pub GoesOn : Declarations → Front → List ℕ → RulesSoFar → RulesSoFar → Type 0
 GoesOn d front action s later = (n : ℕ) (t rest : List ℕ) → ReadsFront d n t action rest front → Passes d n t rest s later
+
+-- An item that begins a text at the line n is taken: it is read, what is kept to is kept, its code is told, and it has a byte at least.
+pub record IsTaken (d : Declarations) (n : ℕ) (t rest : List ℕ) (s later : RulesSoFar) (old new : Skipped) : Type 0 where
+  pub found : Passes d n t rest s later
+  pub keeps : Keeps d s → Keeps d later
+  pub code : TakesItem n t rest old new
+  pub counts : newlines (take (length t - length rest) t) + newlines rest ≡ newlines t
+  pub shorter : length rest < length t

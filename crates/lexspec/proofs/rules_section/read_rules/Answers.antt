@@ -20,6 +20,9 @@ items-init c = record {
 pub with_item-requires-clause-line : goal.with_item-requires-clause-line
 with_item-requires-clause-line c = omega (arith, c.items.invariant.line, newlines_few c.args.text.now, c.requires.short, c.requires.first)
 
+pub with_item-requires-clause-starts : goal.with_item-requires-clause-starts
+with_item-requires-clause-starts c = (search rules, search rules)
+
 pub with_item-requires-clause-room : goal.with_item-requires-clause-room
 with_item-requires-clause-room c = c.items.invariant.keeps.few
 
@@ -41,20 +44,20 @@ newlines_before-line-requires c = omega (arith, c.items.invariant.shorter, c.req
 
 pub overflow_add-line : goal.overflow_add-line
 overflow_add-line c =
-    omega (arith, c.items.invariant.line, newlines_few c.args.text.now, c.requires.short, c.requires.first, c.in-Ok.ensures.counts, c.newlines_before-line.ensures)
+    omega (arith, c.items.invariant.line, newlines_few c.args.text.now, c.requires.short, c.requires.first, c.in-Ok.ensures.taken.counts, c.newlines_before-line.ensures)
 
 pub items-smaller : goal.items-smaller
-items-smaller c = c.in-Ok.ensures.shorter
+items-smaller c = c.in-Ok.ensures.taken.shorter
 
 pub items-preserved : goal.items-preserved
 items-preserved c = record {
   read = item_read c.args.declarations.now c.items.progress c.in-Ok.found.0 c.args.first c.items.line c.newlines_before-line.result c.args.text.now c.items.rest.now c.in-Ok.found.1.now
-      c.in-Ok.ensures.found c.in-Ok.ensures.counts c.newlines_before-line.ensures c.items.invariant.read;
-  keeps = c.in-Ok.ensures.keeps c.items.invariant.keeps;
+      c.in-Ok.ensures.taken.found c.in-Ok.ensures.taken.counts c.newlines_before-line.ensures c.items.invariant.read;
+  keeps = c.in-Ok.ensures.taken.keeps c.items.invariant.keeps;
   known = c.in-Ok.ensures.known;
-  code = (λ before told. item_told before _ c.items.line c.args.text.now c.items.rest.now _ _ _ (c.items.invariant.code before told) c.items.invariant.line c.in-Ok.ensures.code);
-  line = omega (arith, c.items.invariant.line, c.in-Ok.ensures.counts, c.newlines_before-line.ensures);
-  shorter = omega (arith, c.items.invariant.shorter, c.in-Ok.ensures.shorter);
+  code = (λ before told. item_told before _ c.items.line c.args.text.now c.items.rest.now _ _ _ (c.items.invariant.code before told) c.items.invariant.line c.in-Ok.ensures.taken.code);
+  line = omega (arith, c.items.invariant.line, c.in-Ok.ensures.taken.counts, c.newlines_before-line.ensures);
+  shorter = omega (arith, c.items.invariant.shorter, c.in-Ok.ensures.taken.shorter);
 }
 
 is_over : (c : goal.After-finish) → EndsRules c.items.rest.now
