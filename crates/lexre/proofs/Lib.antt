@@ -2,10 +2,12 @@ pub mod BareLaws
 pub mod BraceLaws
 pub mod CountLaws
 pub mod CuttingLaws
+pub mod CuttingsComputed
 pub mod CycleLaws
 pub mod DefinitionLaws
 pub mod EntryLaws
 pub mod FaultLaws
+pub mod FirstFaults
 pub mod FrontLaws
 pub mod GrammarLaws
 pub mod LengthLaws

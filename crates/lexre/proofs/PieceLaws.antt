@@ -10,7 +10,7 @@ use Rattle.lexre_bytes.specs.Quotes.{after_quotes}
 use Rattle.lexre_bytes.specs.Passing.{rest_of_class}
 use Rattle.lexre_bytes.proofs.PassingLaws.{quotes_shorter, rest_of}
 use Rattle.lexre_bytes.proofs.QuoteLaws.{escape_shorter}
-use Rattle.lexre.specs.Cutting.{ends_pattern, piece_at, IsCutting}
+use Rattle.lexre.specs.Cutting.{deeper, ends_pattern, piece_at, IsCutting}
 use Rattle.lexre.specs.Pieces.{Piece, opens, closes, slash, dollar, other, kind_of, kind_at, IsEnd, IsPieces, slashes, is_dollar, ends_with_dollar, first_of, has_two, IsCutSo}
 use Rattle.lexre.proofs.FrontLaws.{IsUpTo, elements_within}
 
@@ -75,7 +75,7 @@ front (c ∷ t) = go (ends_pattern (c ∷ t)) (begins (codes "\"") (c ∷ t)) (b
     go false false false true = from (rest_of (escape_at t)) (escape_below t)
     go false false false false = (refl, omega arith)
 
-front_of : (t u rest : List ℕ) → ◌≡◌ {A = Option (List ℕ × List ℕ)} (piece_at t) (Some (u, rest)) → (u ≡ t) × (length rest < length t)
+pub front_of : (t u rest : List ℕ) → ◌≡◌ {A = Option (List ℕ × List ℕ)} (piece_at t) (Some (u, rest)) → (u ≡ t) × (length rest < length t)
 front_of t u rest e = subst (IsFront t) e (front t)
 
 -- The end.
@@ -84,7 +84,7 @@ pub end_of : (t : List ℕ) → IsEnd t → ends_pattern t ≡ true
 end_of [] h = refl
 end_of (c ∷ t) h = rw h refl
 
-ends_of : (t : List ℕ) → ends_pattern t ≡ true → IsEnd t
+pub ends_of : (t : List ℕ) → ends_pattern t ≡ true → IsEnd t
 ends_of [] h = tt
 ends_of (c ∷ t) h = (and_parts (is_white c) true h).0
 
@@ -99,7 +99,7 @@ marked n u = (kind_of u, place n u)
 abbrev Tails : ℕ → ℕ → List ℕ → List (List ℕ) → Type 0
 Tails n end t us = IsCut piece_at (λ rest. (ends_pattern rest ≡ true) × (end + length rest ≡ n)) t us
 
-kind_is : (t rest : List ℕ) (p : Piece) → ◌≡◌ {A = Option (Piece × List ℕ)} (kind_at t) (Some (p, rest))
+pub kind_is : (t rest : List ℕ) (p : Piece) → ◌≡◌ {A = Option (Piece × List ℕ)} (kind_at t) (Some (p, rest))
     → (p ≡ kind_of t) × (◌≡◌ {A = Option (List ℕ × List ℕ)} (piece_at t) (Some (t, rest)))
 unfolding kind_at
 kind_is t rest p e = go (piece_at t) refl e
@@ -141,25 +141,25 @@ pieces_of n at t (u ∷ us) end (rest, found, cut) whole =
 
 -- What a piece is.
 
-abbrev is_opening : Piece → Bool
+abbrev pub is_opening : Piece → Bool
 is_opening opens = true
 is_opening _ = false
 
-abbrev is_closing : Piece → Bool
+abbrev pub is_closing : Piece → Bool
 is_closing closes = true
 is_closing _ = false
 
-abbrev is_slash : Piece → Bool
+abbrev pub is_slash : Piece → Bool
 is_slash slash = true
 is_slash _ = false
 
-record Looks (u : List ℕ) (p : Piece) : Type 0 where
-  opening : begins (codes "(") u ≡ is_opening p
-  closing : begins (codes ")") u ≡ is_closing p
-  slashed : begins (codes "/") u ≡ is_slash p
-  dollared : begins (codes "$") u ≡ is_dollar p
+pub record Looks (u : List ℕ) (p : Piece) : Type 0 where
+  pub opening : begins (codes "(") u ≡ is_opening p
+  pub closing : begins (codes ")") u ≡ is_closing p
+  pub slashed : begins (codes "/") u ≡ is_slash p
+  pub dollared : begins (codes "$") u ≡ is_dollar p
 
-looks : (u : List ℕ) → Looks u (kind_of u)
+pub looks : (u : List ℕ) → Looks u (kind_of u)
 looks [] = record { opening = refl; closing = refl; slashed = refl; dollared = refl }
 looks (c ∷ t) =
     elim (cases_eq c 40) [
@@ -183,9 +183,6 @@ looks (c ∷ t) =
     ]
 
 -- The slashes.
-
-abbrev deeper : ℕ → List ℕ → ℕ
-deeper n p = if begins (codes "(") p then suc n else if begins (codes ")") p then n - 1 else n
 
 abbrev depth_from : ℕ → List (List ℕ) → ℕ
 depth_from n us = fold deeper n us

@@ -20,9 +20,13 @@ piece_at t = option_map (λ rest. (t, rest)) (
     else if begins (codes "\\") t then option_map (λ x. x.1) (escape_at (drop 1 t))
     else Some (drop 1 t))
 
--- how many parentheses are open after these pieces, where a closing one with none open counts for nothing
+-- how many parentheses are open behind a piece, where n are before it; a closing one with none open counts for nothing
+abbrev pub deeper : ℕ → List ℕ → ℕ
+deeper n p = if begins (codes "(") p then suc n else if begins (codes ")") p then n - 1 else n
+
+-- how many are open after these pieces
 abbrev pub depth : List (List ℕ) → ℕ
-depth pieces = fold (λ n p. if begins (codes "(") p then suc n else if begins (codes ")") p then n - 1 else n) 0 pieces
+depth pieces = fold deeper 0 pieces
 
 -- Where the pattern ends, its first slash, whether there is a second, and whether its last piece is a `$`, which is special
 -- there. No slash stands in parentheses.

@@ -1,5 +1,5 @@
 -- What is known of a rule's pattern up to a place, and what the pieces that follow make of it.
-use Rattle.std.specs.Prelude.{ℕ, Bool, true, ◌||◌, List, [], ◌∷◌, Option, Some, None}
+use Rattle.std.specs.Prelude.{ℕ, zero, suc, ◌-◌, Bool, true, ◌||◌, List, [], ◌∷◌, Option, Some, None}
 use Rattle.lex_semantics.specs.Reading.{◌>>=◌}
 use Rattle.lexre.specs.Pieces.{Piece, opens, closes, slash, dollar, other, slashes, ends_with_dollar, first_of, has_two}
 use Rattle.lexre.specs.declared.cutting.Kind.{Kind}
@@ -12,6 +12,15 @@ piece_of Closes = closes
 piece_of Slash = slash
 piece_of Dollar = dollar
 piece_of Other = other
+
+-- How many parentheses are open behind a piece, where n are before it. None behind a slash inside parentheses.
+abbrev pub depth_past : ℕ → Piece → Option ℕ
+depth_past n opens = Some (suc n)
+depth_past n closes = Some (n - 1)
+depth_past zero slash = Some zero
+depth_past (suc n) slash = None
+depth_past n dollar = Some n
+depth_past n other = Some n
 
 -- the first slash, by that of the part before, and the slashes that follow
 abbrev pub first_with : Option ℕ → List ℕ → Option ℕ

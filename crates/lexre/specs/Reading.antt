@@ -1,11 +1,13 @@
 -- What the reader of patterns reads, by how many parentheses and names may be open.
-use Rattle.std.specs.Prelude.{ℕ, zero, suc, ◌-◌, ◌≤◌, Bool, false, ◌||◌, ◌&&◌, ◌==◌, List, [], ◌∷◌, Vec}
+use Rattle.std.specs.Prelude.{ℕ, ◌≡◌, zero, suc, ◌+◌, ◌-◌, ◌≤◌, Bool, false, ◌||◌, ◌&&◌, ◌==◌, List, [], ◌∷◌, Vec}
 use Rattle.std.specs.FinMap.{get}
 use Rattle.lex_semantics.specs.ByteSets.{is_digit, is_word}
 use Rattle.lex_semantics.specs.Tree.{Tree}
-use Rattle.lex_semantics.specs.Shapes.{nodes}
+use Rattle.lex_semantics.specs.Shapes.{IsSoundTree, nodes}
 use Rattle.lexre.specs.Definitions.{Definitions}
+use Rattle.lexre.specs.Counting.{state_nodes}
 use Rattle.lexre.specs.Grammar.{SpellsWithin}
+use Rattle.lexre.specs.Soundness.{IsSoundState}
 use Rattle.lexre_bytes.specs.Lexical.{symbol_at}
 use Rattle.lexre.specs.Running.{State, state, Stands, Steps}
 use Rattle.lexre_bytes.specs.Symbols.{Symbol}
@@ -27,6 +29,26 @@ StepsIn how definitions st s after = Steps how.posix (symbol_at how.fold) (get d
 -- the state where so many fewer may be opened
 abbrev pub lowered : ℕ → State → State
 lowered e (state here outer d) = state here outer (d - e)
+
+-- how many more may be opened
+abbrev pub may_open : State → ℕ
+may_open (state here outer d) = d
+
+-- A tree of few nodes is read, and it is sound. It is spelled where so many may be opened, but for those to spare.
+pub record IsRead (spelled : ℕ → Tree → Type 0) (left room to_spare : ℕ) (tree : Tree) : Type 0 where
+  pub found : spelled (left - to_spare) tree
+  pub spare : to_spare ≤ left
+  pub few : nodes tree ≤ room
+  pub sound : IsSoundTree tree
+
+-- A symbol is taken, which brings few nodes: also where as many fewer may be opened as there are to spare.
+pub record IsStep (how : ReadOptions) (definitions : Definitions) (s : Symbol) (before after : State) (room to_spare brought : ℕ) : Type 0 where
+  pub found : StepsIn how definitions before s after
+  pub spare : to_spare ≤ may_open after
+  pub lower : (e : ℕ) → e ≤ may_open before → e ≤ to_spare → StepsIn how definitions (lowered e before) s (lowered e after)
+  pub few : brought ≤ room
+  pub sound : IsSoundState after
+  pub counted : state_nodes after ≡ state_nodes before + brought
 
 -- no tree of so few nodes
 abbrev pub NoneWithin : ℕ → (Tree → Type 0) → Type 0

@@ -6,10 +6,12 @@
 //! reports the rest.
 ghost use Rattle.std.specs.Prelude.{◌≡◌, ◌+◌, ◌^◌, ◌<◌, ◌≤◌, ℕ, Bool, ◌∷◌, List, length, Option, Some, None};
 ghost use Rattle.std.specs.Prelude.{IfOk, IfErr, IfSome, OnErr, MatchOption, MatchResult};
+ghost use Rattle.std.specs.Result.{result_err};
 ghost use Rattle.lexre.specs.Cutting.{IsCutting, IsCuttingFault};
 ghost use Rattle.lexre.specs.Pieces.{kind_at, slash, IsEnd, Piece};
 ghost use Rattle.lexre_bytes.specs.declared.error.PatternErrorKind.TheVariants.{MisplacedSlash};
-ghost use Rattle.lexre.specs.CuttingSoFar.{ending, piece_of, Ending};
+ghost use Rattle.lexre.specs.CuttingFaults.{cutting_fault, piece_fault, placed};
+ghost use Rattle.lexre.specs.CuttingSoFar.{depth_past, ending, piece_of, Ending};
 
 use crate::quotes::skip_quoted;
 use lexre_bytes::{FaultAt, PatternError, PatternErrorKind, escape_at, skip_class};
@@ -60,6 +62,7 @@ pub fn cut_pattern(text: &[u8]) -> Result<Cutting, PatternError>
     ensures none { IfErr result
         (λ _. (end : ℕ) (first : Option ℕ) (two special : Bool) → IsCutting text.now end first two special → ⊥) }
     ensures fault { IfErr result (λ e. IsCuttingFault e.kind) }
+    ensures refused { cutting_fault text.now ≡ result_err result }
 {
     let mut progress = CuttingSoFar {
         depth: 0,
@@ -92,8 +95,10 @@ impl CuttingSoFar {
             (λ after. (ps : List (Piece × ℕ))
             → ◌≡◌ {A = Ending} (ending self ((piece_of kind, at) ∷ ps)) (ending after ps))
             (λ _. (ps : List (Piece × ℕ)) → ◌≡◌ {A = Ending} (ending self ((piece_of kind, at) ∷ ps)) None) }
-        ensures depth { IfOk result (λ after. after.depth ≤ self.depth + 1) }
-        ensures fault { IfErr result (λ e. e.kind ≡ MisplacedSlash) }
+        ensures depth { MatchResult result
+            (λ after. depth_past self.depth (piece_of kind) ≡ Some after.depth)
+            (λ _. depth_past self.depth (piece_of kind) ≡ None) }
+        ensures fault { IfErr result (λ e. e ≡ record { kind = MisplacedSlash; at = at }) }
     {
         match kind {
             Kind::Opens => Ok(CuttingSoFar {
@@ -124,8 +129,10 @@ impl CuttingSoFar {
         ensures ending { MatchResult result
             (λ after. (ps : List (Piece × ℕ)) → ◌≡◌ {A = Ending} (ending self ((slash, at) ∷ ps)) (ending after ps))
             (λ _. (ps : List (Piece × ℕ)) → ◌≡◌ {A = Ending} (ending self ((slash, at) ∷ ps)) None) }
-        ensures depth { IfOk result (λ after. after.depth ≤ self.depth) }
-        ensures fault { IfErr result (λ e. e.kind ≡ MisplacedSlash) }
+        ensures depth { MatchResult result
+            (λ after. depth_past self.depth slash ≡ Some after.depth)
+            (λ _. depth_past self.depth slash ≡ None) }
+        ensures fault { IfErr result (λ e. e ≡ record { kind = MisplacedSlash; at = at }) }
     {
         if self.depth > 0 {
             return Err(PatternError {
@@ -159,6 +166,7 @@ fn piece_at(text: &[u8], at: usize) -> Result<Option<(Kind, &[u8])>, PatternErro
     ensures none { OnErr result (◌≡◌ {A = Option (Piece × List ℕ)} (kind_at text.now) None) }
     ensures not_end { OnErr result (IsEnd text.now → ⊥) }
     ensures fault { IfErr result (λ e. IsCuttingFault e.kind) }
+    ensures told { IfErr result (λ e. e ≡ placed at text.now (piece_fault text.now)) }
 {
     let Some((first, after)) = text.split_first() else {
         return Ok(None);
@@ -191,7 +199,7 @@ fn piece_at(text: &[u8], at: usize) -> Result<Option<(Kind, &[u8])>, PatternErro
 /// The fault, by its place: the text, of which the fault has a part, stands at the place `at`.
 fn fault_at(fault: FaultAt, text: &[u8], at: usize) -> PatternError
     requires { at + length text.now < 2 ^ 64 }
-    ensures { result.kind ≡ fault.entry.kind }
+    ensures { result ≡ placed at text.now (fault.entry.kind, fault.entry.rest.now) }
 {
     PatternError {
         kind: fault.kind,

@@ -3,6 +3,7 @@ ghost use Rattle.std.specs.Prelude.{◌≡◌, ℕ, ◌+◌, Bool, List, Option}
 ghost use Rattle.lex_semantics.specs.Positions.{Cell, Reads, positions};
 ghost use Rattle.lex_semantics.specs.Tree.{Tree};
 ghost use Rattle.lexre.specs.Cutting.{IsCutting};
+ghost use Rattle.lexre.specs.CuttingExamples.{NoFault, OneFault, TwoFaults};
 ghost use Rattle.lexre.specs.Definitions.{Definitions};
 ghost use Rattle.lexre.specs.PatternExamples.{Items, Classes, Escapes, Folded, Joined, Operators, OverItems};
 ghost use Rattle.lexre.specs.PatternExamples.{OverSeries, Named, Bounds, Refused, RefusedItems};
@@ -26,6 +27,13 @@ pub fn one_cutting()
     ensures { (text : List ℕ) (end end' : ℕ) (first first' : Option ℕ) (two two' special special' : Bool)
         → IsCutting text end first two special → IsCutting text end' first' two' special'
         → (end ≡ end') × (first ≡ first') × (two ≡ two') × (special ≡ special') }
+{}
+
+/// Worked examples of texts without a cutting, each with its first fault and its offset, and of texts without a fault.
+pub fn examples_of_cuttings()
+    ensures one_fault { OneFault }
+    ensures two_faults { TwoFaults }
+    ensures no_fault { NoFault }
 {}
 
 /// Worked examples of patterns: each kind of item, classes and escapes, letters for both cases, series and choices,

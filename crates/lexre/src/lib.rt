@@ -18,9 +18,10 @@
 //! - `name_cache`: the trees of names that were read, for one file.
 //! - `reader`: the reader of patterns.
 //! - `cutting`: where the pattern of a rule ends, and its slash.
-//! - `laws`: a text spells one tree and has one cutting; worked examples.
+//! - `laws`: a text spells one tree and has one cutting; worked examples of patterns and of faults.
 //!
-//! It promises that the tree is sound and the one that the text spells, and that what is refused spells none. Another
+//! It promises that the tree is sound and the one that the text spells, and that what is refused spells none. Of a text
+//! without a cutting it tells the first fault from the left, and its offset (`specs/CuttingFaults`). Another
 //! way to read, count or keep trees changes nothing above. The shape of `Pattern` does: lexauto_positions and lexspec
 //! go over it.
 //!
@@ -52,7 +53,9 @@ pub use bounds::Lengths;
 pub use counts::positions;
 pub use cutting::{Cutting, cut_pattern};
 pub use definitions::{Defs, DefsError};
-pub use laws::{examples_of_patterns, one_cutting, one_tree, readings_use_own_positions};
+pub use laws::{
+    examples_of_cuttings, examples_of_patterns, one_cutting, one_tree, readings_use_own_positions,
+};
 pub use lexre_bytes::{ByteSet, PatternError, PatternErrorKind};
 pub use measures::lengths;
 pub use name_cache::NameCache;

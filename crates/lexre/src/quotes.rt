@@ -5,6 +5,8 @@ ghost use Rattle.lex_semantics.specs.Shapes.{IsSoundTree, nodes};
 ghost use Rattle.lex_semantics.specs.Tree.{Set};
 ghost use Rattle.lexre_bytes.specs.Lexical.{folded, quoted_tree, quoted_bytes};
 ghost use Rattle.lexre_bytes.specs.Quotes.{after_quotes};
+ghost use Rattle.lexre_bytes.specs.Unread.{Fault, after_byte, fault_inside, unread};
+ghost use Rattle.lexre_bytes.specs.declared.error.PatternErrorKind.TheVariants.{UnclosedQuote};
 ghost use Rattle.lexre.specs.Cutting.{IsQuoteFault};
 ghost use Rattle.lexre.specs.Outcome.{UnlessMemory};
 ghost use Rattle.lexre.specs.Views.{tree_of};
@@ -23,6 +25,8 @@ pub(crate) fn skip_quoted<'a>(text: &'a [u8]) -> Result<&'a [u8], FaultAt<'a>>
     ensures found { MatchResult result (λ rest. after_quotes (drop 1 text.now)
         ≡ Some rest.now) (λ _. after_quotes (drop 1 text.now) ≡ None) }
     ensures fault { IfErr result (λ f. IsQuoteFault f.kind) }
+    ensures told { IfErr result (λ f. ◌≡◌ {A = Fault} (f.kind, f.rest.now)
+        (fault_inside UnclosedQuote text.now (unread after_byte (drop 1 text.now)))) }
 {
     let mut rest = text.get(1..).unwrap_or(text);
     while let Some((&byte, after)) = rest.split_first() {

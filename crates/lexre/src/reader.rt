@@ -9,7 +9,7 @@ ghost use Rattle.lexre.specs.Counting.{state_nodes};
 ghost use Rattle.lexre.specs.Cycles.{AllLead, AllLeadToSymbol, AllLeadToText};
 ghost use Rattle.lexre.specs.Names.{AreKnown, open_of, trees_of};
 ghost use Rattle.lexre.specs.Outcome.{UnlessMemory};
-ghost use Rattle.lexre.specs.Reading.{NoneWithin, SpellsIn, StandsIn, StepsIn, begins_interval, lowered};
+ghost use Rattle.lexre.specs.Reading.{IsRead, IsStep, NoneWithin, SpellsIn, StandsIn, StepsIn, begins_interval};
 ghost use Rattle.lexre.specs.Running.{State};
 ghost use Rattle.lexre.specs.Soundness.{IsSoundState, IsSoundSymbol};
 ghost use Rattle.lexre.specs.Spelling.{Spells};
@@ -102,11 +102,8 @@ fn read_name(
     requires room { room ≤ max_nodes }
     requires known_so_far { AreKnown scope.options scope.definitions.now (trees_of names.old) }
     requires lead { AllLead scope.options scope.definitions.now (open_of names.old) name.now }
-    ensures found { IfOk result (λ r. StandsIn scope.entry.options scope.entry.definitions.now (left - r.spare) name.now
-        (tree_of r.tree.pattern)) }
-    ensures spare { IfOk result (λ r. r.spare ≤ left) }
-    ensures few { IfOk result (λ r. nodes (tree_of r.tree.pattern) ≤ room) }
-    ensures sound { IfOk result (λ r. IsSoundTree (tree_of r.tree.pattern)) }
+    ensures read { IfOk result (λ r. IsRead (λ d. StandsIn scope.entry.options scope.entry.definitions.now d name.now)
+        left room r.spare (tree_of r.tree.pattern)) }
     ensures known { AreKnown scope.entry.options scope.entry.definitions.now (trees_of names.new) }
     ensures same_open { OnOk result (open_of names.new ≡ open_of names.old) }
     ensures none { IfErr result (λ e. UnlessMemory e
@@ -152,21 +149,13 @@ fn step(
     names: &mut NameCache,
 ) -> Result<Taken, PatternErrorKind>
     requires room { room ≤ max_nodes }
-    requires sound { IsSoundSymbol symbol }
-    requires sound_so_far { IsSoundState (state_of stack.old) }
+    requires sound { IsSoundSymbol symbol × IsSoundState (state_of stack.old) }
     requires known_so_far { AreKnown scope.options scope.definitions.now (trees_of names.old) }
     requires lead { AllLeadToSymbol scope.options scope.definitions.now (open_of names.old) (symbol_of symbol) }
-    ensures found { IfOk result (λ a. StepsIn scope.entry.options scope.entry.definitions.now (state_of stack.old)
-        (symbol_of symbol.entry) (state_of stack.new)) }
-    ensures spare { IfOk result (λ a. a.spare ≤ stack.new.left) }
-    ensures lowered { IfOk result (λ a. (e : ℕ) → e ≤ stack.old.left → e ≤ a.spare
-        → StepsIn scope.entry.options scope.entry.definitions.now (lowered e (state_of stack.old))
-        (symbol_of symbol.entry) (lowered e (state_of stack.new))) }
-    ensures few { IfOk result (λ a. a.nodes ≤ room) }
-    ensures sound { IfOk result (λ a. IsSoundState (state_of stack.new)) }
+    ensures stepped { IfOk result (λ a. IsStep scope.entry.options scope.entry.definitions.now (symbol_of symbol.entry)
+        (state_of stack.old) (state_of stack.new) room a.spare a.nodes) }
     ensures known { AreKnown scope.entry.options scope.entry.definitions.now (trees_of names.new) }
     ensures same_open { OnOk result (open_of names.new ≡ open_of names.old) }
-    ensures counted { IfOk result (λ a. state_nodes (state_of stack.new) ≡ state_nodes (state_of stack.old) + a.nodes) }
     ensures none { IfErr result (λ e. UnlessMemory e
         ((after : State) → StepsIn scope.entry.options scope.entry.definitions.now (state_of stack.old)
         (symbol_of symbol.entry) after → state_nodes after ≤ state_nodes (state_of stack.old) + room → ⊥)) }
@@ -213,11 +202,8 @@ fn read_within(
     requires room { room ≤ max_nodes }
     requires known_so_far { AreKnown scope.options scope.definitions.now (trees_of names.old) }
     requires lead { AllLeadToText scope.options scope.definitions.now (open_of names.old) text.now }
-    ensures found { IfOk result (λ r. SpellsIn scope.entry.options scope.entry.definitions.now (left - r.spare) text.now
-        (tree_of r.tree.pattern)) }
-    ensures spare { IfOk result (λ r. r.spare ≤ left) }
-    ensures few { IfOk result (λ r. nodes (tree_of r.tree.pattern) ≤ room) }
-    ensures sound { IfOk result (λ r. IsSoundTree (tree_of r.tree.pattern)) }
+    ensures read { IfOk result (λ r. IsRead (λ d. SpellsIn scope.entry.options scope.entry.definitions.now d text.now)
+        left room r.spare (tree_of r.tree.pattern)) }
     ensures known { AreKnown scope.entry.options scope.entry.definitions.now (trees_of names.new) }
     ensures same_open { OnOk result (open_of names.new ≡ open_of names.old) }
     ensures none { IfErr result (λ e. UnlessMemory e.kind

@@ -9,6 +9,7 @@ pub mod BracketForms
 pub mod BracketLaws
 pub mod ElementLaws
 pub mod ShorterLaws
+pub mod UnreadLaws
 pub mod QuoteLaws
 pub mod IntervalLaws
 pub mod ClassLaws

@@ -13,7 +13,7 @@ use Rattle.lexre_bytes.proofs.BracketLaws.{negated_then, equivalence_then, colla
 use Rattle.lexre_bytes.proofs.QuoteLaws.{escape_shorter, take_up_to_within}
 use Rattle.lex_semantics.specs.Escapes.{byte_with}
 
-abbrev IsShorter : {A : Type 0} → ℕ → Option (A × List ℕ) → Type 0
+abbrev pub IsShorter : {A : Type 0} → ℕ → Option (A × List ℕ) → Type 0
 IsShorter n None = Unit {0}
 IsShorter n (Some x) = length x.1 < n
 
@@ -112,7 +112,7 @@ unsupported_is t u e f = bracketed_form t ∙ rw (e, f) refl
 pub no_bracket : (t : List ℕ) → ◌≡◌ {A = Letters} (named_at t) None → unsupported_at t ≡ None → ◌≡◌ {A = Found} (bracketed_at t) None
 no_bracket t e f = bracketed_form t ∙ rw (e, f) refl
 
-bracketed_shorter : (t : List ℕ) → IsShorter (length t) (bracketed_at t)
+pub bracketed_shorter : (t : List ℕ) → IsShorter (length t) (bracketed_at t)
 bracketed_shorter t = first (named_at t) refl (named_shorter t)
   where
     second : (o : Option (List ℕ)) → ◌≡◌ {A = Letters} (named_at t) None → unsupported_at t ≡ o → RestShorter (length t) o → IsShorter (length t) (bracketed_at t)
@@ -123,7 +123,7 @@ bracketed_shorter t = first (named_at t) refl (named_shorter t)
     first None e h = second (unsupported_at t) e refl (unsupported_shorter t)
     first (Some x) e h = rw (named_is t x e) h
 
-byte_shorter : (t : List ℕ) → IsShorter (length t) (byte_with escape_at t)
+pub byte_shorter : (t : List ℕ) → IsShorter (length t) (byte_with escape_at t)
 byte_shorter [] = tt
 byte_shorter (c ∷ t) = go (c == 10) (c == 92) (escape_at t) refl
   where

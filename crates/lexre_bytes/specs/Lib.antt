@@ -15,3 +15,4 @@ pub mod Quotes
 pub mod RefusalNames
 pub mod Stops
 pub mod Symbols
+pub mod Unread

@@ -5,6 +5,8 @@ ghost use Rattle.lexre_bytes.specs.Lexical.{escape_at};
 ghost use Rattle.lex_semantics.specs.Escapes.{byte_with};
 ghost use Rattle.lexre_bytes.specs.Brackets.{enclosed_at, letters_at, named_at, unsupported_at};
 ghost use Rattle.lexre_bytes.specs.Stops.{stop_of};
+ghost use Rattle.lexre_bytes.specs.Unread.{Fault, fault_inside};
+ghost use Rattle.lexre_bytes.specs.declared.error.PatternErrorKind.TheVariants.{UnclosedClass};
 
 use crate::classes::Class;
 use crate::error::{FaultAt, PatternErrorKind};
@@ -91,6 +93,8 @@ pub(crate) fn class_byte_at<'a>(
         (λ x. ◌≡◌ {A = Option (ℕ × List ℕ)} (byte_with escape_at text.now) (Some (x.0, x.1.now)))
         (λ _. ◌≡◌ {A = Option (ℕ × List ℕ)} (byte_with escape_at text.now) None) }
     ensures fault { IfErr result (λ f. IsByteFault f.kind) }
+    ensures told { IfErr result (λ f. ◌≡◌ {A = Fault} (f.kind, f.rest.now)
+        (fault_inside UnclosedClass class.now text.now)) }
 {
     match literal_byte_at(text) {
         Some(found) => Ok(found),

@@ -5,6 +5,8 @@ ghost use Rattle.lexre_bytes.specs.Lexical.{bracketed_at, element_at, range_at};
 ghost use Rattle.lexre_bytes.specs.Elements.{element_of, is_range, Element};
 ghost use Rattle.lexre_bytes.specs.Faults.{IsByteFault, HasPartFault};
 ghost use Rattle.lexre_bytes.specs.Stops.{stop_of};
+ghost use Rattle.lexre_bytes.specs.Unread.{Fault, after_part, fault_inside, unread};
+ghost use Rattle.lexre_bytes.specs.declared.error.PatternErrorKind.TheVariants.{UnclosedClass};
 
 use crate::brackets::{class_byte_at, named_at, next_stop, skip_unsupported};
 use crate::class_item::ClassItem;
@@ -56,6 +58,10 @@ fn range_at<'a>(
         (λ _. ◌≡◌ {A = Option (Element × List ℕ)} (range_at low text.now) None) }
     ensures refused { IfOk result (λ x. HasPartFault x.0) }
     ensures fault { IfErr result (λ f. IsByteFault f.kind) }
+    ensures left { MatchResult result
+        (λ x. unread after_part text.now ≡ unread after_part x.1.now)
+        (λ f. ◌≡◌ {A = Fault} (f.kind, f.rest.now)
+        (fault_inside UnclosedClass class.now (unread after_part text.now))) }
 {
     match bracketed_at(text, next_stop(stop, text)) {
         Some((ClassItem::Named(_), rest)) => {
@@ -93,6 +99,10 @@ pub(crate) fn element_at<'a>(
         (λ _. ◌≡◌ {A = Option (Element × List ℕ)} (element_at text.now) None) }
     ensures refused { IfOk result (λ x. HasPartFault x.0) }
     ensures fault { IfErr result (λ f. IsByteFault f.kind) }
+    ensures left { MatchResult result
+        (λ x. unread after_part text.now ≡ unread after_part x.1.now)
+        (λ f. ◌≡◌ {A = Fault} (f.kind, f.rest.now)
+        (fault_inside UnclosedClass class.now (unread after_part text.now))) }
 {
     if let Some(found) = bracketed_at(text, stop) {
         return Ok(found);

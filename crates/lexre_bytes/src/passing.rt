@@ -5,6 +5,8 @@ ghost use Rattle.lex_semantics.specs.Reading.{begins};
 ghost use Rattle.lexre_bytes.specs.Lexical.{class_at};
 ghost use Rattle.lexre_bytes.specs.Faults.{IsByteFault};
 ghost use Rattle.lexre_bytes.specs.Passing.{rest_of_class};
+ghost use Rattle.lexre_bytes.specs.Unread.{Fault, after_part, fault_inside, unread};
+ghost use Rattle.lexre_bytes.specs.declared.error.PatternErrorKind.TheVariants.{UnclosedClass};
 
 use crate::brackets::{find_stop, next_stop};
 use crate::elements::element_at;
@@ -18,6 +20,8 @@ pub fn skip_class<'a>(class: &'a [u8], text: &'a [u8]) -> Result<&'a [u8], Fault
         (λ _. rest_of_class (class_at text.now) ≡ None) }
     ensures shorter { IfOk result (λ rest. length rest.now < length text.now) }
     ensures fault { IfErr result (λ f. IsByteFault f.kind) }
+    ensures told { IfErr result (λ f. ◌≡◌ {A = Fault} (f.kind, f.rest.now)
+        (fault_inside UnclosedClass class.now (unread after_part text.now))) }
 {
     let inside = skip_negation(text);
     let mut stop = find_stop(inside);

@@ -15,7 +15,7 @@ use Rattle.lexspec_lines.specs.declared.declarations.Declarations.{Declarations}
 use Rattle.lexspec.specs.declared.rule_text.Front.{Front}
 use Rattle.lexspec.specs.declared.rule_text.Front.TheVariants as F
 use Rattle.lexspec.specs.declared.rules_so_far.RulesSoFar.{RulesSoFar}
-use Rattle.lexspec.specs.ItemRuns.{ItemsFrom, Item, skipped, skipped_line, skipped_block, rule, IsLine, Trailing, Subject, at_end, matching, IsSubject}
+use Rattle.lexspec.specs.ItemRuns.{Item, brings_rule, skipped, skipped_line, skipped_block, rule, IsLine, Trailing, Subject, at_end, matching, IsSubject}
 use Rattle.lexspec_lines.proofs.OneSection.{no_true, two_percents}
 use Rattle.lexspec.proofs.OneItems.{both_ways, AllBlank, StartsBlank, OpensBlock, tests_of, rule_tests, not_caret}
 use Rattle.lexspec.proofs.RulesLaws.{ActsAs, invert}
@@ -29,32 +29,20 @@ module _ (d : Declarations) where
   no_action w (matching false head after) u v action some (caret, not_end, p) on acts = both_ways (begins (codes "<<EOF>>") u) on not_end
 
   pub end_refused : (s : RulesSoFar) (n : ℕ) (t : List ℕ) → starts_rule t ≡ true → begins_end t ≡ true → (length s.waiting.items ≡ 0 → ⊥) → NoneLeft d s n t
-  end_refused s n t starts on some R E left may =
-      let h = invert (names_in d) d.options d.stack d.definitions n t (map rule_of s.waiting.items) R E starts left in
+  end_refused s n t starts on some i next is R E item left may =
+      let h = invert (names_in d) d.options d.stack d.definitions t n i next is (map rule_of s.waiting.items) R E starts item left in
       no_action (map rule_of s.waiting.items) h.subject h.u h.v (action_of h.text) (λ empty. some (sym (length-map s.waiting.items rule_of) ∙ ap length empty)) h.cut (sym (ap opens_end h.list) ∙ on) h.acts
 
-  -- a text that begins with another rule spells one rule at least
-  some_later : (n : ℕ) (t : List ℕ) (later : List S.Rule) (E : List EndRule) (items : List (ℕ × Item)) → starts_rule t ≡ true → begins_end t ≡ false → ItemsFrom n t items
-      → RulesFrom (names_in d) d.options d.stack d.definitions items later E → 1 ≤ length later
-  unfolding take_up_to
-  some_later n t later E [] starts off (inl e) are = no_true (sym (ap starts_rule e) ∙ starts)
-  some_later n t later E [] starts off (inr e) are = let p = two_percents t e in no_true (sym (rule_tests (37 ∷ 37 ∷ p.0) (subst (λ z. starts_rule z ≡ true) p.1 starts)).2)
-  some_later n t later E ((m, skipped) ∷ is) starts off (rest, line, item, more) are = both_ways (AllBlank t) (tests_of t skipped rest item) (rule_tests t starts).0
-  some_later n t later E ((m, skipped_line) ∷ is) starts off (rest, line, item, more) are = both_ways (StartsBlank t) (tests_of t skipped_line rest item).1 (rule_tests t starts).1
-  some_later n t later E ((m, skipped_block) ∷ is) starts off (rest, line, item, more) are = both_ways (OpensBlock t) (tests_of t skipped_block rest item).2 (rule_tests t starts).3
-  some_later n t later E ((m, rule asked at_end action) ∷ is) starts off (rest, line, (starts', u, v, text, list, cut, ends, is_action), more) are = no_true (sym off ∙ ap opens_end list ∙ cut.0)
-  some_later n t later E ((m, rule asked (matching anchored head after) action) ∷ is) starts off (rest, line, item, more) (r, others, all, one, later_ones) = omega (arith, ap length all)
+  -- a text that begins with another rule brings a rule
+  brings : (t : List ℕ) (i : Item) (rest : List ℕ) → starts_rule t ≡ true → begins_end t ≡ false → IsLine t i rest → brings_rule i ≡ true
+  brings t skipped rest starts off item = both_ways (AllBlank t) (tests_of t skipped rest item) (rule_tests t starts).0
+  brings t skipped_line rest starts off item = both_ways (StartsBlank t) (tests_of t skipped_line rest item).1 (rule_tests t starts).1
+  brings t skipped_block rest starts off item = both_ways (OpensBlock t) (tests_of t skipped_block rest item).2 (rule_tests t starts).3
+  brings t (rule asked at_end action) rest starts off (starts', u, v, text, list, cut, ends, is_action) = no_true (sym off ∙ ap opens_end list ∙ cut.0)
+  brings t (rule asked (matching anchored head after) action) rest starts off item = refl
 
   pub full_refused : (s : RulesSoFar) (n : ℕ) (t : List ℕ) → starts_rule t ≡ true → begins_end t ≡ false → max_rules ≤ length s.rules.items + length s.waiting.items → NoneLeft d s n t
-  full_refused s n t starts off full R E left may =
-      let waiting = map rule_of s.waiting.items in
-      let more : 1 ≤ length left.later = some_later n t left.later E left.items starts off left.here left.are in
-      let waiters = map (acting (first_statements left.later)) waiting in
-      let all : length R ≡ length waiters + length left.later = ap length left.whole ∙ length-append waiters left.later in
-      let named : length waiters ≡ length waiting = length-map waiting (acting (first_statements left.later)) in
-      let kept : length waiting ≡ length s.waiting.items = length-map s.waiting.items rule_of in
-      let few = may.0 in
-      omega arith
+  full_refused s n t starts off full i next is R E item left may = let room = may.0 (brings t i next starts off item) in absurd (omega arith)
 
   not_end : (u v head : List ℕ) (anchored : Bool) (after : Trailing) → IsSubject u (matching anchored head after) v → begins (codes "<<EOF>>") u ≡ false
   not_end u v head true after (caret, off, p) = from (begins (codes "<<EOF>>") u) refl

@@ -10,8 +10,9 @@ use Rattle.lexspec_lines.proofs.OneSection.{no_true, some_pair}
 use Rattle.lexspec_lines.proofs.SectionLaws.{newlines_front}
 use Rattle.lexspec.specs.Items as F
 use Rattle.lexspec.specs.Items.{starts_rule, AreItems}
+use Rattle.lexspec.specs.FaultLines.{AreUpTo}
 use Rattle.lexspec.specs.Skipped as told
-use Rattle.lexspec.specs.ItemRuns.{Trailing, no_trail, line_end, pattern_after, Subject, at_end, matching, IsSides, IsSubject, Item, skipped, skipped_line, skipped_block, rule, IsLine, code_of_item, ItemsFrom, EndsRules}
+use Rattle.lexspec.specs.ItemRuns.{Trailing, no_trail, line_end, pattern_after, Subject, at_end, matching, IsSides, IsSubject, Item, skipped, skipped_line, skipped_block, rule, IsLine, code_of_item, ItemsFrom, ItemsUpTo, EndsRules}
 use Rattle.lexspec.proofs.OneItems.{AllBlank, StartsBlank, OpensBlock, tests_of, opens_block}
 use Rattle.lexspec.proofs.SkipLaws.{after_opening}
 use Rattle.lexspec.proofs.EndLaws.{item_ends}
@@ -161,6 +162,22 @@ line_off (c ∷ t) d rest (off, here) =
     from more false false true o blank starts opens passes is = none is
     from more false false false true blank starts opens passes is = blocks (after_block (suc (length beyond)) beyond) refl opens is
     from more false false false false blank starts opens passes is = no_true (sym passes)
+
+-- a line as files have it is one that the reader passes
+pub line_back : (t : List ℕ) (j : F.Item) (rest : List ℕ) → F.IsLine t j rest → (i : Item) × (kept_as i ≡ j) × IsLine t i rest
+line_back t (F.skipped d) rest here = line_off t d rest here
+line_back t (F.rule asked subject action) rest (starts, u, v, text, list, cut, acts, act) =
+    let (s, same, cut') = subject_off u subject v cut in
+    (rule asked s action, ap (λ z. F.rule asked z action) same, (starts, u, v, text, list, cut', acts, act))
+
+-- the items up to a place
+pub up_to_on : (n : ℕ) (t : List ℕ) (is : List (ℕ × Item)) (m : ℕ) (rest : List ℕ) → ItemsUpTo n t is m rest → AreUpTo n t (all_as is) m rest
+up_to_on n t [] m rest h = h
+up_to_on n t (i ∷ is) m rest (next, line, here, more) = (next, line, line_on t i.1 next here, up_to_on (n + (newlines t - newlines next)) next is m rest more)
+
+pub all_more : (is js : List (ℕ × Item)) → all_as (is ++ js) ≡ all_as is ++ all_as js
+all_more [] js = refl
+all_more (i ∷ is) js = ap (λ z. (i.0, kept_as i.1) ∷ z) (all_more is js)
 
 -- the items of a text leave something
 pub with_rest : (n : ℕ) (t : List ℕ) (is : List (ℕ × Item)) → ItemsFrom n t is → (rest : List ℕ) × AreItems n t (all_as is) rest

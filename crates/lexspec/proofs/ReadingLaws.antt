@@ -17,9 +17,10 @@ use Rattle.lexspec.specs.Skipped.{user_section, AreSkipped}
 use Rattle.lexspec.specs.Files.{AreSingle, SpellsSpec}
 use Rattle.lexspec.specs.Endings.{conditions_with}
 use Rattle.lexspec.specs.ItemReads.{names_in}
-use Rattle.lexspec.specs.SectionReads.{HasRules}
+use Rattle.lexspec.specs.SectionReads.{HasRules, IsRefused}
 use Rattle.lexspec_lines.specs.Sections.{HasSection}
-use Rattle.lexspec.specs.Readings.{of_sections, SpellsRest, SkipsRest}
+use Rattle.lexspec.specs.Readings.{of_sections, IsRefusedRest, SpellsRest, SkipsRest}
+use Rattle.lexspec.specs.FaultLines.{IsFirstFault, TellsLength, TellsRules}
 use Rattle.lexspec.specs.EndRules.{end_rule_of}
 use Rattle.lexspec.specs.RuleViews.{rule_of}
 use Rattle.lexspec_lines.specs.Outcome.{UnlessMemory}
@@ -172,6 +173,46 @@ no_section how file none S k =
     none k.definitions cut.after cut.first cut.separator
     ((distinct_test (names_of (all_conditions k.definitions)) k.names, few), distinct_test (map (λ (d : List ℕ × List ℕ). d.0) (substitutes_of k.definitions)) k.defined_once, k.options)
 
+-- the first faulty line
+
+pub tells_rules : (how : ReadOptions) (file : List ℕ) (s : Section) (e : SpecError) → HasSection how (without_returns file) s
+    → IsFirstFault (names_in s.declarations) s.declarations.options s.declarations.stack s.declarations.definitions (s.line + 1) (line_in s.rest.now).1 e → TellsRules how file e
+tells_rules how file s e h fault ds rest short cut separator distinct once known few =
+    let d = s.declarations in
+    let same = one_up_to definition_at (without_returns file) ds h.definitions rest s.rest.now cut h.lines (separator_ends rest separator) (separator_ends s.rest.now h.separator) in
+    let names : names_in d ≡ names_of (all_conditions h.definitions) = sym (names_kept d.conditions.items) ∙ ap names_of h.declares.conditions in
+    let line : s.line + 1 ≡ 2 + newlines file - newlines s.rest.now = omega (arith, h.line, newlines_kept file) in
+    subst (λ z. told ds z) (sym same.1) (subst (λ z. told z s.rest.now) (sym same.0)
+    (subst (λ z. IsFirstFault (names_of (all_conditions h.definitions)) (fold_of h.definitions) (stack_of h.definitions) (from_entries (substitutes_of h.definitions)) z (line_in s.rest.now).1 e) line
+    (subst (λ z. IsFirstFault (names_of (all_conditions h.definitions)) (fold_of h.definitions) (stack_of h.definitions) z (s.line + 1) (line_in s.rest.now).1 e) h.declares.definitions
+    (subst (λ z. IsFirstFault (names_of (all_conditions h.definitions)) (fold_of h.definitions) z d.definitions (s.line + 1) (line_in s.rest.now).1 e) h.declares.stacks
+    (subst (λ z. IsFirstFault (names_of (all_conditions h.definitions)) z d.stack d.definitions (s.line + 1) (line_in s.rest.now).1 e) h.declares.reads
+    (subst (λ z. IsFirstFault z d.options d.stack d.definitions (s.line + 1) (line_in s.rest.now).1 e) names fault))))))
+  where
+    fold_of : List Definition → ReadOptions
+    fold_of z = with_fold how (has_name (all_options z) (codes "case-insensitive"))
+
+    stack_of : List Definition → Bool
+    stack_of z = has_name (all_options z) (codes "stack")
+
+    told : List Definition → List ℕ → Type 0
+    told z rest = IsFirstFault (names_of (all_conditions z)) (fold_of z) (stack_of z) (from_entries (substitutes_of z)) (2 + newlines file - newlines rest) (line_in rest).1 e
+
+no_rules_told : (how : ReadOptions) (file : List ℕ) (e : SpecError) → ((ds : List Definition) (after : List ℕ) → IsUpTo definition_at (without_returns file) ds after → begins (codes "%%") after ≡ true → AreAllowed ds → ⊥)
+    → TellsRules how file e
+no_rules_told how file e none ds rest short cut separator distinct once known few =
+    absurd (none ds rest cut separator ((distinct_test (names_of (all_conditions ds)) distinct, few), distinct_test (map (λ (d : List ℕ × List ℕ). d.0) (substitutes_of ds)) once, known))
+
+pub length_told : (file : List ℕ) (e : SpecError) → length file ≤ max_file_bytes → 1 ≤ e.line → TellsLength file e
+length_told file e short line = (((λ none. absurd (omega (arith, none))), (λ long. absurd (omega arith))), (λ none. absurd (omega (arith, none))))
+
+pub rest_refused : (s : Section) (text : List ℕ) (e : SpecError) → text ≡ (line_in s.rest.now).1 → UnlessMemory e.kind (IsRefused s.declarations (s.line + 1) text e) → UnlessMemory e.kind (IsRefusedRest s e)
+rest_refused s text e is h = unless_memory e.kind (IsRefused s.declarations (s.line + 1) text e) (IsRefusedRest s e) (λ refused. record {
+  none = (λ S r. refused.none r.items S.rules r.ends (subst (λ z. ItemsFrom (s.line + 1) z r.items) (sym is) r.here) r.are r.few_rules r.one_end);
+  first = subst (λ z. IsFirstFault (names_in s.declarations) s.declarations.options s.declarations.stack s.declarations.definitions (s.line + 1) z e) is refused.first;
+  line = omega (arith, refused.from_first);
+}) h
+
 -- the answers of the reader
 
 abbrev File : Type 0
@@ -183,10 +224,28 @@ read_found (Err e) how file kept s short is h rest = tt
 read_found (Ok x) how file kept s short is h rest = spelled how file s (spec_of x) short (subst (λ z. HasSection how z s) is h) rest
 
 pub read_none : (r : Result SpecOfCode SpecError) (how : ReadOptions) (file kept : File) (s : Section) → kept ≡ without_returns file → HasSection how kept s
-    → IfErr r (λ e. UnlessMemory e.kind ((S : Spec) → SpellsRest s S → ⊥)) → IfErr r (λ e. UnlessMemory e.kind ((S : Spec) → SpellsSpec how file S → ⊥))
+    → IfErr r (λ e. UnlessMemory e.kind (IsRefusedRest s e)) → IfErr r (λ e. UnlessMemory e.kind ((S : Spec) → SpellsSpec how file S → ⊥))
 read_none (Ok x) how file kept s is h rest = tt
 read_none (Err e) how file kept s is h rest =
-    unless_memory e.kind ((S : Spec) → SpellsRest s S → ⊥) ((S : Spec) → SpellsSpec how file S → ⊥) (λ none S k. none S (rest_of how file s S (subst (λ z. HasSection how z s) is h) k)) rest
+    unless_memory e.kind (IsRefusedRest s e) ((S : Spec) → SpellsSpec how file S → ⊥) (λ refused S k. refused.none S (rest_of how file s S (subst (λ z. HasSection how z s) is h) k)) rest
+
+pub read_rules_told : (r : Result SpecOfCode SpecError) (how : ReadOptions) (file kept : File) (s : Section) → kept ≡ without_returns file → HasSection how kept s
+    → IfErr r (λ e. UnlessMemory e.kind (IsRefusedRest s e)) → IfErr r (λ e. UnlessMemory e.kind (TellsRules how file e))
+read_rules_told (Ok x) how file kept s is h rest = tt
+read_rules_told (Err e) how file kept s is h rest =
+    unless_memory e.kind (IsRefusedRest s e) (TellsRules how file e) (λ refused. tells_rules how file s e (subst (λ z. HasSection how z s) is h) refused.first) rest
+
+pub read_length_told : (r : Result SpecOfCode SpecError) (file : File) (s : Section) → length file ≤ max_file_bytes
+    → IfErr r (λ e. UnlessMemory e.kind (IsRefusedRest s e)) → IfErr r (λ e. UnlessMemory e.kind (TellsLength file e))
+read_length_told (Ok x) file s short rest = tt
+read_length_told (Err e) file s short rest = unless_memory e.kind (IsRefusedRest s e) (TellsLength file e) (λ refused. length_told file e short refused.line) rest
+
+pub section_told : (how : ReadOptions) (file kept : File) (e : SpecError) → kept ≡ without_returns file
+    → UnlessMemory e.kind ((ds : List Definition) (after : List ℕ) → IsUpTo definition_at kept ds after → begins (codes "%%") after ≡ true → AreAllowed ds → ⊥)
+    → UnlessMemory e.kind (TellsRules how file e)
+section_told how file kept e is h =
+    unless_memory e.kind ((ds : List Definition) (after : List ℕ) → IsUpTo definition_at kept ds after → begins (codes "%%") after ≡ true → AreAllowed ds → ⊥) (TellsRules how file e)
+    (λ none. no_rules_told how file e (λ ds after up. none ds after (subst (λ z. IsUpTo definition_at z ds after) (sym is) up))) h
 
 pub section_none : (how : ReadOptions) (file kept : File) (kind : SpecErrorKind) → kept ≡ without_returns file
     → UnlessMemory kind ((ds : List Definition) (after : List ℕ) → IsUpTo definition_at kept ds after → begins (codes "%%") after ≡ true → AreAllowed ds → ⊥)

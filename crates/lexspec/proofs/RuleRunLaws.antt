@@ -1,5 +1,5 @@
 -- The rules of items, whether a `|` stands before them, and where it goes.
-use Rattle.std.proofs.Common.{◌≡◌, ℕ, suc, ◌+◌, ◌∙◌, ◌≤◌, Bool, true, false, List, [], ◌∷◌, length, Option, Some, None, refl, sym, ap, subst, arith}
+use Rattle.std.proofs.Common.{◌≡◌, ℕ, suc, ◌+◌, ◌∙◌, ◌≤◌, Bool, true, false, List, [], ◌∷◌, ◌++◌, length, Option, Some, None, refl, sym, ap, subst, arith}
 use Rattle.std.specs.Prelude.{codes, position, nat_lt, cond, not, if◌then◌else◌, IsSomeAnd, MatchOption}
 use Rattle.std.specs.List.{position_or_len}
 use Rattle.std.proofs.lemmas.Bool.{lt-ltb, le-ltb, ltb-true, ltb-false}
@@ -224,6 +224,30 @@ module _ (names : List (List ℕ)) (how : ReadOptions) (stack : Bool) (defined :
   same_rules true ((n, F.rule asked (F.matching anchored head (Some trail)) None) ∷ is) (r ∷ []) es h = absurd h
   same_rules false ((n, F.rule asked (F.matching anchored head (Some trail)) None) ∷ is) (r ∷ []) es h = absurd h
   same_rules b ((n, F.rule asked (F.matching anchored head (Some trail)) None) ∷ is) (r ∷ q ∷ rs) es (front, acts, more) = (front, acts, same_rules true is (q ∷ rs) es more)
+
+  -- so for items that others stand before
+  pub same_behind : (b : Bool) (is js : List (ℕ × F.Item)) (rs : List Rule) (es : List EndRule) → Given b (is ++ js) rs es → Given b (is ++ all_as (as_passed js)) rs es
+  same_behind b [] js rs es h = same_rules b js rs es h
+  same_behind b ((n, F.skipped line) ∷ is) js rs es h = same_behind b is js rs es h
+  same_behind true ((n, F.rule asked F.at_end (Some text)) ∷ is) js rs [] h = absurd h
+  same_behind true ((n, F.rule asked F.at_end (Some text)) ∷ is) js rs (end ∷ es) h = absurd h
+  same_behind false ((n, F.rule asked F.at_end (Some text)) ∷ is) js rs [] h = absurd h
+  same_behind false ((n, F.rule asked F.at_end (Some text)) ∷ is) js rs (end ∷ es) (acts, listed, more) = (acts, listed, same_behind false is js rs es more)
+  same_behind true ((n, F.rule asked F.at_end None) ∷ is) js rs es h = absurd h
+  same_behind false ((n, F.rule asked F.at_end None) ∷ is) js rs [] h = absurd h
+  same_behind false ((n, F.rule asked F.at_end None) ∷ is) js rs (end ∷ es) h = absurd h
+  same_behind true ((n, F.rule asked (F.matching anchored head trail) (Some text)) ∷ is) js [] es h = absurd h
+  same_behind true ((n, F.rule asked (F.matching anchored head trail) None) ∷ is) js [] es h = absurd h
+  same_behind false ((n, F.rule asked (F.matching anchored head trail) (Some text)) ∷ is) js [] es h = absurd h
+  same_behind false ((n, F.rule asked (F.matching anchored head trail) None) ∷ is) js [] es h = absurd h
+  same_behind b ((n, F.rule asked (F.matching anchored head None) (Some text)) ∷ is) js (r ∷ rs) es (front, acts, more) = (front, acts, same_behind false is js rs es more)
+  same_behind true ((n, F.rule asked (F.matching anchored head None) None) ∷ is) js (r ∷ []) es h = absurd h
+  same_behind false ((n, F.rule asked (F.matching anchored head None) None) ∷ is) js (r ∷ []) es h = absurd h
+  same_behind b ((n, F.rule asked (F.matching anchored head None) None) ∷ is) js (r ∷ q ∷ rs) es (front, acts, more) = (front, acts, same_behind true is js (q ∷ rs) es more)
+  same_behind b ((n, F.rule asked (F.matching anchored head (Some trail)) (Some text)) ∷ is) js (r ∷ rs) es (front, acts, more) = (front, acts, same_behind false is js rs es more)
+  same_behind true ((n, F.rule asked (F.matching anchored head (Some trail)) None) ∷ is) js (r ∷ []) es h = absurd h
+  same_behind false ((n, F.rule asked (F.matching anchored head (Some trail)) None) ∷ is) js (r ∷ []) es h = absurd h
+  same_behind b ((n, F.rule asked (F.matching anchored head (Some trail)) None) ∷ is) js (r ∷ q ∷ rs) es (front, acts, more) = (front, acts, same_behind true is js (q ∷ rs) es more)
 
   pub rules_passed : (is : List (ℕ × F.Item)) (rs : List Rule) (es : List EndRule) → Given false is rs es
       → RulesFrom names how stack defined (as_passed is) rs es

@@ -32,22 +32,12 @@ cut_once : (t : List ℕ) (stop stop' : ℕ) (at at' : Option ℕ) (two two' spe
     (stop ≡ stop') × (at ≡ at') × (special ≡ special')
 cut_once t stop stop' at at' two two' special special' h k = let same = one_cutting t stop stop' at at' two two' special special' h k in (same.0, same.1, same.3)
 
--- what the items of a text are, where its first item is known
-pub record Behind (n : ℕ) (t : List ℕ) (i : Item) (rest : List ℕ) (items : List (ℕ × Item)) : Type 0 where
-  pub others : List (ℕ × Item)
-  pub all : items ≡ (n, i) ∷ others
-  pub here : ItemsFrom (n + (newlines t - newlines rest)) rest others
+-- one item begins a text, and this is left behind it
+pub both_items : (t : List ℕ) (i j : Item) (rest rest' : List ℕ) → IsLine t i rest → IsLine t j rest' → (i ≡ j) × (rest ≡ rest')
+both_items t i j rest rest' h k = one_item cut_once t i j rest rest' (tests_of t i rest h) (tests_of t j rest' k) h k
 
-pub behind : (n : ℕ) (t : List ℕ) (i : Item) (rest : List ℕ) (items : List (ℕ × Item)) → IsLine t i rest → ItemsFrom n t items → Behind n t i rest items
-behind n t i rest [] item are = absurd (no_item_at_end t i rest are item)
-behind n t i rest (j ∷ js) item (rest', line, item', more) =
-    let same = one_item cut_once t i j.1 rest rest' (tests_of t i rest item) (tests_of t j.1 rest' item') item item' in
-    let first : ◌≡◌ {A = ℕ × Item} (j.0, j.1) (n, i) = ap (λ z. (z, j.1)) line ∙ ap (λ z. (n, z)) (sym same.0) in
-    record {
-      others = js;
-      all = ap (λ z. z ∷ js) first;
-      here = subst (λ z. ItemsFrom (n + (newlines t - newlines z)) z js) (sym same.1) more;
-    }
+pub same_item : (t : List ℕ) (i j : Item) (rest rest' : List ℕ) → IsLine t i rest → IsLine t j rest' → i ≡ j
+same_item t i j rest rest' h k = (both_items t i j rest rest' h k).0
 
 module _ (names : List (List ℕ)) (how : ReadOptions) (stack : Bool) (defined : Definitions) where
   -- lines that are skipped
@@ -76,51 +66,40 @@ module _ (names : List (List ℕ)) (how : ReadOptions) (stack : Bool) (defined :
   plain_rules n skipped_block is rs es h are = are
   plain_rules n (rule asked subject action) is rs es h are = no_true h
 
-  pub plain_on : (n : ℕ) (t : List ℕ) (i : Item) (rest : List ℕ) (w R : List Rule) (E : List EndRule) → is_plain i ≡ true → IsLine t i rest
-      → Left names how stack defined n t w R E → Left names how stack defined (n + (newlines t - newlines rest)) rest w R E
-  plain_on n t i rest w R E plain item left =
-      let b = behind n t i rest left.items item left.here in
-      record {
-        items = b.others;
-        here = b.here;
-        later = left.later;
-        are = rules_plain n i b.others left.later E plain (subst (λ z. RulesFrom names how stack defined z left.later E) b.all left.are);
-        next = sym (wait_plain w n i b.others plain) ∙ ap (may_wait w) (sym b.all) ∙ left.next;
-        whole = left.whole;
-      }
-
-  pub plain_back : (n : ℕ) (t : List ℕ) (i : Item) (rest : List ℕ) (w R : List Rule) (E : List EndRule) → is_plain i ≡ true → IsLine t i rest
-      → Left names how stack defined (n + (newlines t - newlines rest)) rest w R E → Left names how stack defined n t w R E
-  plain_back n t i rest w R E plain item left = record {
-    items = (n, i) ∷ left.items;
-    here = (rest, refl, item, left.here);
+  pub plain_on : (n : ℕ) (i : Item) (is : List (ℕ × Item)) (w R : List Rule) (E : List EndRule) → is_plain i ≡ true → Left names how stack defined ((n, i) ∷ is) w R E → Left names how stack defined is w R E
+  plain_on n i is w R E plain left = record {
     later = left.later;
-    are = plain_rules n i left.items left.later E plain left.are;
-    next = wait_plain w n i left.items plain ∙ left.next;
+    are = rules_plain n i is left.later E plain left.are;
+    next = sym (wait_plain w n i is plain) ∙ left.next;
+    whole = left.whole;
+  }
+
+  pub plain_back : (n : ℕ) (i : Item) (is : List (ℕ × Item)) (w R : List Rule) (E : List EndRule) → is_plain i ≡ true → Left names how stack defined is w R E → Left names how stack defined ((n, i) ∷ is) w R E
+  plain_back n i is w R E plain left = record {
+    later = left.later;
+    are = plain_rules n i is left.later E plain left.are;
+    next = wait_plain w n i is plain ∙ left.next;
     whole = left.whole;
   }
 
   -- an `<<EOF>>` rule, for which no rule waits
-  pub end_on : (n : ℕ) (t : List ℕ) (asked : Conditions) (text rest : List ℕ) (numbers : Option (List ℕ)) (e : EndAction) (R : List Rule) (E : List EndRule)
-      → IsLine t (rule asked at_end (Some text)) rest → numbers_of (number_from 0 names) (length names) asked ≡ Some numbers → SpellsEndAction (known_in names stack) text e
-      → Left names how stack defined n t [] R E
-      → (F : List EndRule) × (E ≡ (numbers, e) ∷ F) × Left names how stack defined (n + (newlines t - newlines rest)) rest [] R F
-  end_on n t asked text rest numbers e R E item listed acts left =
-      let b = behind n t (rule asked at_end (Some text)) rest left.items item left.here in
-      let (numbers', e', others, listed', acts', all, more) = subst (λ z. RulesFrom names how stack defined z left.later E) b.all left.are in
+  pub end_on : (n : ℕ) (asked : Conditions) (text : List ℕ) (numbers : Option (List ℕ)) (e : EndAction) (is : List (ℕ × Item)) (R : List Rule) (E : List EndRule)
+      → numbers_of (number_from 0 names) (length names) asked ≡ Some numbers → SpellsEndAction (known_in names stack) text e
+      → Left names how stack defined ((n, rule asked at_end (Some text)) ∷ is) [] R E
+      → (F : List EndRule) × (E ≡ (numbers, e) ∷ F) × Left names how stack defined is [] R F
+  end_on n asked text numbers e is R E listed acts left =
+      let (numbers', e', others, listed', acts', all, more) = left.are in
       let same : numbers' ≡ numbers = some_is numbers' numbers (sym listed' ∙ listed) in
       let act : e' ≡ e = one_end tree_once (known_in names stack) text e' e acts' acts in (
         others,
         all ∙ ap (λ z. (z, e') ∷ others) same ∙ ap (λ z. (numbers, z) ∷ others) act,
-        record { items = b.others; here = b.here; later = left.later; are = more; next = refl; whole = left.whole },
+        record { later = left.later; are = more; next = refl; whole = left.whole },
       )
 
-  pub end_back : (n : ℕ) (t : List ℕ) (asked : Conditions) (text rest : List ℕ) (numbers : Option (List ℕ)) (e : EndAction) (R : List Rule) (E : List EndRule)
-      → IsLine t (rule asked at_end (Some text)) rest → numbers_of (number_from 0 names) (length names) asked ≡ Some numbers → SpellsEndAction (known_in names stack) text e
-      → Left names how stack defined (n + (newlines t - newlines rest)) rest [] R E → Left names how stack defined n t [] R ((numbers, e) ∷ E)
-  end_back n t asked text rest numbers e R E item listed acts left = record {
-    items = (n, rule asked at_end (Some text)) ∷ left.items;
-    here = (rest, refl, item, left.here);
+  pub end_back : (n : ℕ) (asked : Conditions) (text : List ℕ) (numbers : Option (List ℕ)) (e : EndAction) (is : List (ℕ × Item)) (R : List Rule) (E : List EndRule)
+      → numbers_of (number_from 0 names) (length names) asked ≡ Some numbers → SpellsEndAction (known_in names stack) text e
+      → Left names how stack defined is [] R E → Left names how stack defined ((n, rule asked at_end (Some text)) ∷ is) [] R ((numbers, e) ∷ E)
+  end_back n asked text numbers e is R E listed acts left = record {
     later = left.later;
     are = (numbers, e, E, listed, acts, refl, left.are);
     next = refl;
@@ -145,19 +124,18 @@ module _ (names : List (List ℕ)) (how : ReadOptions) (stack : Bool) (defined :
       → IsRule names how stack defined n asked anchored head after (Some text) is rs (acting ss r)
   head_rule n asked anchored head after text is rs r ss h acts = (with_statements n asked anchored head after r _ h, refl, acts)
 
-  pub rule_on : (n : ℕ) (t : List ℕ) (asked : Conditions) (anchored : Bool) (head : List ℕ) (after : Trailing) (text rest : List ℕ) (r : Rule) (ss : List Statement) (w R : List Rule) (E : List EndRule)
-      → IsLine t (rule asked (matching anchored head after) (Some text)) rest → HasHead names how stack defined n asked anchored head after r → SpellsAction (known_in names stack) text ss
-      → Left names how stack defined n t w R E
-      → (S : List Rule) × (R ≡ (map (acting ss) w ++ acting ss r ∷ []) ++ S) × Left names how stack defined (n + (newlines t - newlines rest)) rest [] S E
-  rule_on n t asked anchored head after text rest r ss w R E item h acts left =
-      let b = behind n t (rule asked (matching anchored head after) (Some text)) rest left.items item left.here in
-      let (q, others, all, one, more) = subst (λ z. RulesFrom names how stack defined z left.later E) b.all left.are in
-      let same : q ≡ acting ss r = one_rule tree_once names how stack defined n asked anchored head after (Some text) b.others others q (acting ss r) one
-      (head_rule n asked anchored head after text b.others others r ss h acts) in
+  pub rule_on : (n : ℕ) (asked : Conditions) (anchored : Bool) (head : List ℕ) (after : Trailing) (text : List ℕ) (r : Rule) (ss : List Statement) (is : List (ℕ × Item)) (w R : List Rule) (E : List EndRule)
+      → HasHead names how stack defined n asked anchored head after r → SpellsAction (known_in names stack) text ss
+      → Left names how stack defined ((n, rule asked (matching anchored head after) (Some text)) ∷ is) w R E
+      → (S : List Rule) × (R ≡ (map (acting ss) w ++ acting ss r ∷ []) ++ S) × Left names how stack defined is [] S E
+  rule_on n asked anchored head after text r ss is w R E h acts left =
+      let (q, others, all, one, more) = left.are in
+      let same : q ≡ acting ss r = one_rule tree_once names how stack defined n asked anchored head after (Some text) is others q (acting ss r) one
+      (head_rule n asked anchored head after text is others r ss h acts) in
       let later : left.later ≡ acting ss r ∷ others = all ∙ ap (λ z. z ∷ others) same in (
         others,
         left.whole ∙ ap (filled w) later ∙ sym (append_assoc (map (acting ss) w) (acting ss r ∷ []) others),
-        record { items = b.others; here = b.here; later = others; are = more; next = refl; whole = refl },
+        record { later = others; are = more; next = refl; whole = refl },
       )
 
   wait_rule : (w : List Rule) (n : ℕ) (asked : Conditions) (anchored : Bool) (head : List ℕ) (after : Trailing) (action : Option (List ℕ)) (is : List (ℕ × Item))
@@ -165,15 +143,13 @@ module _ (names : List (List ℕ)) (how : ReadOptions) (stack : Bool) (defined :
   wait_rule [] n asked anchored head after action is = refl
   wait_rule (r ∷ w) n asked anchored head after action is = refl
 
-  pub rule_back : (n : ℕ) (t : List ℕ) (asked : Conditions) (anchored : Bool) (head : List ℕ) (after : Trailing) (text rest : List ℕ) (r : Rule) (ss : List Statement) (w S : List Rule) (E : List EndRule)
-      → IsLine t (rule asked (matching anchored head after) (Some text)) rest → HasHead names how stack defined n asked anchored head after r → SpellsAction (known_in names stack) text ss
-      → Left names how stack defined (n + (newlines t - newlines rest)) rest [] S E → Left names how stack defined n t w ((map (acting ss) w ++ acting ss r ∷ []) ++ S) E
-  rule_back n t asked anchored head after text rest r ss w S E item h acts left = record {
-    items = (n, rule asked (matching anchored head after) (Some text)) ∷ left.items;
-    here = (rest, refl, item, left.here);
+  pub rule_back : (n : ℕ) (asked : Conditions) (anchored : Bool) (head : List ℕ) (after : Trailing) (text : List ℕ) (r : Rule) (ss : List Statement) (is : List (ℕ × Item)) (w S : List Rule) (E : List EndRule)
+      → HasHead names how stack defined n asked anchored head after r → SpellsAction (known_in names stack) text ss
+      → Left names how stack defined is [] S E → Left names how stack defined ((n, rule asked (matching anchored head after) (Some text)) ∷ is) w ((map (acting ss) w ++ acting ss r ∷ []) ++ S) E
+  rule_back n asked anchored head after text r ss is w S E h acts left = record {
     later = acting ss r ∷ left.later;
-    are = (acting ss r, left.later, refl, head_rule n asked anchored head after text left.items left.later r ss h acts, left.are);
-    next = wait_rule w n asked anchored head after (Some text) left.items;
+    are = (acting ss r, left.later, refl, head_rule n asked anchored head after text is left.later r ss h acts, left.are);
+    next = wait_rule w n asked anchored head after (Some text) is;
     whole = append_assoc (map (acting ss) w) (acting ss r ∷ []) S ∙ ap (λ z. map (acting ss) w ++ acting ss r ∷ z) left.whole;
   }
 
@@ -199,22 +175,19 @@ module _ (names : List (List ℕ)) (how : ReadOptions) (stack : Bool) (defined :
   fill_more : (ss : List Statement) (w : List Rule) (r : Rule) (rs : List Rule) → map (acting ss) w ++ acting ss r ∷ rs ≡ map (acting ss) (w ++ r ∷ []) ++ rs
   fill_more ss w r rs = sym (append_assoc (map (acting ss) w) (acting ss r ∷ []) rs) ∙ ap (λ z. z ++ rs) (sym (map-append (acting ss) w (r ∷ [])))
 
-  pub bar_on : (n : ℕ) (t : List ℕ) (asked : Conditions) (anchored : Bool) (head : List ℕ) (after : Trailing) (rest : List ℕ) (r : Rule) (w R : List Rule) (E : List EndRule)
-      → IsLine t (rule asked (matching anchored head after) None) rest → HasHead names how stack defined n asked anchored head after r
-      → Left names how stack defined n t w R E → Left names how stack defined (n + (newlines t - newlines rest)) rest (w ++ r ∷ []) R E
-  bar_on n t asked anchored head after rest r w R E item h left =
-      let b = behind n t (rule asked (matching anchored head after) None) rest left.items item left.here in
-      let (q, others, all, one, more) = subst (λ z. RulesFrom names how stack defined z left.later E) b.all left.are in
+  pub bar_on : (n : ℕ) (asked : Conditions) (anchored : Bool) (head : List ℕ) (after : Trailing) (r : Rule) (is : List (ℕ × Item)) (w R : List Rule) (E : List EndRule)
+      → HasHead names how stack defined n asked anchored head after r
+      → Left names how stack defined ((n, rule asked (matching anchored head after) None) ∷ is) w R E → Left names how stack defined is (w ++ r ∷ []) R E
+  bar_on n asked anchored head after r is w R E h left =
+      let (q, others, all, one, more) = left.are in
       let f = first_statements others in
-      let same : q ≡ acting f r = one_rule tree_once names how stack defined n asked anchored head after None b.others others q (acting f r) one
-      (bar_rule n asked anchored head after b.others others r h one.1 (has_first others q.statements one.2)) in
+      let same : q ≡ acting f r = one_rule tree_once names how stack defined n asked anchored head after None is others q (acting f r) one
+      (bar_rule n asked anchored head after is others r h one.1 (has_first others q.statements one.2)) in
       let later : left.later ≡ acting f r ∷ others = all ∙ ap (λ z. z ∷ others) same in
       record {
-        items = b.others;
-        here = b.here;
         later = others;
         are = more;
-        next = wait_more w r b.others ∙ one.1;
+        next = wait_more w r is ∙ one.1;
         whole = left.whole ∙ ap (filled w) later ∙ fill_more f w r others;
       }
 
@@ -229,70 +202,82 @@ module _ (names : List (List ℕ)) (how : ReadOptions) (stack : Bool) (defined :
   goes_first ((n, skipped_line) ∷ is) rs es h are = goes_first is rs es h are
   goes_first ((n, skipped_block) ∷ is) rs es h are = goes_first is rs es h are
 
-  pub bar_back : (n : ℕ) (t : List ℕ) (asked : Conditions) (anchored : Bool) (head : List ℕ) (after : Trailing) (rest : List ℕ) (r : Rule) (w R : List Rule) (E : List EndRule)
-      → IsLine t (rule asked (matching anchored head after) None) rest → HasHead names how stack defined n asked anchored head after r
-      → Left names how stack defined (n + (newlines t - newlines rest)) rest (w ++ r ∷ []) R E → Left names how stack defined n t w R E
-  bar_back n t asked anchored head after rest r w R E item h left =
-      let goes : goes_to_rule None left.items ≡ true = sym (wait_more w r left.items) ∙ left.next in
+  pub bar_back : (n : ℕ) (asked : Conditions) (anchored : Bool) (head : List ℕ) (after : Trailing) (r : Rule) (is : List (ℕ × Item)) (w R : List Rule) (E : List EndRule)
+      → HasHead names how stack defined n asked anchored head after r
+      → Left names how stack defined is (w ++ r ∷ []) R E → Left names how stack defined ((n, rule asked (matching anchored head after) None) ∷ is) w R E
+  bar_back n asked anchored head after r is w R E h left =
+      let goes : goes_to_rule None is ≡ true = sym (wait_more w r is) ∙ left.next in
       let f = first_statements left.later in
       record {
-        items = (n, rule asked (matching anchored head after) None) ∷ left.items;
-        here = (rest, refl, item, left.here);
         later = acting f r ∷ left.later;
-        are = (acting f r, left.later, refl, bar_rule n asked anchored head after left.items left.later r h goes (goes_first left.items left.later E goes left.are), left.are);
-        next = wait_rule w n asked anchored head after None left.items;
+        are = (acting f r, left.later, refl, bar_rule n asked anchored head after is left.later r h goes (goes_first is left.later E goes left.are), left.are);
+        next = wait_rule w n asked anchored head after None is;
         whole = left.whole ∙ sym (fill_more f w r left.later);
       }
 
   -- What is read so far, and what is left.
-  pub record Agree (start : ℕ) (whole_text : List ℕ) (done : List Rule) (ends : List EndRule) (w : List Rule) (n : ℕ) (t : List ℕ) : Type 0 where
-    pub back : (R : List Rule) (E : List EndRule) → Left names how stack defined n t w R E → Left names how stack defined start whole_text [] (done ++ R) (ends ++ E)
-    pub on : (R : List Rule) (E : List EndRule) → Left names how stack defined start whole_text [] R E
-        → (S : List Rule) × (F : List EndRule) × (R ≡ done ++ S) × (E ≡ ends ++ F) × Left names how stack defined n t w S F
+  pub record Agree (before : List (ℕ × Item)) (done : List Rule) (ends : List EndRule) (w : List Rule) : Type 0 where
+    pub back : (is : List (ℕ × Item)) (R : List Rule) (E : List EndRule) → Left names how stack defined is w R E → Left names how stack defined (before ++ is) [] (done ++ R) (ends ++ E)
+    pub on : (is : List (ℕ × Item)) (R : List Rule) (E : List EndRule) → Left names how stack defined (before ++ is) [] R E
+        → (S : List Rule) × (F : List EndRule) × (R ≡ done ++ S) × (E ≡ ends ++ F) × Left names how stack defined is w S F
 
-  pub agree_first : (n : ℕ) (t : List ℕ) → Agree n t [] [] [] n t
-  agree_first n t = record { back = (λ R E left. left); on = (λ R E left. (R, E, refl, refl, left)) }
+  pub agree_first : Agree [] [] [] []
+  agree_first = record { back = (λ is R E left. left); on = (λ is R E left. (R, E, refl, refl, left)) }
 
-  pub agree_plain : (start : ℕ) (whole_text : List ℕ) (done : List Rule) (ends : List EndRule) (w : List Rule) (n : ℕ) (t : List ℕ) (i : Item) (rest : List ℕ) → is_plain i ≡ true → IsLine t i rest
-      → Agree start whole_text done ends w n t → Agree start whole_text done ends w (n + (newlines t - newlines rest)) rest
-  agree_plain start whole_text done ends w n t i rest plain item a = record {
-    back = (λ R E left. a.back R E (plain_back n t i rest w R E plain item left));
-    on = (λ R E left. let (S, F, e, f, more) = a.on R E left in (S, F, e, f, plain_on n t i rest w S F plain item more));
+  -- one item more stands before the others
+  behind : (before : List (ℕ × Item)) (x : ℕ × Item) (is : List (ℕ × Item)) (R : List Rule) (E : List EndRule) → Left names how stack defined (before ++ x ∷ is) [] R E → Left names how stack defined ((before ++ x ∷ []) ++ is) [] R E
+  behind before x is R E left = subst (λ z. Left names how stack defined z [] R E) (sym (append_assoc before (x ∷ []) is)) left
+
+  ahead : (before : List (ℕ × Item)) (x : ℕ × Item) (is : List (ℕ × Item)) (R : List Rule) (E : List EndRule) → Left names how stack defined ((before ++ x ∷ []) ++ is) [] R E → Left names how stack defined (before ++ x ∷ is) [] R E
+  ahead before x is R E left = subst (λ z. Left names how stack defined z [] R E) (append_assoc before (x ∷ []) is) left
+
+  pub agree_plain : (before : List (ℕ × Item)) (done : List Rule) (ends : List EndRule) (w : List Rule) (n : ℕ) (i : Item) → is_plain i ≡ true
+      → Agree before done ends w → Agree (before ++ (n, i) ∷ []) done ends w
+  agree_plain before done ends w n i plain a = record {
+    back = (λ is R E left. behind before (n, i) is (done ++ R) (ends ++ E) (a.back ((n, i) ∷ is) R E (plain_back n i is w R E plain left)));
+    on = (λ is R E left. let (S, F, e, f, more) = a.on ((n, i) ∷ is) R E (ahead before (n, i) is R E left) in (S, F, e, f, plain_on n i is w S F plain more));
   }
 
-  pub agree_end : (start : ℕ) (whole_text : List ℕ) (done : List Rule) (ends : List EndRule) (n : ℕ) (t : List ℕ) (asked : Conditions) (text rest : List ℕ) (numbers : Option (List ℕ)) (e : EndAction)
-      → IsLine t (rule asked at_end (Some text)) rest → numbers_of (number_from 0 names) (length names) asked ≡ Some numbers → SpellsEndAction (known_in names stack) text e
-      → Agree start whole_text done ends [] n t → Agree start whole_text done (ends ++ (numbers, e) ∷ []) [] (n + (newlines t - newlines rest)) rest
-  agree_end start whole_text done ends n t asked text rest numbers e item listed acts a = record {
-    back = (λ R E left. subst (λ z. Left names how stack defined start whole_text [] (done ++ R) z) (sym (append_assoc ends ((numbers, e) ∷ []) E))
-        (a.back R ((numbers, e) ∷ E) (end_back n t asked text rest numbers e R E item listed acts left)));
-    on = (λ R E left.
-        let (S, F, p, q, more) = a.on R E left in
-        let (G, g, last) = end_on n t asked text rest numbers e S F item listed acts more in
-        (S, G, p, q ∙ ap (λ z. ends ++ z) g ∙ sym (append_assoc ends ((numbers, e) ∷ []) G), last));
-  }
+  pub agree_end : (before : List (ℕ × Item)) (done : List Rule) (ends : List EndRule) (n : ℕ) (asked : Conditions) (text : List ℕ) (numbers : Option (List ℕ)) (e : EndAction)
+      → numbers_of (number_from 0 names) (length names) asked ≡ Some numbers → SpellsEndAction (known_in names stack) text e
+      → Agree before done ends [] → Agree (before ++ (n, rule asked at_end (Some text)) ∷ []) done (ends ++ (numbers, e) ∷ []) []
+  agree_end before done ends n asked text numbers e listed acts a =
+      let x : ℕ × Item = (n, rule asked at_end (Some text)) in
+      record {
+        back = (λ is R E left. behind before x is (done ++ R) ((ends ++ (numbers, e) ∷ []) ++ E) (subst (λ z. Left names how stack defined (before ++ x ∷ is) [] (done ++ R) z) (sym (append_assoc ends ((numbers, e) ∷ []) E))
+            (a.back (x ∷ is) R ((numbers, e) ∷ E) (end_back n asked text numbers e is R E listed acts left))));
+        on = (λ is R E left.
+            let (S, F, p, q, more) = a.on (x ∷ is) R E (ahead before x is R E left) in
+            let (G, g, last) = end_on n asked text numbers e is S F listed acts more in
+            (S, G, p, q ∙ ap (λ z. ends ++ z) g ∙ sym (append_assoc ends ((numbers, e) ∷ []) G), last));
+      }
 
-  pub agree_rule : (start : ℕ) (whole_text : List ℕ) (done : List Rule) (ends : List EndRule) (w : List Rule) (n : ℕ) (t : List ℕ)
-      (asked : Conditions) (anchored : Bool) (head : List ℕ) (after : Trailing) (text rest : List ℕ) (r : Rule) (ss : List Statement)
-      → IsLine t (rule asked (matching anchored head after) (Some text)) rest → HasHead names how stack defined n asked anchored head after r → SpellsAction (known_in names stack) text ss
-      → Agree start whole_text done ends w n t → Agree start whole_text (done ++ (map (acting ss) w ++ acting ss r ∷ [])) ends [] (n + (newlines t - newlines rest)) rest
-  agree_rule start whole_text done ends w n t asked anchored head after text rest r ss item h acts a = record {
-    back = (λ R E left. subst (λ z. Left names how stack defined start whole_text [] z (ends ++ E)) (sym (append_assoc done (map (acting ss) w ++ acting ss r ∷ []) R))
-        (a.back ((map (acting ss) w ++ acting ss r ∷ []) ++ R) E (rule_back n t asked anchored head after text rest r ss w R E item h acts left)));
-    on = (λ R E left.
-        let (S, F, p, q, more) = a.on R E left in
-        let (T, g, last) = rule_on n t asked anchored head after text rest r ss w S F item h acts more in
-        (T, F, p ∙ ap (λ z. done ++ z) g ∙ sym (append_assoc done (map (acting ss) w ++ acting ss r ∷ []) T), q, last));
-  }
+  pub agree_rule : (before : List (ℕ × Item)) (done : List Rule) (ends : List EndRule) (w : List Rule) (n : ℕ)
+      (asked : Conditions) (anchored : Bool) (head : List ℕ) (after : Trailing) (text : List ℕ) (r : Rule) (ss : List Statement)
+      → HasHead names how stack defined n asked anchored head after r → SpellsAction (known_in names stack) text ss
+      → Agree before done ends w → Agree (before ++ (n, rule asked (matching anchored head after) (Some text)) ∷ []) (done ++ (map (acting ss) w ++ acting ss r ∷ [])) ends []
+  agree_rule before done ends w n asked anchored head after text r ss h acts a =
+      let x : ℕ × Item = (n, rule asked (matching anchored head after) (Some text)) in
+      let taken = map (acting ss) w ++ acting ss r ∷ [] in
+      record {
+        back = (λ is R E left. behind before x is ((done ++ taken) ++ R) (ends ++ E) (subst (λ z. Left names how stack defined (before ++ x ∷ is) [] z (ends ++ E)) (sym (append_assoc done taken R))
+            (a.back (x ∷ is) (taken ++ R) E (rule_back n asked anchored head after text r ss is w R E h acts left))));
+        on = (λ is R E left.
+            let (S, F, p, q, more) = a.on (x ∷ is) R E (ahead before x is R E left) in
+            let (T, g, last) = rule_on n asked anchored head after text r ss is w S F h acts more in
+            (T, F, p ∙ ap (λ z. done ++ z) g ∙ sym (append_assoc done taken T), q, last));
+      }
 
-  pub agree_bar : (start : ℕ) (whole_text : List ℕ) (done : List Rule) (ends : List EndRule) (w : List Rule) (n : ℕ) (t : List ℕ)
-      (asked : Conditions) (anchored : Bool) (head : List ℕ) (after : Trailing) (rest : List ℕ) (r : Rule)
-      → IsLine t (rule asked (matching anchored head after) None) rest → HasHead names how stack defined n asked anchored head after r
-      → Agree start whole_text done ends w n t → Agree start whole_text done ends (w ++ r ∷ []) (n + (newlines t - newlines rest)) rest
-  agree_bar start whole_text done ends w n t asked anchored head after rest r item h a = record {
-    back = (λ R E left. a.back R E (bar_back n t asked anchored head after rest r w R E item h left));
-    on = (λ R E left. let (S, F, p, q, more) = a.on R E left in (S, F, p, q, bar_on n t asked anchored head after rest r w S F item h more));
-  }
+  pub agree_bar : (before : List (ℕ × Item)) (done : List Rule) (ends : List EndRule) (w : List Rule) (n : ℕ)
+      (asked : Conditions) (anchored : Bool) (head : List ℕ) (after : Trailing) (r : Rule)
+      → HasHead names how stack defined n asked anchored head after r
+      → Agree before done ends w → Agree (before ++ (n, rule asked (matching anchored head after) None) ∷ []) done ends (w ++ r ∷ [])
+  agree_bar before done ends w n asked anchored head after r h a =
+      let x : ℕ × Item = (n, rule asked (matching anchored head after) None) in
+      record {
+        back = (λ is R E left. behind before x is (done ++ R) (ends ++ E) (a.back (x ∷ is) R E (bar_back n asked anchored head after r is w R E h left)));
+        on = (λ is R E left. let (S, F, p, q, more) = a.on (x ∷ is) R E (ahead before x is R E left) in (S, F, p, q, bar_on n asked anchored head after r is w S F h more));
+      }
 
   -- What the rule that begins a text is.
 
@@ -352,18 +337,12 @@ module _ (names : List (List ℕ)) (how : ReadOptions) (stack : Bool) (defined :
         acts = subst (ActsAs w subject) is_action here.1;
       }
 
-  pub invert : (n : ℕ) (t : List ℕ) (w R : List Rule) (E : List EndRule) → starts_rule t ≡ true → Left names how stack defined n t w R E → RuleHere t w
-  unfolding take_up_to
-  invert n t w R E starts left = from left.items left.here left.are left.next
-    where
-      from : (items : List (ℕ × Item)) → ItemsFrom n t items → RulesFrom names how stack defined items left.later E → may_wait w items ≡ true → RuleHere t w
-      from [] (inl e) are next = no_true (sym (ap starts_rule e) ∙ starts)
-      from [] (inr e) are next = let p = two_percents t e in no_true (sym (rule_tests (37 ∷ 37 ∷ p.0) (subst (λ z. starts_rule z ≡ true) p.1 starts)).2)
-      from ((m, i) ∷ is) (rest, line, item, more) are next = rule_here t w m i rest is left.later E starts item are next
+  pub invert : (t : List ℕ) (n : ℕ) (i : Item) (next : List ℕ) (is : List (ℕ × Item)) (w R : List Rule) (E : List EndRule) → starts_rule t ≡ true → IsLine t i next → Left names how stack defined ((n, i) ∷ is) w R E → RuleHere t w
+  invert t n i next is w R E starts item left = rule_here t w n i next is left.later E starts item left.are left.next
 
   -- nothing is spelled from there on
   abbrev pub NoLeft : List ℕ → Type 0
-  NoLeft t = (n : ℕ) (w R : List Rule) (E : List EndRule) → Left names how stack defined n t w R E → ⊥
+  NoLeft t = (n : ℕ) (i : Item) (next : List ℕ) (is : List (ℕ × Item)) (w R : List Rule) (E : List EndRule) → IsLine t i next → Left names how stack defined ((n, i) ∷ is) w R E → ⊥
 
   no_some : {A B : Type 0} (x : A) (o : Option A) → o ≡ Some x → o ≡ None → B
   no_some {A} x o e f = absurd (none (sym e ∙ f))
@@ -372,17 +351,17 @@ module _ (names : List (List ℕ)) (how : ReadOptions) (stack : Bool) (defined :
       none p = cc
 
   pub no_list : (t : List ℕ) → starts_rule t ≡ true → conditions_at t ≡ None → NoLeft t
-  no_list t starts none n w R E left = let h = invert n t w R E starts left in no_some (h.asked, h.u) (conditions_at t) h.list none
+  no_list t starts none n i next is w R E item left = let h = invert t n i next is w R E starts item left in no_some (h.asked, h.u) (conditions_at t) h.list none
 
   pub no_numbers : (t u : List ℕ) (asked : Conditions) → starts_rule t ≡ true → conditions_at t ≡ Some (asked, u) → numbers_of (number_from 0 names) (length names) asked ≡ None → NoLeft t
-  no_numbers t u asked starts list none n w R E left =
-      let h = invert n t w R E starts left in
+  no_numbers t u asked starts list none n i next is w R E item left =
+      let h = invert t n i next is w R E starts item left in
       let same = (some_pair h.asked asked h.u u (sym h.list ∙ list)).0 in
       no_some h.numbers (numbers_of (number_from 0 names) (length names) h.asked) h.numbered (ap (numbers_of (number_from 0 names) (length names)) same ∙ none)
 
   pub no_subject : (t u : List ℕ) (asked : Conditions) → starts_rule t ≡ true → conditions_at t ≡ Some (asked, u) → ((s : Subject) (v : List ℕ) → IsSubject u s v → ⊥) → NoLeft t
-  no_subject t u asked starts list none n w R E left =
-      let h = invert n t w R E starts left in
+  no_subject t u asked starts list none n i next is w R E item left =
+      let h = invert t n i next is w R E starts item left in
       let same = (some_pair h.asked asked h.u u (sym h.list ∙ list)).1 in
       none h.subject h.v (subst (λ z. IsSubject z h.subject h.v) same h.cut)
 
@@ -390,10 +369,10 @@ module _ (names : List (List ℕ)) (how : ReadOptions) (stack : Bool) (defined :
   abbrev pub Known : List Rule → Subject → List ℕ → Type 0
   Known w subject v = (text rest : List ℕ) × (action_at (after_blanks v) ≡ Some (text, rest)) × ActsAs w subject (action_of text)
 
-  known : (n : ℕ) (t u v : List ℕ) (asked : Conditions) (subject : Subject) (w R : List Rule) (E : List EndRule) → starts_rule t ≡ true → conditions_at t ≡ Some (asked, u) → IsSubject u subject v
-      → Left names how stack defined n t w R E → Known w subject v
-  known n t u v asked subject w R E starts list cut left =
-      let h = invert n t w R E starts left in
+  known : (n : ℕ) (t u v : List ℕ) (asked : Conditions) (subject : Subject) (i : Item) (next : List ℕ) (is : List (ℕ × Item)) (w R : List Rule) (E : List EndRule)
+      → starts_rule t ≡ true → conditions_at t ≡ Some (asked, u) → IsSubject u subject v → IsLine t i next → Left names how stack defined ((n, i) ∷ is) w R E → Known w subject v
+  known n t u v asked subject i next is w R E starts list cut item left =
+      let h = invert t n i next is w R E starts item left in
       let same = (some_pair h.asked asked h.u u (sym h.list ∙ list)).1 in
       let one = one_subject cut_once u h.subject subject h.v v (subst (λ z. IsSubject z h.subject h.v) same h.cut) cut in
       (h.text, h.rest, ap (λ z. action_at (after_blanks z)) (sym one.1) ∙ h.ends, subst (λ z. ActsAs w z (action_of h.text)) one.0 h.acts)
@@ -404,8 +383,8 @@ module _ (names : List (List ℕ)) (how : ReadOptions) (stack : Bool) (defined :
 
   pub no_head : (t u v : List ℕ) (asked : Conditions) (anchored : Bool) (head : List ℕ) (after : Trailing) → starts_rule t ≡ true → conditions_at t ≡ Some (asked, u)
       → IsSubject u (matching anchored head after) v → NoHead head after → NoLeft t
-  no_head t u v asked anchored head after starts list cut none n w R E left =
-      let (text, rest, ends, r, spells, trail, cuts, acts) = flat (known n t u v asked (matching anchored head after) w R E starts list cut left) in none r.head r.trail r.cut spells trail cuts
+  no_head t u v asked anchored head after starts list cut none n i next is w R E item left =
+      let (text, rest, ends, r, spells, trail, cuts, acts) = flat (known n t u v asked (matching anchored head after) i next is w R E starts list cut item left) in none r.head r.trail r.cut spells trail cuts
     where
       flat : Known w (matching anchored head after) v → (text rest : List ℕ) × (action_at (after_blanks v) ≡ Some (text, rest)) × (r : Rule)
           × Spells how defined head r.head × IsTrail how defined after r.trail × IsCutOf r.head r.trail r.cut × IsSpelled (action_of text)
@@ -413,13 +392,13 @@ module _ (names : List (List ℕ)) (how : ReadOptions) (stack : Bool) (defined :
 
   pub no_action : (t u v : List ℕ) (asked : Conditions) (subject : Subject) → starts_rule t ≡ true → conditions_at t ≡ Some (asked, u)
       → IsSubject u subject v → action_at (after_blanks v) ≡ None → NoLeft t
-  no_action t u v asked subject starts list cut none n w R E left =
-      let k = known n t u v asked subject w R E starts list cut left in no_some (k.0, k.1) (action_at (after_blanks v)) k.2 none
+  no_action t u v asked subject starts list cut none n i next is w R E item left =
+      let k = known n t u v asked subject i next is w R E starts list cut item left in no_some (k.0, k.1) (action_at (after_blanks v)) k.2 none
 
   -- the action of the rule that begins a text
-  pub acts_of : (n : ℕ) (t : List ℕ) (asked : Conditions) (subject : Subject) (action : Option (List ℕ)) (rest : List ℕ) (w R : List Rule) (E : List EndRule) → IsLine t (rule asked subject action) rest
-      → Left names how stack defined n t w R E → ActsAs w subject action
-  acts_of n t asked subject action rest w R E (starts, u, v, text, list, cut, ends, is) left =
-      let k = known n t u v asked subject w R E starts list cut left in
+  pub acts_of : (n : ℕ) (t : List ℕ) (asked : Conditions) (subject : Subject) (action : Option (List ℕ)) (rest : List ℕ) (i : Item) (next : List ℕ) (is : List (ℕ × Item)) (w R : List Rule) (E : List EndRule)
+      → IsLine t (rule asked subject action) rest → IsLine t i next → Left names how stack defined ((n, i) ∷ is) w R E → ActsAs w subject action
+  acts_of n t asked subject action rest i next is w R E (starts, u, v, text, list, cut, ends, is_action) item left =
+      let k = known n t u v asked subject i next is w R E starts list cut item left in
       let same = (some_pair k.0 text k.1 rest (sym k.2 ∙ ends)).0 in
-      subst (ActsAs w subject) (ap action_of same ∙ sym is) k.3
+      subst (ActsAs w subject) (ap action_of same ∙ sym is_action) k.3

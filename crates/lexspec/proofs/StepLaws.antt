@@ -8,7 +8,7 @@ use Rattle.lexspec.specs.Items.{action_at, action_of, starts_rule}
 use Rattle.lexspec_lines.specs.Lines.{newlines}
 use Rattle.lexspec.specs.RuleViews.{rule_of}
 use Rattle.lexspec.specs.ItemReads.{names_in, ReadsFront, ReadsItem, NoRules, NoRulesAfter, NoneLeft}
-use Rattle.lexspec.specs.Agreeing.{Agrees}
+use Rattle.lexspec.specs.Agreeing.{Passes}
 use Rattle.lexspec.specs.SkipViews.{item_of, TakesItem}
 use Rattle.lexspec_lines.specs.Outcome.{UnlessMemory}
 use Rattle.lexspec_lines.specs.declared.declarations.Declarations.{Declarations}
@@ -92,24 +92,18 @@ module _ (d : Declarations) where
   plain_is Code = refl
   plain_is Block = refl
 
-  pub plain_agrees : (s : RulesSoFar) (start n : ℕ) (whole t : List ℕ) (k : Skip) (rest : List ℕ) → IsLine t (item_of k) rest → Agrees d start whole s n t
-      → Agrees d start whole s (n + (newlines t - newlines rest)) rest
-  plain_agrees s start n whole t k rest item a =
-      let b = agree_plain (names_in d) d.options d.stack d.definitions start whole (map rule_of s.rules.items) _ (map rule_of s.waiting.items) n t (item_of k) rest (plain_is k) item (record { back = a.back; on = a.on }) in
-      record { back = b.back; on = b.on }
+  pub plain_agrees : (s : RulesSoFar) (n : ℕ) (t : List ℕ) (k : Skip) (rest : List ℕ) → IsLine t (item_of k) rest → Passes d n t rest s s
+  plain_agrees s n t k rest item before a =
+      let b = agree_plain (names_in d) d.options d.stack d.definitions before (map rule_of s.rules.items) _ (map rule_of s.waiting.items) n (item_of k) (plain_is k) (record { back = a.back; on = a.on }) in
+      (item_of k, item, record { back = b.back; on = b.on })
 
-  -- where there is no item, and the section does not end, nothing is spelled
-  pub plain_refused : (s : RulesSoFar) (n : ℕ) (t : List ℕ) (e : SpecErrorKind) → 0 < length t → begins (codes "%%") t ≡ false → ((i : Item) (rest : List ℕ) → IsLine t i rest → ⊥) → UnlessMemory e (NoneLeft d s n t)
-  plain_refused s n t e some off none = always e (NoneLeft d s n t) (λ R E left may. from left.items left.here)
-    where
-      from : (is : List (ℕ × Item)) → ItemsFrom n t is → ⊥
-      from [] (inl e) = let z : length t ≡ 0 = ap length e in absurd (omega arith)
-      from [] (inr e) = both_ways (begins (codes "%%") t) e off
-      from (i ∷ is) (rest, first, item, more) = none i.1 rest item
+  -- where there is no item nothing is spelled
+  pub plain_refused : (s : RulesSoFar) (n : ℕ) (t : List ℕ) (e : SpecErrorKind) → ((i : Item) (rest : List ℕ) → IsLine t i rest → ⊥) → UnlessMemory e (NoneLeft d s n t)
+  plain_refused s n t e none = always e (NoneLeft d s n t) (λ i next is R E item left may. none i next item)
 
   pub text_refused : (s : RulesSoFar) (n : ℕ) (t : List ℕ) (e : SpecErrorKind) → UnlessMemory e (NoRules d t) → UnlessMemory e (NoneLeft d s n t)
-  text_refused s n t e h = unless_memory e (NoRules d t) (NoneLeft d s n t) (λ none R E left may. none n (map rule_of s.waiting.items) R E left) h
+  text_refused s n t e h = unless_memory e (NoRules d t) (NoneLeft d s n t) (λ none i next is R E item left may. none n i next is (map rule_of s.waiting.items) R E item left) h
 
   pub rule_refused : (s : RulesSoFar) (n : ℕ) (t : List ℕ) (x : RuleText) (e : SpecErrorKind) → ReadsItem d n t x → UnlessMemory e (NoRulesAfter d s x.front x.action.now) → UnlessMemory e (NoneLeft d s n t)
   rule_refused s n t x e reads h =
-      unless_memory e (NoRulesAfter d s x.front x.action.now) (NoneLeft d s n t) (λ none R E left may. none n t x.rest.now R E reads left may) h
+      unless_memory e (NoRulesAfter d s x.front x.action.now) (NoneLeft d s n t) (λ none. none n t x.rest.now reads) h

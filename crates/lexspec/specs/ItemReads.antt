@@ -1,16 +1,18 @@
 -- What the reader of a rule answers.
-use Rattle.std.specs.Prelude.{◌≡◌, ℕ, Bool, List, map, length, Option, Some, option_map}
+use Rattle.std.specs.Prelude.{◌≡◌, ℕ, ◌+◌, ◌<◌, Bool, true, List, ◌∷◌, ◌++◌, map, length, Option, Some, option_map}
 use Rattle.lex_semantics.specs.Spec.{Cut, Rule}
 use Rattle.lex_semantics.specs.Tree.{Tree}
 use Rattle.lexre.specs.Spelling.{Spells}
 use Rattle.lexspec_actions.specs.Names.{number_from, names_of}
-use Rattle.lexspec.specs.ItemRuns.{rule, IsLine, Trailing, at_end, matching}
+use Rattle.lexspec.specs.ItemRuns.{Item, rule, IsLine, Trailing, at_end, matching, brings_rule}
 use Rattle.lexspec.specs.Items.{Conditions, action_of}
 use Rattle.lex_semantics.specs.Sound.{IsCutOf}
 use Rattle.lexspec.specs.RuleItems.{numbers_of, EndRule}
 use Rattle.lexspec.specs.WaitingRules.{Left, IsTrail, HasHead}
 use Rattle.lexspec.specs.RuleViews.{rule_of}
-use Rattle.lexspec.specs.Keeping.{MayFollow}
+use Rattle.lexspec.specs.EndRules.{end_rule_of}
+use Rattle.lexspec.specs.Files.{AreSingle}
+use Rattle.lex_semantics.specs.Limits.{max_rules}
 use Rattle.lexspec_lines.specs.declared.declarations.Declarations.{Declarations}
 use Rattle.lexspec.specs.declared.rule_text.Front.{Front}
 use Rattle.lexspec.specs.declared.rule_text.Front.TheVariants as F
@@ -21,9 +23,10 @@ use Rattle.lexspec.specs.declared.rules_so_far.RulesSoFar.{RulesSoFar}
 abbrev pub names_in : Declarations → List (List ℕ)
 names_in d = names_of d.conditions.items
 
--- the text spells no rules from there on
+-- no item that begins the text has rules, whatever items follow it
 abbrev pub NoRules : Declarations → List ℕ → Type 0
-NoRules d t = (n : ℕ) (w R : List Rule) (E : List EndRule) → Left (names_in d) d.options d.stack d.definitions n t w R E → ⊥
+NoRules d t = (n : ℕ) (i : Item) (next : List ℕ) (is : List (ℕ × Item)) (w R : List Rule) (E : List EndRule)
+    → IsLine t i next → Left (names_in d) d.options d.stack d.definitions ((n, i) ∷ is) w R E → ⊥
 
 -- the sides of a pattern have no trees, or neither gives a cut
 abbrev pub NoSides : Declarations → List ℕ → Trailing → Type 0
@@ -51,11 +54,15 @@ ReadsFront d n t action rest (F.AtEnd numbers) = ReadsEnd d t action rest (optio
 abbrev pub ReadsItem : Declarations → ℕ → List ℕ → RuleText → Type 0
 ReadsItem d n t x = ReadsFront d n t x.action.now x.rest.now x.front
 
--- nothing that may follow is spelled from a rule on, where these rules wait
-abbrev pub NoRulesAfter : Declarations → RulesSoFar → Front → List ℕ → Type 0
-NoRulesAfter d s front action = (n : ℕ) (t rest : List ℕ) (R : List Rule) (E : List EndRule) → ReadsFront d n t action rest front
-    → Left (names_in d) d.options d.stack d.definitions n t (map rule_of s.waiting.items) R E → MayFollow d s R E → ⊥
+-- an item brings a rule only where there is room for one, and no condition has two ends
+abbrev pub MayFollow : Declarations → RulesSoFar → Item → List EndRule → Type 0
+MayFollow d s i E = (brings_rule i ≡ true → length s.rules.items + length s.waiting.items < max_rules) × AreSingle (length d.conditions.items) (map end_rule_of s.ends.items ++ E)
 
--- the text spells nothing that may follow from the line n on, where these rules wait
+-- no item that begins the text, at the line n, may follow these rules, whatever items follow it
 abbrev pub NoneLeft : Declarations → RulesSoFar → ℕ → List ℕ → Type 0
-NoneLeft d s n t = (R : List Rule) (E : List EndRule) → Left (names_in d) d.options d.stack d.definitions n t (map rule_of s.waiting.items) R E → MayFollow d s R E → ⊥
+NoneLeft d s n t = (i : Item) (next : List ℕ) (is : List (ℕ × Item)) (R : List Rule) (E : List EndRule)
+    → IsLine t i next → Left (names_in d) d.options d.stack d.definitions ((n, i) ∷ is) (map rule_of s.waiting.items) R E → MayFollow d s i E → ⊥
+
+-- so for a rule with this front and this action
+abbrev pub NoRulesAfter : Declarations → RulesSoFar → Front → List ℕ → Type 0
+NoRulesAfter d s front action = (n : ℕ) (t rest : List ℕ) → ReadsFront d n t action rest front → NoneLeft d s n t

@@ -62,6 +62,16 @@ abbrev pub ItemsFrom : ℕ → List ℕ → List (ℕ × Item) → Type 0
 ItemsFrom n t [] = (t ≡ []) ⊎ (begins (codes "%%") t ≡ true)
 ItemsFrom n t (i ∷ is) = (rest : List ℕ) × (i.0 ≡ n) × IsLine t i.1 rest × ItemsFrom (n + (newlines t - newlines rest)) rest is
 
+-- these items begin the text, whose first line is n, and this is left at the line m
+abbrev pub ItemsUpTo : ℕ → List ℕ → List (ℕ × Item) → ℕ → List ℕ → Type 0
+ItemsUpTo n t [] m rest = (n ≡ m) × (t ≡ rest)
+ItemsUpTo n t (i ∷ is) m rest = (next : List ℕ) × (i.0 ≡ n) × IsLine t i.1 next × ItemsUpTo (n + (newlines t - newlines next)) next is m rest
+
+-- the item is a rule with a pattern
+abbrev pub brings_rule : Item → Bool
+brings_rule (rule asked (matching anchored head trail) action) = true
+brings_rule _ = false
+
 -- nothing is left, or a line that begins with `%%`
 abbrev pub EndsRules : List ℕ → Type 0
 EndsRules t = (t ≡ []) ⊎ (begins (codes "%%") t ≡ true)

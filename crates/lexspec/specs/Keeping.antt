@@ -1,8 +1,6 @@
 -- What the rules that are read so far keep to.
-use Rattle.std.specs.Prelude.{◌+◌, ◌<◌, ◌≤◌, List, ◌++◌, map, length}
-use Rattle.lex_semantics.specs.Spec.{Rule}
+use Rattle.std.specs.Prelude.{◌+◌, ◌<◌, ◌≤◌, map, length}
 use Rattle.lexspec.specs.Files.{AreSingle}
-use Rattle.lexspec.specs.RuleItems.{EndRule}
 use Rattle.lexspec.specs.SoundSides.{HasSoundRules}
 use Rattle.lexspec.specs.EndRules.{end_rule_of}
 use Rattle.lexspec_lines.specs.declared.declarations.Declarations.{Declarations}
@@ -21,7 +19,3 @@ pub record Keeps (d : Declarations) (s : RulesSoFar) : Type 0 where
   pub sound : HasSoundRules s
   pub single : AreSingle (length d.conditions.items) (map end_rule_of s.ends.items)
   pub few : length s.rules.items + length s.waiting.items ≤ max_rules
-
--- these rules and these `<<EOF>>` rules may go on after them
-abbrev pub MayFollow : Declarations → RulesSoFar → List Rule → List EndRule → Type 0
-MayFollow d s R E = (length s.rules.items + length R ≤ max_rules) × AreSingle (length d.conditions.items) (map end_rule_of s.ends.items ++ E)

@@ -5,6 +5,7 @@ pub mod Items
 pub mod ItemRuns
 pub mod Skipped
 pub mod RuleItems
+pub mod FaultLines
 pub mod Files
 pub mod Fixed
 pub mod ActionSteps

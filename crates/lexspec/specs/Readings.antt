@@ -12,6 +12,8 @@ use Rattle.lexspec.specs.RuleViews.{rule_of}
 use Rattle.lexspec.specs.EndRules.{end_rule_of}
 use Rattle.lexspec.specs.Files.{AreSingle}
 use Rattle.lexspec.specs.Endings.{conditions_with}
+use Rattle.lexspec.specs.FaultLines.{IsFirstFault}
+use Rattle.lexre_bytes.specs.declared.refusals.SpecError.{SpecError}
 use Rattle.lexspec_lines.specs.Declaring.{declared_of}
 use Rattle.lexspec.specs.ItemReads.{names_in}
 use Rattle.lexspec_lines.specs.declared.declarations.Declarations.{Declarations}
@@ -33,6 +35,12 @@ pub record SpellsRest (s : Section) (S : Spec) : Type 0 where
   pub one_end : AreSingle (length s.declarations.conditions.items) ends
   pub conditions : S.conditions ≡ conditions_with 0 (map declared_of s.declarations.conditions.items) ends
   pub few_rules : length S.rules ≤ max_rules
+
+-- what follows the first section spells none, and its first faulty line is told
+pub record IsRefusedRest (s : Section) (e : SpecError) : Type 0 where
+  pub none : (S : Spec) → SpellsRest s S → ⊥
+  pub first : IsFirstFault (names_in s.declarations) s.declarations.options s.declarations.stack s.declarations.definitions (s.line + 1) (line_in s.rest.now).1 e
+  pub line : 1 ≤ e.line
 
 -- the lines at which code was skipped are those of the first section, and of what follows it
 pub record SkipsRest (s : Section) (lines : List ℕ) : Type 0 where

@@ -6,6 +6,8 @@ use Rattle.lexspec.specs.RuleItems.{EndRule}
 use Rattle.lexspec.specs.RuleViews.{rule_of}
 use Rattle.lexspec.specs.EndRules.{end_rule_of}
 use Rattle.lexspec.specs.Files.{AreSingle}
+use Rattle.lexspec.specs.FaultLines.{IsFirstFault}
+use Rattle.lexre_bytes.specs.declared.refusals.SpecError.{SpecError}
 use Rattle.lexspec.specs.ItemReads.{names_in}
 use Rattle.lex_semantics.specs.Sound.{HaveSoundSides}
 use Rattle.lexspec_lines.specs.declared.declarations.Declarations.{Declarations}
@@ -28,6 +30,12 @@ pub record HasRules (d : Declarations) (n : ℕ) (text : List ℕ) (s : RulesSec
 abbrev pub NoSuchRules : Declarations → ℕ → List ℕ → Type 0
 NoSuchRules d n text = (items : List (ℕ × Item)) (rules : List Rule) (ends : List EndRule) → ItemsFrom n text items → RulesFrom (names_in d) d.options d.stack d.definitions items rules ends
     → length rules ≤ max_rules → AreSingle (length d.conditions.items) ends → ⊥
+
+-- a refusal: the items spell no rules, and the first faulty line is told
+pub record IsRefused (d : Declarations) (n : ℕ) (text : List ℕ) (e : SpecError) : Type 0 where
+  pub none : NoSuchRules d n text
+  pub first : IsFirstFault (names_in d) d.options d.stack d.definitions n text e
+  pub from_first : n ≤ e.line
 
 -- the line of the last rule that waits for an action, or else n
 abbrev pub line_of_last : ℕ → List RuleKept → ℕ

@@ -77,10 +77,8 @@ abbrev pub may_wait : List Rule → List (ℕ × Item) → Bool
 may_wait [] is = true
 may_wait (w ∷ ws) is = goes_to_rule None is
 
--- the rules and `<<EOF>>` rules that a text spells from the line n on, after rules that wait for the next action
-pub record Left (names : List (List ℕ)) (how : ReadOptions) (stack : Bool) (defined : Definitions) (n : ℕ) (t : List ℕ) (waiting rules : List Rule) (ends : List EndRule) : Type 0 where
-  pub items : List (ℕ × Item)
-  pub here : ItemsFrom n t items
+-- the rules and `<<EOF>>` rules of these items, after rules that wait for the next action
+pub record Left (names : List (List ℕ)) (how : ReadOptions) (stack : Bool) (defined : Definitions) (items : List (ℕ × Item)) (waiting rules : List Rule) (ends : List EndRule) : Type 0 where
   pub later : List Rule
   pub are : RulesFrom names how stack defined items later ends
   pub next : may_wait waiting items ≡ true

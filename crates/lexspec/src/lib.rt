@@ -19,10 +19,14 @@
 //! - `laws`: a file spells one specification, what passes the tests is sound; worked examples.
 //!
 //! `read_spec` promises the one specification that the file spells, sound by its type; what is refused spells none,
-//! unless memory ran out. A part of the reader may change alone. `Spec` and `Rule` may not: automata and tables are
-//! made of them.
+//! unless memory ran out. In the rules section it tells the first faulty line (`specs/FaultLines`), and line 0 just
+//! where the file is too long. A part of the reader may change alone. `Spec` and `Rule` may not: automata and tables
+//! are made of them.
 //!
 //! Decided here:
+//! - The first faulty line is said by items: those before it may begin a rules section, and with the one there they may
+//!   not, whatever items follow. So what the rules read so far spell is said for any items behind them
+//!   (`specs/Agreeing`), and not for one text.
 //! - A rule that is one too many, and a second `<<EOF>>` rule of a condition, are refused where they stand. So their
 //!   own lines are reported, and the rest of the file is not looked at. `^<<EOF>>` counts as a rule with a pattern
 //!   until it is refused.

@@ -2,8 +2,9 @@
 ghost use Rattle.std.specs.Prelude.{◌≡◌, ◌≤◌, ◌+◌, ◌++◌, true, length, IfOk, IfErr};
 ghost use Rattle.lex_semantics.specs.Spec.{Spec as Meant};
 ghost use Rattle.lexspec.specs.Files.{SpellsSpec};
+ghost use Rattle.lexspec.specs.FaultLines.{TellsLength, TellsRules};
 ghost use Rattle.lexspec_lines.specs.Outcome.{UnlessMemory};
-ghost use Rattle.lexspec.specs.Readings.{of_sections, SpellsRest, SkipsRest};
+ghost use Rattle.lexspec.specs.Readings.{of_sections, IsRefusedRest, SpellsRest, SkipsRest};
 ghost use Rattle.lexspec.specs.Skipped.{user_section, AreSkipped};
 ghost use Rattle.lexspec.specs.Tests.{is_sound};
 ghost use Rattle.lexspec.specs.Views.{spec_of, skipped_in};
@@ -68,7 +69,7 @@ fn read_on(alloc: Global, section: Section<'_>) -> Result<Spec, SpecError>
     requires line { section.line ≤ max_file_bytes + 1 }
     ensures found { IfOk result (λ s. SpellsRest section.entry (spec_of s)) }
     ensures skipped { IfOk result (λ s. SkipsRest section.entry (skipped_in s)) }
-    ensures none { IfErr result (λ e. UnlessMemory e.kind ((S : Meant) → SpellsRest section.entry S → ⊥)) }
+    ensures refused { IfErr result (λ e. UnlessMemory e.kind (IsRefusedRest section.entry e)) }
 {
     let Section {
         declarations,
@@ -98,6 +99,8 @@ pub fn read_spec(alloc: Global, text: &[u8], options: ReadOptions) -> Result<Spe
     ensures found { IfOk result (λ s. SpellsSpec options text.now (spec_of s)) }
     ensures skipped { IfOk result (λ s. AreSkipped text.now (skipped_in s)) }
     ensures none { IfErr result (λ e. UnlessMemory e.kind ((S : Meant) → SpellsSpec options text.now S → ⊥)) }
+    ensures too_long { IfErr result (λ e. UnlessMemory e.kind (TellsLength text.now e)) }
+    ensures rules { IfErr result (λ e. UnlessMemory e.kind (TellsRules options text.now e)) }
 {
     if text.len() > MAX_FILE_BYTES {
         return Err(SpecError {

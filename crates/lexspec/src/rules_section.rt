@@ -3,7 +3,7 @@ ghost use Rattle.std.specs.Prelude.{◌≡◌, ◌+◌, ◌≤◌, List, length,
 ghost use Rattle.lexspec_lines.specs.Lines.{newlines};
 ghost use Rattle.lexspec.specs.ItemRuns.{IsLine, code_of_item};
 ghost use Rattle.lexspec.specs.KeptNames.{AreKept};
-ghost use Rattle.lexspec.specs.SectionReads.{HasRules, NoSuchRules, line_of_last};
+ghost use Rattle.lexspec.specs.SectionReads.{HasRules, IsRefused, line_of_last};
 ghost use Rattle.lexspec_lines.specs.Outcome.{UnlessMemory};
 ghost use Rattle.lexspec_lines.specs.SkippedCode.{Code};
 ghost use Rattle.lexspec_lines.specs.Skips.{TellsCode, TellsPieces};
@@ -78,7 +78,7 @@ pub(crate) fn read_rules<'a>(
     ensures line { IfOk result (λ s. s.line + newlines s.rest.now ≡ first + newlines text.now) }
     ensures code { IfOk result (λ s. (before : List Code) → TellsCode before skipped.old
         → TellsPieces before IsLine code_of_item (first + newlines text.now) text.now s.rest.now skipped.new) }
-    ensures none { IfErr result (λ e. UnlessMemory e.kind (NoSuchRules declarations.now first text.now)) }
+    ensures refused { IfErr result (λ e. UnlessMemory e.kind (IsRefused declarations.now first text.now e)) }
 {
     let mut progress = RulesSoFar::new(alloc);
     let mut rest = text;
@@ -95,10 +95,9 @@ pub(crate) fn read_rules<'a>(
         ) {
             Ok(found) => found,
             Err(kind) => {
-                let line = if kind == SpecErrorKind::DanglingBar {
-                    waiting
-                } else {
-                    line
+                let line = match kind {
+                    SpecErrorKind::DanglingBar => waiting,
+                    _ => line,
                 };
                 return Err(SpecError { line, kind });
             }

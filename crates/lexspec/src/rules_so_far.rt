@@ -1,14 +1,13 @@
 //! The rules that are read so far, and the same after one item more. (POSIX, lex, Actions in lex; flex, End-of-File.)
-ghost use Rattle.std.specs.Prelude.{◌≡◌, ℕ, ◌+◌, ◌-◌, ◌<◌, ◌≤◌, ◌^◌, List, [], false};
-ghost use Rattle.std.specs.Prelude.{length, take, codes, IfOk, IfErr, OnOk};
+ghost use Rattle.std.specs.Prelude.{◌≡◌, ◌+◌, ◌<◌, ◌≤◌, ◌^◌, [], false};
+ghost use Rattle.std.specs.Prelude.{length, codes, IfOk, IfErr, OnOk};
 ghost use Rattle.lex_semantics.specs.Reading.{begins};
-ghost use Rattle.lexspec_lines.specs.Lines.{newlines};
 ghost use Rattle.lexspec.specs.ItemRuns.{code_of_item};
 ghost use Rattle.lexspec.specs.ItemReads.{NoneLeft, NoRulesAfter};
-ghost use Rattle.lexspec.specs.Agreeing.{Agrees, GoesOn};
+ghost use Rattle.lexspec.specs.Agreeing.{GoesOn, IsTaken};
 ghost use Rattle.lexspec.specs.Keeping.{HasRoom, Keeps};
 ghost use Rattle.lexspec.specs.KeptNames.{AreKept};
-ghost use Rattle.lexspec.specs.SkipViews.{item_of, TakesItem};
+ghost use Rattle.lexspec.specs.SkipViews.{item_of};
 ghost use Rattle.lexspec.specs.EndOpenings.{begins_end};
 ghost use Rattle.lexspec.specs.SectionReads.{line_of_last};
 ghost use Rattle.lexspec_lines.specs.Outcome.{UnlessMemory};
@@ -191,19 +190,11 @@ impl RulesSoFar {
     ) -> Result<(RulesSoFar, &'a [u8]), SpecErrorKind>
         requires few { length declarations.now.conditions.items ≤ max_conditions }
         requires known_so_far { AreKept declarations.now names.old }
-        requires some { 0 < length text.now }
-        requires no_end { begins (codes "%%") text.now ≡ false }
+        requires starts { (0 < length text.now) × (begins (codes "%%") text.now ≡ false) }
         requires line { line + 1 < 2 ^ 32 }
         requires room { length self.rules.items + length self.waiting.items ≤ max_rules }
-        ensures found { IfOk result (λ x. (start : ℕ) (whole : List ℕ)
-            → Agrees declarations.now start whole self line text.now
-            → Agrees declarations.now start whole x.0 (line + (newlines text.now - newlines x.1.now)) x.1.now) }
-        ensures keeps { IfOk result (λ x. Keeps declarations.now self → Keeps declarations.now x.0) }
+        ensures taken { IfOk result (λ x. IsTaken declarations.now line text.now x.1.now self x.0 skipped.old skipped.new) }
         ensures known { OnOk result (AreKept declarations.now names.new) }
-        ensures code { IfOk result (λ x. TakesItem line text.now x.1.now skipped.old skipped.new) }
-        ensures counts { IfOk result (λ x. newlines
-            (take (length text.now - length x.1.now) text.now) + newlines x.1.now ≡ newlines text.now) }
-        ensures shorter { IfOk result (λ x. length x.1.now < length text.now) }
         ensures none { IfErr result (λ e. UnlessMemory e (NoneLeft declarations.now self line text.now)) }
     {
         let plain = match skip_at(text) {

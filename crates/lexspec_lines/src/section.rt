@@ -38,6 +38,7 @@ pub fn read_section(
     ensures none { IfErr result (λ e. UnlessMemory e.kind ((ds : List Meant) (after : List ℕ)
         → IsUpTo definition_at text.now ds after
         → begins (codes "%%") after ≡ true → AreAllowed ds → ⊥)) }
+    ensures line { IfErr result (λ e. UnlessMemory e.kind (1 ≤ e.line)) }
 {
     let mut declarations = Declarations::new(alloc, options)?;
     let mut rest = text;

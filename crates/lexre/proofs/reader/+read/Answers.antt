@@ -1,11 +1,11 @@
-use Rattle.std.proofs.Common.{ℕ, ◌-◌, List, rules, ◌∙◌, sym, subst, ap, arith}
+use Rattle.std.proofs.Common.{◌≡◌, ℕ, ◌-◌, List, rules, ◌∙◌, sym, subst, ap, arith}
 use Rattle.std.proofs.lemmas.Result.{err_from_is_err_and}
 use Rattle.std.specs.FinMap.{get, insert}
 use Rattle.lex_semantics.specs.Tree.{Tree}
 use Rattle.lexre_bytes.specs.Lexical.{symbol_at}
 use Rattle.lexre.specs.Cycles.{AllLeadToText}
 use Rattle.lexre.specs.Names.{Trees, AreKnown, open_of, trees_of}
-use Rattle.lexre.specs.Reading.{lowered}
+use Rattle.lexre.specs.Reading.{StandsIn, lowered}
 use Rattle.lexre.specs.StackViews.{state_of}
 use Rattle.lexre.specs.SymbolViews.{symbol_of}
 use Rattle.lexre_bytes.specs.Symbols.{item}
@@ -57,13 +57,10 @@ read_within-step-requires t c =
       (
         search rules,
         (
-          c.in-Ok.ensures.sound,
+          (c.in-Ok.ensures.sound, c.loop-rest.invariant.sound),
           (
-            c.loop-rest.invariant.sound,
-            (
-              c.loop-rest.invariant.known,
-              all_lead_front c.args.scope.options c.args.scope.definitions.now _ c.args.text.now c.loop-rest.rest.now c.in-Ok.found.1.now _ lead c.loop-rest.invariant.ends c.in-Ok.ensures.front,
-            ),
+            c.loop-rest.invariant.known,
+            all_lead_front c.args.scope.options c.args.scope.definitions.now _ c.args.text.now c.loop-rest.rest.now c.in-Ok.found.1.now _ lead c.loop-rest.invariant.ends c.in-Ok.ensures.front,
           ),
         ),
       ),
@@ -81,12 +78,12 @@ read_within-loop-rest-smaller t c = symbol_takes c.args.scope.options.fold c.loo
 pub read_within-loop-rest-preserved : goal.read_within-loop-rest-preserved
 read_within-loop-rest-preserved t c = record {
   agree = agree_step c.args.scope.options.posix (symbol_at c.args.scope.options.fold) (get c.args.scope.definitions.now) (nothing_at c.args.scope.options.fold) (state_of c.loop-rest.stack) (state_of c.step.new.stack) _ c.loop-rest.rest.now c.in-Ok.found.1.now c.args.text.now _
-      c.in-Ok.ensures.front c.in-Ok-step.ensures.found c.loop-rest.invariant.agree;
+      c.in-Ok.ensures.front c.in-Ok-step.ensures.stepped.found c.loop-rest.invariant.agree;
   within = (let k = c.loop-rest.invariant.within in
-      let e = step_limit c.args.scope.options.posix (symbol_at c.args.scope.options.fold) (get c.args.scope.definitions.now) (nothing_at c.args.scope.options.fold) _ (state_of c.loop-rest.stack) (state_of c.step.new.stack) c.in-Ok-step.ensures.found in omega arith);
-  counted = (let k = c.loop-rest.invariant.counted in omega (arith, c.in-Ok-step.ensures.counted));
-  few = (let k = c.loop-rest.invariant.few in omega (arith, c.in-Ok-step.ensures.few));
-  sound = c.in-Ok-step.ensures.sound;
+      let e = step_limit c.args.scope.options.posix (symbol_at c.args.scope.options.fold) (get c.args.scope.definitions.now) (nothing_at c.args.scope.options.fold) _ (state_of c.loop-rest.stack) (state_of c.step.new.stack) c.in-Ok-step.ensures.stepped.found in omega arith);
+  counted = (let k = c.loop-rest.invariant.counted in omega (arith, c.in-Ok-step.ensures.stepped.counted));
+  few = (let k = c.loop-rest.invariant.few in omega (arith, c.in-Ok-step.ensures.stepped.few));
+  sound = c.in-Ok-step.ensures.stepped.sound;
   known = c.in-Ok-step.ensures.known;
   same_open = c.in-Ok-step.ensures.same_open ∙ c.loop-rest.invariant.same_open;
   ends = ends_step c.args.scope.options.posix (symbol_at c.args.scope.options.fold) (get c.args.scope.definitions.now) (nothing_at c.args.scope.options.fold) c.args.text.now c.loop-rest.rest.now c.in-Ok.found.1.now _
@@ -95,21 +92,10 @@ read_within-loop-rest-preserved t c = record {
       let k = c.min-spare.ensures in
       let j = c.loop-rest.invariant.below_now in
       agree_step c.args.scope.options.posix (symbol_at c.args.scope.options.fold) (get c.args.scope.definitions.now) (nothing_at c.args.scope.options.fold) (lowered e (state_of c.loop-rest.stack)) (lowered e (state_of c.step.new.stack)) _ c.loop-rest.rest.now c.in-Ok.found.1.now c.args.text.now _
-      c.in-Ok.ensures.front (c.in-Ok-step.ensures.lowered e (omega arith) (omega arith)) (c.loop-rest.invariant.lower e (omega arith));
+      c.in-Ok.ensures.front (c.in-Ok-step.ensures.stepped.lower e (omega arith) (omega arith)) (c.loop-rest.invariant.lower e (omega arith));
   below = (let k = c.min-spare.ensures in let j = c.loop-rest.invariant.below in omega arith);
-  below_now = (let k = c.min-spare.ensures in omega (arith, c.in-Ok-step.ensures.spare));
+  below_now = (let k = c.min-spare.ensures in omega (arith, c.in-Ok-step.ensures.stepped.spare));
 }
-
-pub read_within-returns-in-Ok-finish-clause-found : goal.read_within-returns-in-Ok-finish-clause-found
-read_within-returns-in-Ok-finish-clause-found t c =
-    found_at_end c.args.scope.options.posix (symbol_at c.args.scope.options.fold) (get c.args.scope.definitions.now) (nothing_at c.args.scope.options.fold) (c.args.left - c.loop-rest.spare) (lowered c.loop-rest.spare (state_of c.loop-rest.stack)) c.loop-rest.rest.now c.args.text.now
-    (tree_of c.in-Ok-finish.pattern) (c.loop-rest.invariant.lower c.loop-rest.spare (omega arith)) (nothing_left _ (search rules))
-    (finished_lower c.loop-rest.spare (state_of c.loop-rest.stack) ∙ c.in-Ok-finish.ensures)
-
-pub read_within-returns-in-Ok-finish-clause-few : goal.read_within-returns-in-Ok-finish-clause-few
-read_within-returns-in-Ok-finish-clause-few t c =
-    few_at_end c.args.scope.options.posix (symbol_at c.args.scope.options.fold) (get c.args.scope.definitions.now) (nothing_at c.args.scope.options.fold) c.args.room (state_of c.loop-rest.stack) (tree_of c.in-Ok-finish.pattern) c.in-Ok-finish.ensures
-    (let k = c.loop-rest.invariant.counted in let h = c.loop-rest.invariant.few in omega arith)
 
 pub read_within-returns-in-Err-UnbalancedParen-clause-none : goal.read_within-returns-in-Err-UnbalancedParen-clause-none
 read_within-returns-in-Err-UnbalancedParen-clause-none t c =
@@ -118,18 +104,12 @@ read_within-returns-in-Err-UnbalancedParen-clause-none t c =
 
 pub read_within-returns-in-Err-finish : goal.read_within-returns-in-Err-finish
 read_within-returns-in-Err-finish t c = record {
-  found = tt;
-  spare = tt;
-  few = tt;
-  sound = tt;
+  read = tt;
   known = c.loop-rest.invariant.known;
   same_open = tt;
   none = refused_end c.args.scope.options.posix (symbol_at c.args.scope.options.fold) (get c.args.scope.definitions.now) (nothing_at c.args.scope.options.fold) c.in-Err-finish.kind c.args.room c.args.left (state_of c.loop-rest.stack) c.loop-rest.rest.now c.args.text.now
       c.loop-rest.invariant.agree (nothing_left _ (search rules)) c.in-Err-finish.ensures;
 }
-
-pub read_within-returns-in-Ok-finish-clause-sound : goal.read_within-returns-in-Ok-finish-clause-sound
-read_within-returns-in-Ok-finish-clause-sound t c = sound_finished (state_of c.loop-rest.stack) (tree_of c.in-Ok-finish.pattern) c.loop-rest.invariant.sound c.in-Ok-finish.ensures
 
 pub read_name-returns-then-kept-room-clause-none : goal.read_name-returns-then-kept-room-clause-none
 read_name-returns-then-kept-room-clause-none t c =
@@ -176,15 +156,9 @@ read_name-returns-in_ok-keep-in-Ok-clause-known t c =
     let Q : Tree → Type 0 = λ x. P (insert (trees_of c.leave.new.self) c.args.name.now (x, c.args.left - c.in-Ok.field-0.spare)) in
     subst P (sym c.in_ok-keep-in-Ok.ensures.trees) (subst Q (sym c.in_ok-share-in-Ok.ensures)
     (still_known c.args.scope.options c.args.scope.definitions.now (trees_of c.leave.new.self) c.args.name.now (tree_of c.in-Ok.field-0.tree.pattern) (c.args.left - c.in-Ok.field-0.spare) closed
-    (spared_name c.args.scope.options c.args.scope.definitions.now c.args.left c.in-Ok.field-0.spare c.args.name.now _ (tree_of c.in-Ok.field-0.tree.pattern) c.if-left-eq0.false c.in-Ok.ensures.spare
-    (sym c.in-Some-find.ensures) c.in-Ok.ensures.found)
-    c.in-Ok.ensures.sound))
-
-pub read_name-returns-in-Some-clause-sound : goal.read_name-returns-in-Some-clause-sound
-read_name-returns-in-Some-clause-sound t c =
-    rw c.in_ok-share.ensures
-    (known_usable c.args.scope.options c.args.scope.definitions.now (trees_of c.args.names.now) c.args.left c.args.name.now (tree_of c.in-Some.kept.now.tree.pattern) c.in-Some.kept.now.needed
-    c.requires.known_so_far (sym c.in-Some.ensures)).2
+    (spared_name c.args.scope.options c.args.scope.definitions.now c.args.left c.in-Ok.field-0.spare c.args.name.now _ (tree_of c.in-Ok.field-0.tree.pattern) c.if-left-eq0.false c.in-Ok.ensures.read.spare
+    (sym c.in-Some-find.ensures) c.in-Ok.ensures.read.found)
+    c.in-Ok.ensures.read.sound))
 
 pub step-returns-in_err-tree-in-Name-clause-none : goal.step-returns-in_err-tree-in-Name-clause-none
 step-returns-in_err-tree-in-Name-clause-none t c =
@@ -195,61 +169,11 @@ pub step-returns-then-taken-room-clause-none : goal.step-returns-then-taken-room
 step-returns-then-taken-room-clause-none t c = elim c.match-symbol.branch [
   | step-in-Name+in_ok-tree-in-Name+in_ok-nodes-in-Name w ↦
       rw w.in-Name.is (too_many_named c.args.scope.options c.args.scope.definitions.now c.args.room c.match-symbol.taken.nodes (state_of c.args.stack.now) w.in-Name.name.now (tree_of w.in_ok-tree-in-Name.field-0.tree.pattern)
-      (stands_rises c.args.scope.options c.args.scope.definitions.now (c.args.stack.now.left - w.in_ok-tree-in-Name.field-0.spare) c.args.stack.now.left w.in-Name.name.now (tree_of w.in_ok-tree-in-Name.field-0.tree.pattern) w.in_ok-tree-in-Name.ensures.found (omega arith))
+      (stands_rises c.args.scope.options c.args.scope.definitions.now (c.args.stack.now.left - w.in_ok-tree-in-Name.field-0.spare) c.args.stack.now.left w.in-Name.name.now (tree_of w.in_ok-tree-in-Name.field-0.tree.pattern) w.in_ok-tree-in-Name.ensures.read.found (omega arith))
       (ap nodes_of w.taken-is ∙ w.in_ok-nodes-in-Name.ensures.1) c.if-taken-room.true)
   | step-in_default+in_ok-nodes-in_default w ↦
       too_many_plain c.args.scope.options c.args.scope.definitions.now c.args.room c.match-symbol.taken.nodes (state_of c.args.stack.now) (state_of w.take.new.self) (symbol_of c.args.symbol) (symbol_adds c.args.symbol)
       w.in_ok-nodes-in_default.ensures.0 (ap nodes_of w.taken-is ∙ w.in_ok-nodes-in_default.ensures.1) c.if-taken-room.true
-]
-
-pub step-returns-clause-found : goal.step-returns-clause-found
-step-returns-clause-found t c = elim c.match-symbol.branch [
-  | step-in-Name+in_ok-tree-in-Name+in_ok-nodes-in-Name w ↦
-      rw (w.stack-is, w.in-Name.is) (steps_name c.args.scope.options c.args.scope.definitions.now (state_of c.args.stack.now) (state_of w.push.new.self) w.in-Name.name.now (tree_of w.in_ok-tree-in-Name.field-0.tree.pattern)
-      (stands_rises c.args.scope.options c.args.scope.definitions.now (c.args.stack.now.left - w.in_ok-tree-in-Name.field-0.spare) c.args.stack.now.left w.in-Name.name.now (tree_of w.in_ok-tree-in-Name.field-0.tree.pattern) w.in_ok-tree-in-Name.ensures.found (omega arith))
-      w.in_ok-nodes-in-Name.ensures.0)
-  | step-in_default+in_ok-nodes-in_default w ↦
-      rw w.stack-is (steps_from c.args.scope.options c.args.scope.definitions.now (symbol_of c.args.symbol) (state_of c.args.stack.now) (state_of w.take.new.self)
-      (plain_of c.args.scope.options.posix (symbol_of c.args.symbol) (state_of c.args.stack.now) (state_of w.take.new.self) w.in_ok-nodes-in_default.ensures.0) w.in_ok-nodes-in_default.ensures.0)
-]
-
-pub step-returns-clause-lowered : goal.step-returns-clause-lowered
-step-returns-clause-lowered t c = elim c.match-symbol.branch [
-  | step-in-Name+in_ok-tree-in-Name+in_ok-nodes-in-Name w ↦ λ e h h'.
-      rw (w.stack-is, w.in-Name.is) (name_lower c.args.scope.options c.args.scope.definitions.now e w.in_ok-tree-in-Name.field-0.spare (state_of c.args.stack.now) (state_of w.push.new.self) w.in-Name.name.now
-      (tree_of w.in_ok-tree-in-Name.field-0.tree.pattern) (let k = ap spare_of w.taken-is in omega arith) w.in_ok-tree-in-Name.ensures.found w.in_ok-nodes-in-Name.ensures.0)
-  | step-in_default+in_ok-nodes-in_default w ↦ λ e h h'.
-      let plain = plain_of c.args.scope.options.posix (symbol_of c.args.symbol) (state_of c.args.stack.now) (state_of w.take.new.self) w.in_ok-nodes-in_default.ensures.0 in
-      rw w.stack-is (steps_from c.args.scope.options c.args.scope.definitions.now (symbol_of c.args.symbol) (lowered e (state_of c.args.stack.now)) (lowered e (state_of w.take.new.self)) plain
-      (step_lower c.args.scope.options.posix e (symbol_of c.args.symbol) (state_of c.args.stack.now) (state_of w.take.new.self) h (let k = ap spare_of w.taken-is in omega arith) w.in_ok-nodes-in_default.ensures.0))
-]
-
-pub step-returns-clause-spare : goal.step-returns-clause-spare
-step-returns-clause-spare t c = elim c.match-symbol.branch [
-  | step-in-Name+in_ok-tree-in-Name+in_ok-nodes-in-Name w ↦
-      let k = ap spare_of w.taken-is in
-      let same = ap left_of (some_is _ _ w.in_ok-nodes-in-Name.ensures.0) in
-      rw w.stack-is (omega (arith, w.in_ok-tree-in-Name.ensures.spare))
-  | step-in_default+in_ok-nodes-in_default w ↦ (let k = ap spare_of w.taken-is in rw w.stack-is (omega arith))
-]
-
-pub step-returns-clause-counted : goal.step-returns-clause-counted
-step-returns-clause-counted t c = elim c.match-symbol.branch [
-  | step-in-Name+in_ok-tree-in-Name+in_ok-nodes-in-Name w ↦
-      rw w.stack-is (counted_plain c.args.scope.options.posix c.args.room c.match-symbol.taken.nodes (state_of c.args.stack.now) (state_of w.push.new.self) (item (tree_of w.in_ok-tree-in-Name.field-0.tree.pattern)) tt
-      w.in_ok-nodes-in-Name.ensures.0 (ap nodes_of w.taken-is ∙ w.in_ok-nodes-in-Name.ensures.1) c.if-taken-room.false c.requires.room)
-  | step-in_default+in_ok-nodes-in_default w ↦
-      rw w.stack-is (counted_plain c.args.scope.options.posix c.args.room c.match-symbol.taken.nodes (state_of c.args.stack.now) (state_of w.take.new.self) (symbol_of c.args.symbol) (symbol_adds c.args.symbol)
-      w.in_ok-nodes-in_default.ensures.0 (ap nodes_of w.taken-is ∙ w.in_ok-nodes-in_default.ensures.1) c.if-taken-room.false c.requires.room)
-]
-
-pub step-returns-clause-sound : goal.step-returns-clause-sound
-step-returns-clause-sound t c = elim c.match-symbol.branch [
-  | step-in-Name+in_ok-tree-in-Name+in_ok-nodes-in-Name w ↦
-      rw w.stack-is (sound_step c.args.scope.options.posix (item (tree_of w.in_ok-tree-in-Name.field-0.tree.pattern)) (state_of c.args.stack.now) (state_of w.push.new.self) w.in_ok-tree-in-Name.ensures.sound c.requires.sound_so_far
-      w.in_ok-nodes-in-Name.ensures.0)
-  | step-in_default+in_ok-nodes-in_default w ↦
-      rw w.stack-is (sound_step c.args.scope.options.posix (symbol_of c.args.symbol) (state_of c.args.stack.now) (state_of w.take.new.self) (sound_symbol c.args.symbol c.requires.sound) c.requires.sound_so_far w.in_ok-nodes-in_default.ensures.0)
 ]
 
 pub step-returns-clause-known : goal.step-returns-clause-known
@@ -263,3 +187,81 @@ step-returns-then-taken-room-clause-known t c = elim c.match-symbol.branch [
   | step-in-Name+in_ok-tree-in-Name+in_ok-nodes-in-Name w ↦ rw w.names-is w.in_ok-tree-in-Name.ensures.known
   | step-in_default+in_ok-nodes-in_default w ↦ rw w.names-is c.requires.known_so_far
 ]
+
+pub read_within-returns-in-Ok-finish-clause-read : goal.read_within-returns-in-Ok-finish-clause-read
+read_within-returns-in-Ok-finish-clause-read t c = record {
+  found = found_at_end c.args.scope.options.posix (symbol_at c.args.scope.options.fold) (get c.args.scope.definitions.now) (nothing_at c.args.scope.options.fold) (c.args.left - c.loop-rest.spare) (lowered c.loop-rest.spare (state_of c.loop-rest.stack)) c.loop-rest.rest.now c.args.text.now
+      (tree_of c.in-Ok-finish.pattern) (c.loop-rest.invariant.lower c.loop-rest.spare (omega arith)) (nothing_left _ (search rules))
+      (finished_lower c.loop-rest.spare (state_of c.loop-rest.stack) ∙ c.in-Ok-finish.ensures);
+  spare = c.loop-rest.invariant.below;
+  few = few_at_end c.args.scope.options.posix (symbol_at c.args.scope.options.fold) (get c.args.scope.definitions.now) (nothing_at c.args.scope.options.fold) c.args.room (state_of c.loop-rest.stack) (tree_of c.in-Ok-finish.pattern) c.in-Ok-finish.ensures
+      (let k = c.loop-rest.invariant.counted in let h = c.loop-rest.invariant.few in omega arith);
+  sound = sound_finished (state_of c.loop-rest.stack) (tree_of c.in-Ok-finish.pattern) c.loop-rest.invariant.sound c.in-Ok-finish.ensures;
+}
+
+pub read_name-returns-in-Some-clause-read : goal.read_name-returns-in-Some-clause-read
+read_name-returns-in-Some-clause-read t c =
+    let tree = tree_of c.in-Some.kept.now.tree.pattern in
+    let (below, stands, sound) = known_usable c.args.scope.options c.args.scope.definitions.now (trees_of c.args.names.now) c.args.left c.args.name.now tree c.in-Some.kept.now.needed
+    c.requires.known_so_far (sym c.in-Some.ensures) in
+    let e : c.in-Some.kept.now.needed ≡ c.args.left - (c.args.left - c.in-Some.kept.now.needed) = omega (arith, below) in
+    rw c.in_ok-share.ensures (record {
+      found = subst (λ k. StandsIn c.args.scope.options c.args.scope.definitions.now k c.args.name.now tree) e stands;
+      spare = omega arith;
+      few = omega (arith, c.in-Some.kept.now.tree.counted, c.if-kept-room.false);
+      sound = sound;
+    })
+
+pub read_name-returns-in_ok-keep-in-Ok-clause-read : goal.read_name-returns-in_ok-keep-in-Ok-clause-read
+read_name-returns-in_ok-keep-in-Ok-clause-read t c = record {
+  found = spared_name c.args.scope.options c.args.scope.definitions.now c.args.left c.in-Ok.field-0.spare c.args.name.now _ (tree_of c.in-Ok.field-0.tree.pattern) c.if-left-eq0.false c.in-Ok.ensures.read.spare
+      (sym c.in-Some-find.ensures) c.in-Ok.ensures.read.found;
+  spare = omega (arith, c.in-Ok.ensures.read.spare);
+  few = c.in-Ok.ensures.read.few;
+  sound = c.in-Ok.ensures.read.sound;
+}
+
+pub step-returns-clause-stepped : goal.step-returns-clause-stepped
+step-returns-clause-stepped t c = record {
+  found = elim c.match-symbol.branch [
+    | step-in-Name+in_ok-tree-in-Name+in_ok-nodes-in-Name w ↦
+        rw (w.stack-is, w.in-Name.is) (steps_name c.args.scope.options c.args.scope.definitions.now (state_of c.args.stack.now) (state_of w.push.new.self) w.in-Name.name.now (tree_of w.in_ok-tree-in-Name.field-0.tree.pattern)
+        (stands_rises c.args.scope.options c.args.scope.definitions.now (c.args.stack.now.left - w.in_ok-tree-in-Name.field-0.spare) c.args.stack.now.left w.in-Name.name.now (tree_of w.in_ok-tree-in-Name.field-0.tree.pattern) w.in_ok-tree-in-Name.ensures.read.found (omega arith))
+        w.in_ok-nodes-in-Name.ensures.0)
+    | step-in_default+in_ok-nodes-in_default w ↦
+        rw w.stack-is (steps_from c.args.scope.options c.args.scope.definitions.now (symbol_of c.args.symbol) (state_of c.args.stack.now) (state_of w.take.new.self)
+        (plain_of c.args.scope.options.posix (symbol_of c.args.symbol) (state_of c.args.stack.now) (state_of w.take.new.self) w.in_ok-nodes-in_default.ensures.0) w.in_ok-nodes-in_default.ensures.0)
+  ];
+  spare = elim c.match-symbol.branch [
+    | step-in-Name+in_ok-tree-in-Name+in_ok-nodes-in-Name w ↦
+        let k = ap spare_of w.taken-is in
+        let same = ap left_of (some_is _ _ w.in_ok-nodes-in-Name.ensures.0) in
+        rw w.stack-is (omega (arith, w.in_ok-tree-in-Name.ensures.read.spare))
+    | step-in_default+in_ok-nodes-in_default w ↦ (let k = ap spare_of w.taken-is in rw w.stack-is (omega arith))
+  ];
+  lower = elim c.match-symbol.branch [
+    | step-in-Name+in_ok-tree-in-Name+in_ok-nodes-in-Name w ↦ λ e h h'.
+        rw (w.stack-is, w.in-Name.is) (name_lower c.args.scope.options c.args.scope.definitions.now e w.in_ok-tree-in-Name.field-0.spare (state_of c.args.stack.now) (state_of w.push.new.self) w.in-Name.name.now
+        (tree_of w.in_ok-tree-in-Name.field-0.tree.pattern) (let k = ap spare_of w.taken-is in omega arith) w.in_ok-tree-in-Name.ensures.read.found w.in_ok-nodes-in-Name.ensures.0)
+    | step-in_default+in_ok-nodes-in_default w ↦ λ e h h'.
+        let plain = plain_of c.args.scope.options.posix (symbol_of c.args.symbol) (state_of c.args.stack.now) (state_of w.take.new.self) w.in_ok-nodes-in_default.ensures.0 in
+        rw w.stack-is (steps_from c.args.scope.options c.args.scope.definitions.now (symbol_of c.args.symbol) (lowered e (state_of c.args.stack.now)) (lowered e (state_of w.take.new.self)) plain
+        (step_lower c.args.scope.options.posix e (symbol_of c.args.symbol) (state_of c.args.stack.now) (state_of w.take.new.self) h (let k = ap spare_of w.taken-is in omega arith) w.in_ok-nodes-in_default.ensures.0))
+  ];
+  few = omega (arith, c.if-taken-room.false);
+  sound = elim c.match-symbol.branch [
+    | step-in-Name+in_ok-tree-in-Name+in_ok-nodes-in-Name w ↦
+        rw w.stack-is (sound_step c.args.scope.options.posix (item (tree_of w.in_ok-tree-in-Name.field-0.tree.pattern)) (state_of c.args.stack.now) (state_of w.push.new.self) w.in_ok-tree-in-Name.ensures.read.sound c.requires.sound.1
+        w.in_ok-nodes-in-Name.ensures.0)
+    | step-in_default+in_ok-nodes-in_default w ↦
+        rw w.stack-is (sound_step c.args.scope.options.posix (symbol_of c.args.symbol) (state_of c.args.stack.now) (state_of w.take.new.self) (sound_symbol c.args.symbol c.requires.sound.0) c.requires.sound.1 w.in_ok-nodes-in_default.ensures.0)
+  ];
+  counted = elim c.match-symbol.branch [
+    | step-in-Name+in_ok-tree-in-Name+in_ok-nodes-in-Name w ↦
+        rw w.stack-is (counted_plain c.args.scope.options.posix c.args.room c.match-symbol.taken.nodes (state_of c.args.stack.now) (state_of w.push.new.self) (item (tree_of w.in_ok-tree-in-Name.field-0.tree.pattern)) tt
+        w.in_ok-nodes-in-Name.ensures.0 (ap nodes_of w.taken-is ∙ w.in_ok-nodes-in-Name.ensures.1) c.if-taken-room.false c.requires.room)
+    | step-in_default+in_ok-nodes-in_default w ↦
+        rw w.stack-is (counted_plain c.args.scope.options.posix c.args.room c.match-symbol.taken.nodes (state_of c.args.stack.now) (state_of w.take.new.self) (symbol_of c.args.symbol) (symbol_adds c.args.symbol)
+        w.in_ok-nodes-in_default.ensures.0 (ap nodes_of w.taken-is ∙ w.in_ok-nodes-in_default.ensures.1) c.if-taken-room.false c.requires.room)
+  ];
+}

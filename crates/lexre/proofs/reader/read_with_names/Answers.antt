@@ -19,6 +19,9 @@ read_within-requires-clause-lead c =
 
 pub returns-in-Ok-clause-found : goal.returns-in-Ok-clause-found
 returns-in-Ok-clause-found c = (
-  spelled_rises c.args.options.posix (symbol_at c.args.options.fold) (get c.args.definitions.now) (64 - c.in-Ok.field-0.spare) 64 c.args.text.now (tree_of c.in-Ok.field-0.tree.pattern) c.in-Ok.ensures.found (omega arith),
-  c.in-Ok.ensures.few,
+  spelled_rises c.args.options.posix (symbol_at c.args.options.fold) (get c.args.definitions.now) (64 - c.in-Ok.field-0.spare) 64 c.args.text.now (tree_of c.in-Ok.field-0.tree.pattern) c.in-Ok.ensures.read.found (omega arith),
+  c.in-Ok.ensures.read.few,
 )
+
+pub returns-in-Ok-clause-sound : goal.returns-in-Ok-clause-sound
+returns-in-Ok-clause-sound c = c.in-Ok.ensures.read.sound

@@ -1,5 +1,5 @@
 use Rattle.std.proofs.Common.{rules, ◌≤◌, ◌∙◌, length, arith}
-use Rattle.lexspec.proofs.ReadingLaws.{kept_short, rest_short, line_few, read_found, all_skipped, read_none, section_none}
+use Rattle.lexspec.proofs.ReadingLaws.{kept_short, rest_short, line_few, read_found, all_skipped, read_none, read_rules_told, read_length_told, section_none, section_told}
 use Rattle.lexspec.proofs.reading.read_spec.Goals as goal
 use Rattle.lex_semantics.specs.Limits.{max_file_bytes}
 
@@ -31,8 +31,20 @@ returns-in-Ok-clause-skipped c =
 
 pub returns-in-Ok-clause-none : goal.returns-in-Ok-clause-none
 returns-in-Ok-clause-none c =
-    read_none c.read_on.result c.args.options c.args.text.now c.deref.result.now c.in-Ok.section (c.deref.ensures.value ∙ c.in_ok-kept.ensures) c.in-Ok.ensures.found c.read_on.ensures.none
+    read_none c.read_on.result c.args.options c.args.text.now c.deref.result.now c.in-Ok.section (c.deref.ensures.value ∙ c.in_ok-kept.ensures) c.in-Ok.ensures.found c.read_on.ensures.refused
 
 pub returns-clause-none : goal.returns-clause-none
 returns-clause-none c =
     section_none c.args.options c.args.text.now c.deref.result.now c.in-Err.fault.kind (c.deref.ensures.value ∙ c.in_ok-kept.ensures) c.in-Err.ensures.none
+
+pub returns-in-Ok-clause-rules : goal.returns-in-Ok-clause-rules
+returns-in-Ok-clause-rules c =
+    read_rules_told c.read_on.result c.args.options c.args.text.now c.deref.result.now c.in-Ok.section (c.deref.ensures.value ∙ c.in_ok-kept.ensures) c.in-Ok.ensures.found c.read_on.ensures.refused
+
+pub returns-in-Ok-clause-too_long : goal.returns-in-Ok-clause-too_long
+returns-in-Ok-clause-too_long c =
+    let few : length c.args.text.now ≤ max_file_bytes = search rules in
+    read_length_told c.read_on.result c.args.text.now c.in-Ok.section few c.read_on.ensures.refused
+
+pub returns-clause-rules : goal.returns-clause-rules
+returns-clause-rules c = section_told c.args.options c.args.text.now c.deref.result.now c.in-Err.fault (c.deref.ensures.value ∙ c.in_ok-kept.ensures) c.in-Err.ensures.none

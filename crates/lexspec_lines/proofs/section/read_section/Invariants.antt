@@ -10,6 +10,7 @@ invariant-lines l = record {
   read : Reading l.fn.options l.text l.declarations l.rest;
   line : l.line + newlines l.rest ≡ 1 + newlines l.text;
   code : TellsPieces [] IsDefinition code_of_definition (1 + newlines l.text) l.text l.rest l.declarations.skipped;
+  counted : 1 ≤ l.line;
   shorter : length l.rest ≤ length l.text;
 }
 

@@ -11,30 +11,11 @@ use Rattle.lexspec.proofs.rules_so_far.RulesSoFar.with_item.Goals as goal
 use Rattle.lex_semantics.specs.Limits.{max_rules}
 
 pub returns-in-Err-clause-none : goal.returns-in-Err-clause-none
-returns-in-Err-clause-none c = plain_refused c.args.declarations.now c.args.self c.args.line c.args.text.now c.in-Err.kind c.requires.some c.requires.no_end c.in-Err.ensures.none
-
-pub returns-in-Some-clause-found : goal.returns-in-Some-clause-found
-returns-in-Some-clause-found c = λ start whole a.
-    plain_agrees c.args.declarations.now c.args.self start c.args.line whole c.args.text.now c.in-Some.skip c.in-Some.rest.now (rw c.in-Some.is at c.in-Ok.ensures.found) a
-
-pub returns-in-Some-clause-code : goal.returns-in-Some-clause-code
-returns-in-Some-clause-code c = record { item = item_of c.in-Some.skip; here = rw c.in-Some.is at c.in-Ok.ensures.found; code = c.in_ok-add_skip.ensures }
-
-pub returns-in-Ok-with_rule-clause-code : goal.returns-in-Ok-with_rule-clause-code
-returns-in-Ok-with_rule-clause-code c = reads_code c.args.declarations.now c.args.line c.args.text.now c.in-Ok-read_rule_text.found c.args.skipped.now c.in-Ok-read_rule_text.ensures.found
-
-pub returns-in-Some-clause-counts : goal.returns-in-Some-clause-counts
-returns-in-Some-clause-counts c = newlines_front c.args.text.now c.in-Some.rest.now (item_ends c.args.text.now (item_of c.in-Some.skip) c.in-Some.rest.now (rw c.in-Some.is at c.in-Ok.ensures.found))
+returns-in-Err-clause-none c = plain_refused c.args.declarations.now c.args.self c.args.line c.args.text.now c.in-Err.kind c.in-Err.ensures.none
 
 pub returns-in-Err-read_rule_text-clause-none : goal.returns-in-Err-read_rule_text-clause-none
 returns-in-Err-read_rule_text-clause-none c =
     text_refused c.args.declarations.now c.args.self c.args.line c.args.text.now c.in-Err-read_rule_text.kind c.in-Err-read_rule_text.ensures.none
-
-pub returns-in-Ok-with_rule-clause-counts : goal.returns-in-Ok-with_rule-clause-counts
-returns-in-Ok-with_rule-clause-counts c = reads_counts c.args.declarations.now c.args.line c.args.text.now c.in-Ok-read_rule_text.found c.in-Ok-read_rule_text.ensures.found
-
-pub returns-in-Ok-with_rule-clause-shorter : goal.returns-in-Ok-with_rule-clause-shorter
-returns-in-Ok-with_rule-clause-shorter c = reads_shorter c.args.declarations.now c.args.line c.args.text.now c.in-Ok-read_rule_text.found c.in-Ok-read_rule_text.ensures.found
 
 pub returns-in-Err-with_rule-clause-none : goal.returns-in-Err-with_rule-clause-none
 returns-in-Err-with_rule-clause-none c =
@@ -50,18 +31,29 @@ returns-then-len-ge-MAX_RULES-clause-none c =
     full_refused c.args.declarations.now c.args.self c.args.line c.args.text.now (rw c.in_default.is at c.in-Ok.ensures.rule) (sym c.begins_end.ensures ∙ c.if-begins_end.false)
     (search rules)
 
-pub returns-in-Ok-with_rule-clause-found : goal.returns-in-Ok-with_rule-clause-found
-returns-in-Ok-with_rule-clause-found c = λ start whole a.
-    c.in-Ok-with_rule.ensures.found start c.args.line whole c.args.text.now c.in-Ok-read_rule_text.found.rest.now c.in-Ok-read_rule_text.ensures.found a
-
 has_place : (c : goal.In-Ok-with_rule) → begins_end c.args.text.now ≡ false → length c.args.self.rules.items + length c.args.self.waiting.items < max_rules
 has_place c = elim c.if-begins_end.branch [
   | then-begins_end+else-not-is_empty w ↦ λ off. no_true (sym off ∙ sym c.begins_end.ensures ∙ w.if-begins_end.true)
   | else-begins_end+else-len-ge-MAX_RULES w ↦ λ off. search rules
 ]
 
-pub returns-in-Ok-with_rule-clause-keeps : goal.returns-in-Ok-with_rule-clause-keeps
-returns-in-Ok-with_rule-clause-keeps c = λ k.
-    c.in-Ok-with_rule.ensures.keeps c.in-Ok-read_rule_text.ensures.sound
-    (has_room c.args.declarations.now c.args.self c.args.line c.args.text.now c.in-Ok-read_rule_text.found.action.now c.in-Ok-read_rule_text.found.rest.now c.in-Ok-read_rule_text.found.front
-    c.in-Ok-read_rule_text.ensures.found (has_place c)) k
+pub returns-in-Some-clause-taken : goal.returns-in-Some-clause-taken
+returns-in-Some-clause-taken c = record {
+  found = plain_agrees c.args.declarations.now c.args.self c.args.line c.args.text.now c.in-Some.skip c.in-Some.rest.now (rw c.in-Some.is at c.in-Ok.ensures.found);
+  keeps = λ k. k;
+  code = record { item = item_of c.in-Some.skip; here = rw c.in-Some.is at c.in-Ok.ensures.found; code = c.in_ok-add_skip.ensures };
+  counts = newlines_front c.args.text.now c.in-Some.rest.now (item_ends c.args.text.now (item_of c.in-Some.skip) c.in-Some.rest.now (rw c.in-Some.is at c.in-Ok.ensures.found));
+  shorter = rw c.in-Some.is at c.in-Ok.ensures.shorter;
+}
+
+pub returns-in-Ok-with_rule-clause-taken : goal.returns-in-Ok-with_rule-clause-taken
+returns-in-Ok-with_rule-clause-taken c = record {
+  found = c.in-Ok-with_rule.ensures.found c.args.line c.args.text.now c.in-Ok-read_rule_text.found.rest.now c.in-Ok-read_rule_text.ensures.found;
+  keeps = (λ k.
+      c.in-Ok-with_rule.ensures.keeps c.in-Ok-read_rule_text.ensures.sound
+      (has_room c.args.declarations.now c.args.self c.args.line c.args.text.now c.in-Ok-read_rule_text.found.action.now c.in-Ok-read_rule_text.found.rest.now c.in-Ok-read_rule_text.found.front
+      c.in-Ok-read_rule_text.ensures.found (has_place c)) k);
+  code = reads_code c.args.declarations.now c.args.line c.args.text.now c.in-Ok-read_rule_text.found c.args.skipped.now c.in-Ok-read_rule_text.ensures.found;
+  counts = reads_counts c.args.declarations.now c.args.line c.args.text.now c.in-Ok-read_rule_text.found c.in-Ok-read_rule_text.ensures.found;
+  shorter = reads_shorter c.args.declarations.now c.args.line c.args.text.now c.in-Ok-read_rule_text.found c.in-Ok-read_rule_text.ensures.found;
+}
