@@ -4,6 +4,8 @@ ghost use Rattle.std.specs.Prelude.{Ok, Err, IfSome, IsErrOf};
 ghost use Rattle.std.specs.Coded.{→_prop};
 ghost use Rattle.lex_semantics.specs.Text.{AllBelow};
 ghost use Rattle.lexscan_window.specs.Intakes.{can_read, can_write};
+ghost use Rattle.lexscan_matching.specs.Looks.{LimitFirst};
+ghost use Rattle.lex_semantics.specs.MachineLaws.{SomeReject};
 ghost use Rattle.lex_semantics.specs.ByteSets.{bit_of};
 ghost use Rattle.lexscan_window.specs.Reads.{read_fault_count, write_fault_count, end_step};
 ghost use Rattle.lexscan_window.specs.Memos.{AreTrue, AreTrue-prop};
@@ -116,6 +118,9 @@ impl<'a, M: Machine, S: Source, K: Sink> Scanner<'a, M, S, K> {
         ensures too_many { IsErrOf result RunError.TooManyReads →
             ((scanner_state self.new).reading.taken ≡ (scanner_state self.new).reading.max_reads)
             × ((scanner_state self.new).reading.at_end ≡ false) }
+        ensures limit_first { (scanner_state self.old).failed ≡ false → (scanner_state self.old).ended ≡ None
+            → LimitFirst (M.machine (scanner_machine self.old)) (SomeReject (M.machine (scanner_machine self.old)))
+            (scanner_state self.old).place (scanner_state self.old).reading (scanner_state self.new).reading result }
     {
         self.scan.turn(self.machine, &mut self.ends)
     }
