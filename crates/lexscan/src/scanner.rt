@@ -84,6 +84,9 @@ impl<'a, M: Machine, S: Source, K: Sink> Scanner<'a, M, S, K> {
         ensures same_machine { scanner_machine self.new ≡ scanner_machine self.old }
         ensures same_source { scanner_source_name self.new ≡ scanner_source_name self.old }
         ensures same_sink { scanner_sink_name self.new ≡ scanner_sink_name self.old }
+        ensures limit_first { (scanner_state self.old).failed ≡ false → (scanner_state self.old).ended ≡ None
+            → LimitFirst (M.machine (scanner_machine self.old)) (SomeReject (M.machine (scanner_machine self.old)))
+            (scanner_state self.old).place (scanner_state self.old).reading (scanner_state self.new).reading result }
         ensures goes_on { (got : List ℕ) × (wrote : List ℕ)
             × S.gave (scanner_source self.old) got (scanner_source self.new)
             × K.wrote (scanner_sink self.old) wrote (scanner_sink self.new)
@@ -118,9 +121,6 @@ impl<'a, M: Machine, S: Source, K: Sink> Scanner<'a, M, S, K> {
         ensures too_many { IsErrOf result RunError.TooManyReads →
             ((scanner_state self.new).reading.taken ≡ (scanner_state self.new).reading.max_reads)
             × ((scanner_state self.new).reading.at_end ≡ false) }
-        ensures limit_first { (scanner_state self.old).failed ≡ false → (scanner_state self.old).ended ≡ None
-            → LimitFirst (M.machine (scanner_machine self.old)) (SomeReject (M.machine (scanner_machine self.old)))
-            (scanner_state self.old).place (scanner_state self.old).reading (scanner_state self.new).reading result }
     {
         self.scan.turn(self.machine, &mut self.ends)
     }
