@@ -16,7 +16,9 @@ use Rattle.lexscan_matching.specs.Descends.{Conditions, conditions_at, matches_o
 use Rattle.lexscan.specs.TurnSteps.{MatchLeft, Acted, TurnStep, next_bytes, stays, is_over}
 use Rattle.lexscan_window.specs.Memos.{Barren, IsTrueMark, AreTrue}
 use Rattle.lexscan_matching.specs.Backs.{IsSettled}
+use Rattle.lexscan_matching.specs.Looks.{Wants}
 use Rattle.lexscan_matching.proofs.Growing.{took_none}
+use Rattle.lexscan_matching.proofs.Limiting.{not_looked}
 use Rattle.lexscan_matching.proofs.Barrens.{true_dropped, true_grown, Further, further}
 use Rattle.lexscan.proofs.Leaving.{matched_moved}
 
@@ -60,7 +62,19 @@ module _ {K : Type 0} (M : Machine) (wrote : K → List ℕ → K → Type 0) (t
   fault_same : Faulted M wrote t t' r.window.bytes p.at (matches_of M r.window.bytes p.at path) c → Faulted M wrote t t' r.window.bytes p.at (matches_of M r.window.bytes p.at path') c
   fault_same h = subst (λ ms. Faulted M wrote t t' r.window.bytes p.at ms c) all_same h
 
--- a match whose longest text is known from the bytes held
+-- a match whose longest text is known from the bytes held: it has asked for no more
+settled_far : (M : Machine) (states : ℕ) (old : State) (a : Settled) → IsSettled M states old.place old.reading a → Further M old.place old.reading a.keep
+settled_far M states old a h =
+    further M old.place old.reading (omega (arith, h.inside)) (drop (old.place.at + a.keep) old.reading.window.bytes) a.keep a.state (M.goes_on a.state) refl refl h.some h.so_far
+    (subst (λ q. Barren M old.reading.at_end q (drop (old.place.at + a.keep) old.reading.window.bytes)) (sym kept) (h.barren a.keep (omega arith) h.order))
+  where
+    kept : a.state ≡ state_at M old.place old.reading.window.bytes a.keep
+    kept = h.so_far.state_is
+
+pub settled_asks : {S : Type 0} (M : Machine) (states : ℕ) (gave : S → List ℕ → S → Type 0) (s : S) (old : State) (a : Settled) → gave s [] s → IsSettled M states old.place old.reading a → old.reading.taken ≡ old.reading.max_reads → Wants M old.place old.reading → ⊥
+settled_asks M states gave s old a none h = not_looked M old.place gave s s old.reading old.reading (took_none gave s old.reading none) _ (settled_far M states old a h).looked
+
+-- such a match
 pub settled_moved : {S K : Type 0} (M : Machine) (states : ℕ) (gave : S → List ℕ → S → Type 0) (wrote : K → List ℕ → K → Type 0) (fails : K → ℕ) (s : S) (t t' : K) (live : Bool) (old new : State) (a : Settled) (result : Result Turn RunError) →
     gave s [] s → IsSettled M states old.place old.reading a → MatchLeft M wrote fails t t' live old new (path_of M old.place old.reading.window.bytes a.keep) result → TurnStep M gave wrote s s t t' old new result
 settled_moved M states gave wrote fails s t t' live old new a result none h left =
@@ -80,10 +94,5 @@ settled_moved M states gave wrote fails s t t' live old new a result none h left
       max_reads = left.max_reads;
     })
   where
-    kept : a.state ≡ state_at M old.place old.reading.window.bytes a.keep
-    kept = h.so_far.state_is
-
     far : Further M old.place old.reading a.keep
-    far =
-        further M old.place old.reading (omega (arith, h.inside)) (drop (old.place.at + a.keep) old.reading.window.bytes) a.keep a.state (M.goes_on a.state) refl refl h.some h.so_far
-        (subst (λ q. Barren M old.reading.at_end q (drop (old.place.at + a.keep) old.reading.window.bytes)) (sym kept) (h.barren a.keep (omega arith) h.order))
+    far = settled_far M states old a h

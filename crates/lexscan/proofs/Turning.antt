@@ -12,30 +12,33 @@ use Rattle.lexscan_window.specs.declared.error.RunError.{RunError}
 use Rattle.lexscan.specs.declared.scan.Ends.{Ends}
 use Rattle.lexscan.specs.declared.scan.Scan.{Scan}
 use Rattle.lexscan.specs.declared.turn.Turn.{Turn}
+use Rattle.lexscan_matching.specs.Looks.{LimitFirst}
 use Rattle.lexscan.specs.TurnSteps.{TurnStep}
 use Rattle.lexscan.specs.Ties.{HandedOn}
 use Rattle.lexscan.specs.Turns.{StepLeft, TurnCounts}
 use Rattle.lexscan.specs.Scans.{IsGoing, SameEnds, MayTurn, MatchMade, TurnMade}
+use Rattle.lexscan_matching.proofs.Limiting.{known_keeper}
 use Rattle.lexscan.proofs.Making.{turn_made, turn_refused}
 use Rattle.lexscan.proofs.Ranging as Range
 use Rattle.lexscan.proofs.Settling.{true_moved}
 
 module _ {S K : Type 0} {of_source : Source.Ghosts S} {of_sink : Sink.Ghosts K} (M : Machine) (e e' : Ends S K of_source of_sink) (old new : Scan) where
   -- a match was made, and the marks are true after it
-  pub match_made : (result : Result Turn RunError) → SameEnds e e' → HandedOn (of_sink.flushed (sink_of e'.outlet)) result → TurnStep M of_source.gave of_sink.wrote (source_of e.intake) (source_of e'.intake) (sink_of e.outlet) (sink_of e'.outlet) old.state new.state result →
+  pub match_made : {keeps : Type 0} (result : Result Turn RunError) → SameEnds e e' → HandedOn (of_sink.flushed (sink_of e'.outlet)) result → TurnStep M of_source.gave of_sink.wrote (source_of e.intake) (source_of e'.intake) (sink_of e.outlet) (sink_of e'.outlet) old.state new.state result →
       StepLeft M (can_read e'.intake) (can_write e'.outlet) old.state new.state result → TurnCounts of_source.ends of_source.failures of_sink.failures (source_of e.intake) (source_of e'.intake) (sink_of e.outlet) (sink_of e'.outlet) old.state.reading new.state.reading result →
-      AreTrue M old.state.reading new.memo → MatchMade M e e' old new result
-  match_made result same handed turn_step left counts marks = record {
+      AreTrue M old.state.reading new.memo → LimitFirst M keeps old.state.place old.state.reading new.state.reading result → MatchMade M keeps e e' old new result
+  match_made result same handed turn_step left counts marks limit = record {
     same = same;
     handed_on = handed;
     turn_step = turn_step;
     left = left;
     counts = counts;
     marks = true_moved M of_source.gave of_sink.wrote _ _ _ _ old.state new.state new.memo result turn_step marks;
+    limit = limit;
   }
 
   -- a turn was made
-  pub made : MachineLaws M → (turn : Turn) → IsGoing old → MayTurn M e old → MatchMade M e e' old new (Ok turn) → TurnMade M e e' old new (Ok turn)
+  pub made : {keeps : Type 0} → MachineLaws M → (turn : Turn) → IsGoing old → MayTurn M e old → MatchMade M keeps e e' old new (Ok turn) → TurnMade M keeps e e' old new (Ok turn)
   made laws turn going ready h = record {
     same = h.same;
     handed_on = h.handed_on;
@@ -43,6 +46,7 @@ module _ {S K : Type 0} {of_source : Source.Ghosts S} {of_sink : Sink.Ghosts K} 
     counts = h.counts;
     refused = h.left.refused;
     too_many = λ is. absurd (no is);
+    limit = h.limit;
     next = record {
       may_read = λ _ _ e. h.left.may_read e;
       may_write = λ _. h.left.may_write;
@@ -57,7 +61,7 @@ module _ {S K : Type 0} {of_source : Source.Ghosts S} {of_sink : Sink.Ghosts K} 
       no p = cc
 
   -- a turn was refused
-  pub refused : MachineLaws M → (error : RunError) → IsGoing old → MayTurn M e old → MatchMade M e e' old new (Err error) → TurnMade M e e' old (record new { state = record new.state { failed = true } }) (Err error)
+  pub refused : {keeps : Type 0} → MachineLaws M → (error : RunError) → IsGoing old → MayTurn M e old → MatchMade M keeps e e' old new (Err error) → TurnMade M keeps e e' old (record new { state = record new.state { failed = true } }) (Err error)
   refused laws error going ready h = record {
     same = h.same;
     handed_on = h.handed_on;
@@ -65,5 +69,19 @@ module _ {S K : Type 0} {of_source : Source.Ghosts S} {of_sink : Sink.Ghosts K} 
     counts = h.counts;
     refused = h.left.refused;
     too_many = grind (arith, common_steps);
+    limit = h.limit;
     next = grind (arith, common_steps);
+  }
+
+  -- a turn by states that are kept where some rule has REJECT, or else by the last two
+  pub for_any : {keeps keeps' : Type 0} (result : Result Turn RunError) → (keeps → keeps') → TurnMade M keeps e e' old new result → TurnMade M keeps' e e' old new result
+  for_any result known h = record {
+    same = h.same;
+    handed_on = h.handed_on;
+    goes_on = h.goes_on;
+    counts = h.counts;
+    refused = h.refused;
+    too_many = h.too_many;
+    limit = known_keeper M _ _ _ _ _ result known h.limit;
+    next = h.next;
   }

@@ -4,6 +4,8 @@ use Rattle.lex_io.specs.declared.source.Source as Source
 use Rattle.lex_io.specs.declared.sink.Sink as Sink
 use Rattle.lex_semantics.specs.Text.{AllBelow}
 use Rattle.lex_semantics.specs.Machine.{Machine, rules_of_machine}
+use Rattle.lex_semantics.specs.MachineLaws.{SomeReject}
+use Rattle.lexscan_matching.specs.Looks.{LimitFirst}
 use Rattle.lexscan.specs.declared.scan.Ends.{Ends}
 use Rattle.lexscan.specs.declared.scan.Scan.{Scan}
 use Rattle.lexscan.specs.declared.turn.Turn.{Turn}
@@ -45,22 +47,24 @@ module _ {S K : Type 0} {of_source : Source.Ghosts S} {of_sink : Sink.Ghosts K} 
 
   -- A match was looked for and carried out, or the end action was, or the turn is refused: what it did to the scan, to its ends
   -- and to their counts.
-  pub record MatchMade (M : Machine) (e e' : Ends S K of_source of_sink) (old new : Scan) (result : Result Turn RunError) : Type 0 where
+  pub record MatchMade (M : Machine) (keeps_states : Type 0) (e e' : Ends S K of_source of_sink) (old new : Scan) (result : Result Turn RunError) : Type 0 where
     pub same : SameEnds e e'
     pub handed_on : HandedOn (of_sink.flushed (sink_of e'.outlet)) result
     pub turn_step : TurnStep M of_source.gave of_sink.wrote (source_of e.intake) (source_of e'.intake) (sink_of e.outlet) (sink_of e'.outlet) old.state new.state result
     pub left : StepLeft M (can_read e'.intake) (can_write e'.outlet) old.state new.state result
     pub counts : TurnCounts of_source.ends of_source.failures of_sink.failures (source_of e.intake) (source_of e'.intake) (sink_of e.outlet) (sink_of e'.outlet) old.state.reading new.state.reading result
     pub marks : OnOk result (AreTrue M new.state.reading new.memo)
+    pub limit : LimitFirst M keeps_states old.state.place old.state.reading new.state.reading result
 
   -- A turn of a scan that had neither failed nor ended.
-  pub record TurnMade (M : Machine) (e e' : Ends S K of_source of_sink) (old new : Scan) (result : Result Turn RunError) : Type 0 where
+  pub record TurnMade (M : Machine) (keeps_states : Type 0) (e e' : Ends S K of_source of_sink) (old new : Scan) (result : Result Turn RunError) : Type 0 where
     pub same : SameEnds e e'
     pub handed_on : HandedOn (of_sink.flushed (sink_of e'.outlet)) result
     pub goes_on : MakesTurn M of_source.gave of_sink.wrote (source_of e.intake) (source_of e'.intake) (sink_of e.outlet) (sink_of e'.outlet) old.state new.state result
     pub counts : TurnCounts of_source.ends of_source.failures of_sink.failures (source_of e.intake) (source_of e'.intake) (sink_of e.outlet) (sink_of e'.outlet) old.state.reading new.state.reading result
     pub refused : IsErrOf result Failed → ⊥
     pub too_many : IsErrOf result TooManyReads → (new.state.reading.taken ≡ new.state.reading.max_reads) × (new.state.reading.at_end ≡ false)
+    pub limit : LimitFirst M keeps_states old.state.place old.state.reading new.state.reading result
     pub next : MayTurn M e' new
 
   -- A turn of any scan: after a refusal or the end it changes nothing.
@@ -73,6 +77,7 @@ module _ {S K : Type 0} {of_source : Source.Ghosts S} {of_sink : Sink.Ghosts K} 
     pub refused : IsErrOf result Failed → old.state.failed ≡ true
     pub after_end : (status : ℕ) → old.state.failed ≡ false → old.state.ended ≡ Some status → (result ≡ Ok (Turn.Ended status)) × (source_of e'.intake ≡ source_of e.intake) × (sink_of e'.outlet ≡ sink_of e.outlet) × (new.state ≡ old.state)
     pub too_many : IsErrOf result TooManyReads → (new.state.reading.taken ≡ new.state.reading.max_reads) × (new.state.reading.at_end ≡ false)
+    pub limit : old.state.failed ≡ false → old.state.ended ≡ None → LimitFirst M (SomeReject M) old.state.place old.state.reading new.state.reading result
     pub next : MayTurn M e' new
 
   -- Several turns in one go, over the bytes held and those that the source has ready; or the turn after some was refused, since

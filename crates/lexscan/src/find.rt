@@ -1,5 +1,5 @@
 //! The match at the place of a scan is looked for; then it is carried out, or the end action is.
-ghost use Rattle.std.specs.Prelude.{◌≡◌, ◌<◌, ◌≤◌, length, true};
+ghost use Rattle.std.specs.Prelude.{◌≡◌, ◌<◌, ◌≤◌, length, true, ⊤};
 ghost use Rattle.lex_semantics.specs.MachineLaws.{NoReject};
 ghost use Rattle.lexscan_matching.specs.Backs.{IsOpen};
 ghost use Rattle.lexscan.specs.Scans.{IsGoing, MayTurn, MatchMade};
@@ -28,6 +28,7 @@ pub fn has_backlog(state: &State) -> bool
 
 impl Scan {
     /// One match with its actions, or the end action, by the states after each byte.
+    #[tactic(auto, using(lexscan_matching::proofs::Limiting::given_up))]
     pub fn match_with_reject<M: Machine, S: Source, K: Sink>(
         &mut self,
         machine: &M,
@@ -35,7 +36,7 @@ impl Scan {
     ) -> Result<Turn, RunError>
         requires going { IsGoing self.old }
         requires ready { MayTurn (M.machine machine.now) ends.old self.old }
-        ensures { MatchMade (M.machine machine.now) ends.old ends.new self.old self.new result }
+        ensures { MatchMade (M.machine machine.now) ⊤ ends.old ends.new self.old self.new result }
     {
         let place = self.state.place;
         match look_ahead(
@@ -54,6 +55,7 @@ impl Scan {
     }
 
     /// The same for a machine without REJECT, by the last two states.
+    #[tactic(auto, using(lexscan_matching::proofs::Limiting::given_up))]
     #[inline(always)]
     pub fn match_without_reject<M: Machine, S: Source, K: Sink>(
         &mut self,
@@ -63,7 +65,7 @@ impl Scan {
         requires no_reject { NoReject (M.machine machine.now) }
         requires going { IsGoing self.old }
         requires ready { MayTurn (M.machine machine.now) ends.old self.old }
-        ensures { MatchMade (M.machine machine.now) ends.old ends.new self.old self.new result }
+        ensures { MatchMade (M.machine machine.now) ⊥ ends.old ends.new self.old self.new result }
     {
         let place = self.state.place;
         match look_ahead_last(
@@ -81,6 +83,7 @@ impl Scan {
     }
 
     /// The same where the match asks for all the bytes held, and for one more.
+    #[tactic(auto, using(lexscan_matching::proofs::Limiting::given_up))]
     fn match_past_held<M: Machine, S: Source, K: Sink>(
         &mut self,
         machine: &M,
@@ -92,7 +95,7 @@ impl Scan {
         requires ready { MayTurn (M.machine machine.now) ends.old self.old }
         requires open { IsOpen (M.machine machine.now) (M.states machine.now) self.old.state.place
             self.old.state.reading ahead }
-        ensures { MatchMade (M.machine machine.now) ends.old ends.new self.old self.new result }
+        ensures { MatchMade (M.machine machine.now) ⊥ ends.old ends.new self.old self.new result }
     {
         let place = self.state.place;
         // The walk goes on from its last state, so no byte held is gone over again.
@@ -121,7 +124,7 @@ impl Scan {
         requires going { IsGoing self.old }
         requires ready { MayTurn (M.machine machine.now) ends.old self.old }
         requires behind { self.old.state.place.at < length self.old.state.reading.window.bytes }
-        ensures { MatchMade (M.machine machine.now) ends.old ends.new self.old self.new result }
+        ensures { MatchMade (M.machine machine.now) ⊥ ends.old ends.new self.old self.new result }
     {
         let place = self.state.place;
         let reading = &self.state.reading;
@@ -153,7 +156,7 @@ impl Scan {
         requires going { IsGoing self.old }
         requires ready { MayTurn (M.machine machine.now) ends.old self.old }
         requires behind { self.old.state.place.at < length self.old.state.reading.window.bytes }
-        ensures { MatchMade (M.machine machine.now) ends.old ends.new self.old self.new result }
+        ensures { MatchMade (M.machine machine.now) ⊥ ends.old ends.new self.old self.new result }
     {
         let result = self.match_over_held(machine, ends);
         let left = self

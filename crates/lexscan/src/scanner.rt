@@ -4,6 +4,8 @@ ghost use Rattle.std.specs.Prelude.{Ok, Err, IfSome, IsErrOf};
 ghost use Rattle.std.specs.Coded.{→_prop};
 ghost use Rattle.lex_semantics.specs.Text.{AllBelow};
 ghost use Rattle.lexscan_window.specs.Intakes.{can_read, can_write};
+ghost use Rattle.lexscan_matching.specs.Looks.{LimitFirst};
+ghost use Rattle.lex_semantics.specs.MachineLaws.{SomeReject};
 ghost use Rattle.lex_semantics.specs.ByteSets.{bit_of};
 ghost use Rattle.lexscan_window.specs.Reads.{read_fault_count, write_fault_count, end_step};
 ghost use Rattle.lexscan_window.specs.Memos.{AreTrue, AreTrue-prop};
@@ -82,6 +84,9 @@ impl<'a, M: Machine, S: Source, K: Sink> Scanner<'a, M, S, K> {
         ensures same_machine { scanner_machine self.new ≡ scanner_machine self.old }
         ensures same_source { scanner_source_name self.new ≡ scanner_source_name self.old }
         ensures same_sink { scanner_sink_name self.new ≡ scanner_sink_name self.old }
+        ensures limit_first { (scanner_state self.old).failed ≡ false → (scanner_state self.old).ended ≡ None
+            → LimitFirst (M.machine (scanner_machine self.old)) (SomeReject (M.machine (scanner_machine self.old)))
+            (scanner_state self.old).place (scanner_state self.old).reading (scanner_state self.new).reading result }
         ensures goes_on { (got : List ℕ) × (wrote : List ℕ)
             × S.gave (scanner_source self.old) got (scanner_source self.new)
             × K.wrote (scanner_sink self.old) wrote (scanner_sink self.new)

@@ -1,6 +1,6 @@
 //! One turn of a scan: it looks for the match, carries it out and leaves its place.
-ghost use Rattle.std.specs.Prelude.{◌<◌, length};
-ghost use Rattle.lex_semantics.specs.MachineLaws.{NoReject};
+ghost use Rattle.std.specs.Prelude.{◌<◌, length, ⊤};
+ghost use Rattle.lex_semantics.specs.MachineLaws.{NoReject, SomeReject};
 ghost use Rattle.lexscan.specs.Scans.{IsGoing, MayTurn, TurnMade, TurnOf};
 
 use crate::find::has_backlog;
@@ -46,7 +46,7 @@ impl Scan {
     ) -> Result<Turn, RunError>
         requires going { IsGoing self.old }
         requires ready { MayTurn (M.machine machine.now) ends.old self.old }
-        ensures { TurnMade (M.machine machine.now) ends.old ends.new self.old self.new result }
+        ensures { TurnMade (M.machine machine.now) (SomeReject (M.machine machine.now)) ends.old ends.new self.old self.new result }
     {
         if machine.rejects() {
             // Marks are for machines without REJECT.
@@ -68,7 +68,7 @@ impl Scan {
     ) -> Result<Turn, RunError>
         requires going { IsGoing self.old }
         requires ready { MayTurn (M.machine machine.now) ends.old self.old }
-        ensures { TurnMade (M.machine machine.now) ends.old ends.new self.old self.new result }
+        ensures { TurnMade (M.machine machine.now) ⊤ ends.old ends.new self.old self.new result }
     {
         match self.match_with_reject(machine, ends) {
             Ok(turn) => Ok(turn),
@@ -89,7 +89,7 @@ impl Scan {
         requires no_reject { NoReject (M.machine machine.now) }
         requires going { IsGoing self.old }
         requires ready { MayTurn (M.machine machine.now) ends.old self.old }
-        ensures { TurnMade (M.machine machine.now) ends.old ends.new self.old self.new result }
+        ensures { TurnMade (M.machine machine.now) ⊥ ends.old ends.new self.old self.new result }
     {
         match self.match_without_reject(machine, ends) {
             Ok(turn) => Ok(turn),
@@ -112,7 +112,7 @@ impl Scan {
         requires going { IsGoing self.old }
         requires ready { MayTurn (M.machine machine.now) ends.old self.old }
         requires behind { self.old.state.place.at < length self.old.state.reading.window.bytes }
-        ensures { TurnMade (M.machine machine.now) ends.old ends.new self.old self.new result }
+        ensures { TurnMade (M.machine machine.now) ⊥ ends.old ends.new self.old self.new result }
     {
         match self.match_over_backlog(machine, ends) {
             Ok(turn) => Ok(turn),

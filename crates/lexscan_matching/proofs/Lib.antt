@@ -1,5 +1,6 @@
 pub mod Growing
 pub mod Descending
+pub mod Limiting
 pub mod Picking
 pub mod Fronting
 pub mod Barrens

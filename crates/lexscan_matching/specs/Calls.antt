@@ -1,5 +1,5 @@
 -- What each step of a match does, over the two ends and what is kept of the source, before and after.
-use Rattle.std.specs.Prelude.{◌≡◌, ℕ, ◌+◌, ◌<◌, ◌≤◌, Bool, true, List, length, Option, Some, Result, OnOk, OnErr, IfOk, IfSome, IsErrOf}
+use Rattle.std.specs.Prelude.{◌≡◌, ℕ, ◌+◌, ◌<◌, ◌≤◌, Bool, true, List, length, Option, Some, Result, OnOk, OnErr, IfOk, IfSome, IsErrOf, ⊤}
 use Rattle.lex_io.specs.declared.source.Source as Source
 use Rattle.lex_io.specs.declared.sink.Sink as Sink
 use Rattle.lex_semantics.specs.Candidates.{Candidate}
@@ -22,7 +22,7 @@ use Rattle.lexscan_window.specs.Ends.{SourceLeft, SinkLeft, NothingPut}
 use Rattle.lexscan_matching.specs.declared.pick.LookAhead.{LookAhead}
 use Rattle.lexscan_matching.specs.declared.pick.Pick.{Pick}
 use Rattle.lexscan_matching.specs.Descends.{conditions_of, finished_of, Tried, CutOff, CutAll, Performed, Takes, TakesUnlessAgain}
-use Rattle.lexscan_matching.specs.Looks.{LookedOrAtEnd, Wants, Unmet}
+use Rattle.lexscan_matching.specs.Looks.{LookedOrAtEnd, Wants, Unmet, LimitFirst}
 use Rattle.lexscan_matching.specs.Picks.{IsFirst, HasStatements, LookedSome, HasLastStates, path_of}
 
 module _ {S K : Type 0} {of_source : Source.Ghosts S} {of_sink : Sink.Ghosts K} where
@@ -37,6 +37,7 @@ module _ {S K : Type 0} {of_source : Source.Ghosts S} {of_sink : Sink.Ghosts K} 
     pub unmet : OnErr result (Wants M p new)
     pub source : SourceLeft of_source.ends of_source.failures (source_of i) (source_of i') (can_read i') old new result
     pub too_many : IsErrOf result TooManyReads → new.taken ≡ new.max_reads
+    pub limit : LimitFirst M ⊥ p old new result
 
   -- The same, with the state after each byte.
   pub record LookedAlong (M : Machine) (states : ℕ) (i i' : Intake S of_source) (o o' : Outlet K of_sink) (p : TextPlace) (old new : Reading) (path : List ℕ) (result : Result Bool RunError) : Type 0 where
@@ -51,6 +52,7 @@ module _ {S K : Type 0} {of_source : Source.Ghosts S} {of_sink : Sink.Ghosts K} 
     pub some : IfOk result (λ some. some ≡ true → 1 ≤ length path)
     pub known : (state : ℕ) → Among path state → state < states
     pub too_many : IsErrOf result TooManyReads → (new.taken ≡ new.max_reads) × Wants M p new
+    pub limit : LimitFirst M ⊤ p old new result
 
 module _ {K : Type 0} {of_sink : Sink.Ghosts K} where
   -- The matches of one length were tried, up to the first that is not rejected.

@@ -1,7 +1,9 @@
 -- What a match has seen.
-use Rattle.std.specs.Prelude.{◌≡◌, ℕ, ◌+◌, ◌≤◌, ◌<◌, max, Bool, true, false, List, length, take, drop, ◌⊎◌}
+use Rattle.std.specs.Prelude.{◌≡◌, ℕ, ◌+◌, ◌≤◌, ◌<◌, max, Bool, true, false, List, length, take, drop, ◌⊎◌, Result, IsErrOf}
 use Rattle.lex_semantics.specs.Machine.{Machine, state_after}
 use Rattle.lex_semantics.specs.Trail.{trail_from}
+use Rattle.lexscan_window.specs.declared.error.RunError.{RunError}
+use Rattle.lexscan_window.specs.declared.error.RunError.TheVariants.{TooManyReads, OutOfMemory}
 use Rattle.lexscan_window.specs.declared.state.Reading.{Reading}
 use Rattle.lexscan_window.specs.declared.state.TextPlace.{TextPlace}
 
@@ -44,3 +46,10 @@ pub record Wants (M : Machine) (p : TextPlace) (new : Reading) : Type 0 where
 -- A byte was wanted and not had, or there was no memory for the state after one that was held.
 abbrev pub Unmet : Machine → TextPlace → Reading → Reading → Type 0
 Unmet M p old new = Wants M p new ⊎ ((new.window.bytes ≡ old.window.bytes) × (new.at_end ≡ old.at_end))
+
+-- Of each byte that a match asks for, a read too many comes before want of memory. So memory is wanted only where one more read is allowed; or
+-- for the state after a byte that was held before, where states are kept. Where no more reads are allowed, a match that asks for a byte more
+-- than was held is refused for that.
+pub record LimitFirst {T : Type 0} (M : Machine) (keeps_states : Type 0) (p : TextPlace) (old new : Reading) (result : Result T RunError) : Type 0 where
+  pub memory : IsErrOf result OutOfMemory → (new.taken < new.max_reads) ⊎ (keeps_states × (new.window.bytes ≡ old.window.bytes) × (p.at < length old.window.bytes))
+  pub reads : old.taken ≡ old.max_reads → Wants M p old → IsErrOf result TooManyReads ⊎ IsErrOf result OutOfMemory

@@ -1,5 +1,5 @@
 -- What taking bytes into the window does, over the two ends and what is kept of the source, before and after.
-use Rattle.std.specs.Prelude.{◌≡◌, ℕ, ◌+◌, ◌<◌, ◌≤◌, max, Bool, true, false, ◌++◌, length, Option, Result, OnOk, OnErr, IfOk, IsErrOf, ◌⊎◌, if◌then◌else◌}
+use Rattle.std.specs.Prelude.{◌≡◌, ℕ, ◌+◌, ◌<◌, ◌≤◌, max, Bool, true, false, ◌++◌, length, Option, Result, OnOk, OnErr, IfOk, IfErr, IsErrOf, ◌⊎◌, if◌then◌else◌}
 use Rattle.lex_io.specs.Source.{given}
 use Rattle.lex_io.specs.declared.source.Source as Source
 use Rattle.lex_io.specs.declared.sink.Sink as Sink
@@ -12,7 +12,7 @@ use Rattle.lexscan_window.specs.declared.state.Reading.{Reading}
 use Rattle.lexscan_window.specs.Window.{StatesKept}
 use Rattle.lexscan_window.specs.declared.walk.Walk.{Walk}
 use Rattle.lexscan_window.specs.declared.error.RunError.{RunError}
-use Rattle.lexscan_window.specs.declared.error.RunError.TheVariants.{TooManyReads, Stack, Failed}
+use Rattle.lexscan_window.specs.declared.error.RunError.TheVariants.{TooManyReads, OutOfMemory, Stack, Failed}
 use Rattle.lexscan_window.specs.Intakes.{source_of, source_name, can_read, sink_of, sink_name, can_write}
 use Rattle.lexscan_window.specs.Reads.{Took, IsThere, IsWanted, IsShort, is_end, read_fault_count}
 use Rattle.lexscan_window.specs.Ends.{SourceLeft, NothingPut}
@@ -70,3 +70,5 @@ module _ {S K : Type 0} {of_source : Source.Ghosts S} {of_sink : Sink.Ghosts K} 
     pub states : path'.states ≡ path.states
     pub room : IfOk result (λ there. there ≡ true → path'.room ≡ true)
     pub too_many : IsErrOf result TooManyReads → (new.taken ≡ new.max_reads) × IsWanted old new next
+    pub at_limit : next ≡ length old.window.bytes → old.at_end ≡ false → old.taken ≡ old.max_reads → IsErrOf result TooManyReads
+    pub short : next < length old.window.bytes → IfErr result (λ e. e ≡ OutOfMemory)

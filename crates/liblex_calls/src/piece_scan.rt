@@ -27,9 +27,9 @@ impl PieceScan {
 
     /// One that was fed nothing.
     pub(crate) fn new(alloc: Global, flat: Flat) -> PieceScan
+        ensures going { result.stage ≡ Stage.Going }
         ensures progress { (file : List ℕ) → IsMachineOf file (table_machine (tables_of flat))
             → Progress file false [] [] result }
-        ensures going { result.stage ≡ Stage.Going }
     {
         PieceScan {
             scanner: PushScanner::new(alloc, flat),
@@ -41,9 +41,9 @@ impl PieceScan {
 
     /// Scans on with a piece more. Once the scan has ended or stopped, it counts for nothing.
     fn take(&mut self, piece: &[u8])
+        ensures follows { Follows self.old [] self.new }
         ensures progress { (file : List ℕ) (told : Bool) (fed out : List ℕ) → Progress file told fed out self.old
             → Progress file told (fed_with told fed piece.now) out self.new }
-        ensures follows { Follows self.old [] self.new }
     {
         let Stage::Going = self.stage else {
             return;
@@ -54,9 +54,9 @@ impl PieceScan {
 
     /// Scans to the end of what was fed.
     fn end(&mut self)
+        ensures follows { Follows self.old [] self.new }
         ensures progress { (file : List ℕ) (told : Bool) (fed out : List ℕ) → Progress file told fed out self.old
             → Progress file true fed out self.new }
-        ensures follows { Follows self.old [] self.new }
     {
         self.finished = true;
         let Stage::Going = self.stage else {
@@ -78,9 +78,9 @@ impl PieceScan {
 
     /// Scans on with a piece more, and hands out what was written.
     pub(crate) fn feed(&mut self, piece: &[u8], buffer: &mut [u8], count: &mut usize) -> Answer
+        ensures follows { Follows self.old (take count.new buffer.new) self.new }
         ensures fed { (file : List ℕ) (told : Bool) (fed out : List ℕ) → Progress file told fed out self.old
             → HandsOn file told (fed_with told fed piece.now) out self.new buffer.old buffer.new count.new }
-        ensures follows { Follows self.old (take count.new buffer.new) self.new }
         ensures answer { result ≡ feed_answer self.new.stage (length (rest self.new.backlog)) }
     {
         self.take(piece);
@@ -90,9 +90,9 @@ impl PieceScan {
 
     /// Scans to the end of what was fed, and hands out what was written.
     pub(crate) fn finish(&mut self, buffer: &mut [u8], count: &mut usize, status: &mut u8) -> Answer
+        ensures follows { Follows self.old (take count.new buffer.new) self.new }
         ensures finished { (file : List ℕ) (told : Bool) (fed out : List ℕ) → Progress file told fed out self.old
             → HandsOn file true fed out self.new buffer.old buffer.new count.new }
-        ensures follows { Follows self.old (take count.new buffer.new) self.new }
         ensures answer { result ≡ finish_answer self.new.stage (length (rest self.new.backlog)) }
         ensures status { status.new ≡ status_in self.new.stage }
     {

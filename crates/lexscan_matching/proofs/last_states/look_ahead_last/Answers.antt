@@ -2,9 +2,11 @@ use Rattle.std.proofs.lemmas.Grind.{common_steps}
 use Rattle.std.proofs.Common.{◌≡◌, ℕ, ◌+◌, ◌-◌, ◌≤◌, ◌<◌, List, [], ◌∷◌, ◌++◌, length, drop, get_or, inl, true, refl, sym, ap, subst, ◌∙◌, append-nil, arith}
 use Rattle.lex_semantics.specs.Machine.{Machine}
 use Rattle.lexscan_window.specs.declared.state.TextPlace.{TextPlace}
-use Rattle.lexscan_matching.specs.Looks.{SoFar}
+use Rattle.lexscan_window.specs.Reads.{Took}
+use Rattle.lexscan_matching.specs.Looks.{SoFar, Looked}
 use Rattle.lexscan_matching.specs.Picks.{path_of, state_at}
 use Rattle.lexscan_matching.proofs.Growing as Grow
+use Rattle.lexscan_matching.proofs.Limiting.{answered, not_looked}
 use Rattle.lexscan_matching.proofs.last_states.look_ahead_last.Goals as goal
 
 pub returns-then-not-goes_on : goal.returns-then-not-goes_on
@@ -12,15 +14,8 @@ returns-then-not-goes_on g c = record {
   same = grind (arith, common_steps);
   same_sink = grind (arith, common_steps);
   put = grind (arith, common_steps);
-  took = Grow.took_none g.S.Source.gave _ _ (g.met.S.Source.gave_none _);
-  looked = record {
-    reach = n + 1;
-    some = omega arith;
-    state = c.step-state.result;
-    so_far = so_far_next;
-    size = omega (arith, inside);
-    stops = inl (sym c.goes_on.ensures ∙ c.if-not-goes_on.true, refl);
-  };
+  took = took;
+  looked = looked;
   tells = record {
     some = omega arith;
     inside = omega (arith, inside);
@@ -32,6 +27,7 @@ returns-then-not-goes_on g c = record {
   unmet = grind (arith, common_steps);
   source = grind (arith, common_steps);
   too_many = grind (arith, common_steps);
+  limit = answered M ⊥ p g.S.Source.gave _ _ _ _ took _ (not_looked M p g.S.Source.gave _ _ _ _ took _ looked);
 }
   where
     M : Machine
@@ -66,6 +62,19 @@ returns-then-not-goes_on g c = record {
 
     before_is : 1 ≤ n + 1 → c.held.state ≡ state_at M p w (n + 1 - 1)
     before_is = λ some. so_far.state_is ∙ ap (λ k. state_at M p w k) (omega arith)
+
+    took : Took g.S.Source.gave c.args.intake.now.source.now c.args.intake.now.source.now c.args.reading.now c.args.reading.now
+    took = Grow.took_none g.S.Source.gave _ _ (g.met.S.Source.gave_none _)
+
+    looked : Looked M p c.args.reading.now c.args.reading.now (path_of M p w (n + 1))
+    looked = record {
+      reach = n + 1;
+      some = omega arith;
+      state = c.step-state.result;
+      so_far = so_far_next;
+      size = omega (arith, inside);
+      stops = inl (sym c.goes_on.ensures ∙ c.if-not-goes_on.true, refl);
+    }
 
 pub held-preserved : goal.held-preserved
 held-preserved g c = record {

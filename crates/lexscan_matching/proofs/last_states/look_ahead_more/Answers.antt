@@ -12,6 +12,8 @@ use Rattle.lexscan_matching.specs.Picks.{path_of, state_at}
 use Rattle.lexscan_window.specs.Reads.{end_step}
 use Rattle.lexscan_window.specs.Walks.{Grown, StopsAt, ends_at}
 use Rattle.lexscan_matching.proofs.Growing as Grow
+use Rattle.lexscan_matching.proofs.Limiting.{filled, fill_refused, ended}
+use Rattle.lexscan_window.specs.declared.error.RunError.TheVariants.{TooManyReads}
 use Rattle.lexscan_matching.proofs.last_states.look_ahead_more.Goals as goal
 
 pub returns-in-Done : goal.returns-in-Done
@@ -45,6 +47,7 @@ returns-in-Done g c = record {
   unmet = grind (arith, common_steps);
   source = grind (arith, common_steps);
   too_many = grind (arith, common_steps);
+  limit = filled _ c.args.place g.S.Source.gave _ _ _ _ _ _ c.fills.invariant.took c.in_ok-walk.ensures.took TooManyReads _ _ c.in_ok-walk.walk c.in_ok-walk.ensures.at_limit;
 }
   where
     M : Machine
@@ -251,6 +254,8 @@ returns-in_err-walk g c = record {
   unmet = grind (arith, common_steps);
   source = grind (arith, common_steps);
   too_many = grind (arith, common_steps);
+  limit = (let p = err_from_is_err_and c.from_residual.result c.from_residual.ensures.1 in
+      rw (p.1, p.2) (fill_refused _ c.args.place g.S.Source.gave _ _ _ _ _ _ c.fills.invariant.took c.in_err-walk.ensures.took _ _ c.in_err-walk.ensures.unchanged.0 (λ used. grind (arith, common_steps))));
 }
 
 pub overflow_sub-now : goal.overflow_sub-now
@@ -288,6 +293,7 @@ returns-then-now-eq0 g c = record {
   unmet = grind (arith, common_steps);
   source = grind (arith, common_steps);
   too_many = grind (arith, common_steps);
+  limit = ended _ _ c.args.place g.S.Source.gave _ _ _ _ c.fills.invariant.took _ c.fills-test.false;
 }
 
 pub returns-else-now-eq0 : goal.returns-else-now-eq0
@@ -311,4 +317,5 @@ returns-else-now-eq0 g c = record {
   unmet = grind (arith, common_steps);
   source = grind (arith, common_steps);
   too_many = grind (arith, common_steps);
+  limit = ended _ _ c.args.place g.S.Source.gave _ _ _ _ c.fills.invariant.took _ c.fills-test.false;
 }

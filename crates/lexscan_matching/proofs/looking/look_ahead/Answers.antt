@@ -1,10 +1,12 @@
 use Rattle.std.proofs.lemmas.Grind.{common_steps}
-use Rattle.std.proofs.Common.{◌≡◌, ◌+◌, ◌≤◌, ◌++◌, ◌∷◌, [], true, length, get_or, sym, ap, subst, ◌∙◌, arith}
+use Rattle.std.proofs.Common.{◌≡◌, ◌+◌, ◌≤◌, ◌++◌, ◌∷◌, [], true, false, length, get_or, sym, ap, subst, ◌∙◌, arith}
 use Rattle.std.proofs.lemmas.List.{length-append}
 use Rattle.std.proofs.lemmas.Result.{err_from_is_err_and}
 use Rattle.lex_semantics.specs.Machine.{Machine}
+use Rattle.std.specs.Prelude.{⊤}
 use Rattle.lexscan_window.specs.Reads.{IsThere}
 use Rattle.lexscan_matching.proofs.Growing as Grow
+use Rattle.lexscan_matching.proofs.Limiting.{fetch_refused, ended}
 use Rattle.lexscan_window.specs.Reads.{end_step}
 use Rattle.lexscan_matching.proofs.looking.look_ahead.Goals as goal
 use Rattle.lexscan_matching.proofs.looking.look_ahead.Goals.{else-len-gt0-via-then-len-gt0+else-not-goes_on, else-len-gt0-via-else-len-gt0}
@@ -76,6 +78,9 @@ returns-in_err-fetch g c = record {
   some = grind (arith, common_steps);
   known = grind (arith, common_steps);
   too_many = grind (arith, common_steps);
+  limit = (let p = err_from_is_err_and c.from_residual.result c.from_residual.ensures.1 in
+      rw (p.1, p.2) (fetch_refused _ c.args.place g.S.Source.gave _ _ _ _ c.bytes.reading _ c.bytes.invariant.took c.in_err-fetch.ensures.took _ c.bytes.next c.bytes.len c.bytes.invariant.end_same c.bytes.invariant.place c.bytes.invariant.size
+      c.in_err-fetch.ensures.wanted (λ here reading used. grind (arith, common_steps)) (λ less. c.in_err-fetch.ensures.short less)));
 }
 
 pub returns-then-not-branch : goal.returns-then-not-branch
@@ -103,4 +108,8 @@ returns-then-not-branch g c = record {
   some = grind (arith, common_steps);
   known = grind (arith, common_steps);
   too_many = grind (arith, common_steps);
+  limit = ended _ ⊤ c.args.place g.S.Source.gave _ _ _ _ (Grow.took_more g.S.Source.gave _ _ _ _ _ _ g.met.S.Source.gave_more c.bytes.invariant.took c.in_ok-fetch.ensures.took) _ has.2;
 }
+  where
+    has : IsThere c.bytes.reading c.fetch.new.reading c.bytes.next false
+    has = subst (IsThere c.bytes.reading c.fetch.new.reading c.bytes.next) c.if-not-branch.true c.in_ok-fetch.ensures.there

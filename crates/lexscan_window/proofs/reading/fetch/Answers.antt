@@ -17,4 +17,6 @@ returns-in-Ok-Some g c = record {
   states = grind (arith, common_steps);
   room = grind (arith, common_steps);
   too_many = grind (arith, common_steps);
+  at_limit = grind (arith, common_steps);
+  short = grind (arith, common_steps);
 }

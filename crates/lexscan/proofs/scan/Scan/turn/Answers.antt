@@ -20,6 +20,7 @@ returns-then-self g c = record {
   refused = grind (arith, common_steps);
   after_end = grind (arith, common_steps);
   too_many = grind (arith, common_steps);
+  limit = grind (arith, common_steps);
   next = grind (arith, common_steps);
 }
 
@@ -46,5 +47,6 @@ returns-in-Some g c = record {
   refused = grind (arith, common_steps);
   after_end = grind (arith, common_steps);
   too_many = grind (arith, common_steps);
+  limit = grind (arith, common_steps);
   next = grind (arith, common_steps);
 }
