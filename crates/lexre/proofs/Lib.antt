@@ -2,6 +2,7 @@ pub mod BareLaws
 pub mod BraceLaws
 pub mod CountLaws
 pub mod CuttingLaws
+pub mod CuttingsComputed
 pub mod CycleLaws
 pub mod DefinitionLaws
 pub mod EntryLaws

@@ -9,6 +9,7 @@ pub mod Lengths
 pub mod Limits
 pub mod Names
 pub mod Outcome
+pub mod CuttingExamples
 pub mod CuttingSoFar
 pub mod Reading
 pub mod Pieces

@@ -8,8 +8,8 @@ use Rattle.lexspec.specs.RuleExamples.{ConditionLists, Actions}
 
 pub condition_lists : ConditionLists
 unfolding conditions_at take_up_to
-condition_lists = (refl, refl)
+condition_lists = (refl, refl, refl, refl)
 
 pub actions_cut : Actions
 unfolding take_up_to is_blank action_at action_end after_piece after_string until_quote
-actions_cut = (refl, refl, refl, refl)
+actions_cut = (refl, refl, refl, refl, refl, refl)

@@ -12,7 +12,7 @@ ghost use Rattle.lexspec.specs.Endings.{conditions_with};
 ghost use Rattle.lexre.specs.declared.options.ReadOptions.{ReadOptions};
 ghost use Rattle.lexspec.specs.Tests.{is_sound, sound_tree};
 ghost use Rattle.lexspec.specs.RuleExamples.{ConditionLists, Actions};
-ghost use Rattle.lexspec.specs.SpecExamples.{WholeFile, WholeSkips, ShortFile, NoFiles};
+ghost use Rattle.lexspec.specs.SpecExamples.{WholeFile, WholeSkips, ShortFile, NoFiles, NoRules};
 ghost use Rattle.lex_semantics.specs.Limits.{max_conditions, max_rules};
 
 /// A tree passes the test exactly if it is sound.
@@ -53,4 +53,9 @@ pub fn examples_of_specs()
     ensures skipped { WholeSkips }
     ensures short { ShortFile }
     ensures none { NoFiles }
+{}
+
+/// Worked examples of lines that are no rules, in files that so spell no specification.
+pub fn examples_of_refused_rules()
+    ensures { NoRules }
 {}

@@ -50,7 +50,7 @@ mod statements;
 mod subject;
 
 pub use laws::{
-    examples_of_rules, examples_of_specs, one_specification, sound_specifications,
+    examples_of_refused_rules, examples_of_rules, examples_of_specs, one_specification, sound_specifications,
     tested_specifications, tested_trees,
 };
 pub use lex_machine::Cut;
