@@ -5,6 +5,7 @@ contract has the worked examples is still proved.
     scripts/gate/misreadings.py [CRATE[/NAME]..]    those of these crates, or of all; NAME may be the front of some names
         --jobs N        N checks side by side (1)
         --quick         does not ask of one that passes whether another function refuses it
+        --anew          tries those too that rest on the same texts as when they were tried last
         --write         after a run of all, writes what came out into docs/PROVED.md
         --check         only asks whether docs/PROVED.md tells of the misreadings that there are
         --itself        two changes of lexre_bytes that change nothing, which must be told as passing, and one that does
@@ -31,7 +32,9 @@ of these words, and the status is 1 where one is not 'refused', 'law', or 'passe
 
 Libraries below have to be built: by `rt ci` here, or by `rt check`, which this calls where one is missing."""
 import argparse
+import hashlib
 import importlib.util
+import json
 import os
 import re
 import resource
@@ -148,6 +151,12 @@ class Pair:
         for it in self.high.below():
             if it not in self.sources and not (Path(it.rlib) / "format").is_file():
                 subprocess.run(["rt", "lib"], cwd=it.folder, stdout=subprocess.DEVNULL, check=False)
+
+    def sum_of(self, it):
+        """A checksum of all that a misreading's answer rests on, but for the kit."""
+        files = sorted(path for made in self.sources for part in ("src", "specs", "proofs") for path in Path(made.folder, part).rglob("*.*"))
+        texts = [Path(__file__).read_bytes(), Path(slimming.__file__).read_bytes(), repr(it).encode(), *(path.read_bytes() for path in files)]
+        return hashlib.sha256(b"\0".join(texts)).hexdigest()
 
     def copies(self, kind):
         """The folder with copies of the sources: without their functions, or whole."""
@@ -278,6 +287,23 @@ def tried(pair, it, quick):
     return "elsewhere", f"{it.passes + ': ' if it.passes else ''}{len(lost)} functions of {it.crate}, first {', '.join(lost[:2])}"
 
 
+class Kept:
+    """What misreadings of a crate came to when they were tried last, in its folder out/."""
+
+    def __init__(self, folder):
+        self.path = Path(folder, "out/misreadings.json")
+        self.told = json.loads(self.path.read_text()) if self.path.is_file() else {}
+
+    def get(self, it, sum_of):
+        known = self.told.get(it.name)
+        return known[1:] if known and known[0] == sum_of else None
+
+    def put(self, it, sum_of, told):
+        self.told[it.name] = [sum_of, *told]
+        self.path.parent.mkdir(exist_ok=True)
+        self.path.write_text(json.dumps(self.told, indent=0, ensure_ascii=False))
+
+
 class Report:
     """What is told, a line for each misreading."""
 
@@ -314,7 +340,13 @@ def try_all(chosen, rtlib, crates, given):
             pair = Pair(rtlib, crates, low, high, room)
             pair.build_below()
             for it in group:
-                report.tell(it, *tried(pair, it, given.quick))
+                sum_of, kept = pair.sum_of(it), Kept(pair.folder)
+                told = None if given.anew else kept.get(it, sum_of)
+                if not told:
+                    told = tried(pair, it, given.quick)
+                    if told[0] != "passes" or not given.quick:
+                        kept.put(it, sum_of, told)
+                report.tell(it, *told)
 
     with ThreadPoolExecutor(given.jobs) as pool:
         for done in [pool.submit(work, *names, group) for names, group in groups.items()]:
@@ -385,7 +417,7 @@ def words():
     parser = argparse.ArgumentParser(usage=__doc__, add_help=False)
     parser.add_argument("names", nargs="*")
     parser.add_argument("--jobs", type=int, default=1)
-    for flag in ("--quick", "--write", "--check", "--itself"):
+    for flag in ("--quick", "--anew", "--write", "--check", "--itself"):
         parser.add_argument(flag, action="store_true")
     return parser.parse_args()
 

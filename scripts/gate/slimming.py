@@ -6,6 +6,7 @@ from pathlib import Path
 
 HEAD = re.compile(r"^(?:pub(?:\([^)]*\))? )?(?:const )?(?:unsafe )?(?:ghost )?fn (\w+)")
 ENDS = re.compile(r"^(?:\}|\};|\{\}|\)|\);|\]\);|\];|\S.*;)$")
+FUNCTION_ENDS = re.compile(r"^(?:\}|\{\})$")
 KEPT_DERIVES = ("Clone", "Copy", "Drop")
 USE = re.compile(r"(?m)^((?:pub(?:\([^)]*\))? )?)use ([\w:]+::)(?:\{([^}]*)\}|(\w+));")
 PROOFS = ("Answers.antt", "Invariants.antt", "Proof.antt")
@@ -13,17 +14,18 @@ PROOFS = ("Answers.antt", "Invariants.antt", "Proof.antt")
 
 def items(text):
     """The items of a file, as lists of lines, each with what stands above it. The layout is rt fmt's."""
-    item, inside = [], False
+    item, inside, ends = [], False, ENDS
     for line in text.split("\n"):
         item.append(line)
         if inside:
-            inside = not ENDS.match(line)
+            inside = not ends.match(line)
         elif line.startswith(("//!", "#!")) or not line:
             pass
         elif line.startswith(("//", "#")):
             continue
         else:
             inside = not line.endswith((";", "}"))
+            ends = FUNCTION_ENDS if HEAD.match(line) else ENDS
         if not inside:
             yield item
             item = []

@@ -249,12 +249,12 @@ both_vary S h =
             let does : f.action ≡ Some (codes ";") = f.action_is ∙ ap action_of (sym nothing.0) in
             let all : h.items ≡ (f.n, rule f.asked (matching false (codes "a*") (Some (codes "b*"))) (Some (codes ";"))) ∷ f.more =
             f.is_so ∙ ap (λ s. (f.n, rule f.asked s f.action) ∷ f.more) e ∙ ap (λ o. (f.n, rule f.asked (matching false head (Some trail)) o) ∷ f.more) does
-                ∙ ap (λ x. (f.n, rule f.asked (matching false x (Some trail)) (Some (codes ";"))) ∷ f.more) front ∙ ap (λ x. (f.n, rule f.asked (matching false (codes "a*") (Some x)) (Some (codes ";"))) ∷ f.more) back in
+            ∙ ap (λ x. (f.n, rule f.asked (matching false x (Some trail)) (Some (codes ";"))) ∷ f.more) front ∙ ap (λ x. (f.n, rule f.asked (matching false (codes "a*") (Some x)) (Some (codes ";"))) ∷ f.more) back in
             let none_defined = no_definitions (codes "%%\na*/b* ;\n") refl S h in
             vary (map (λ c. c.1) (all_conditions h.definitions)) (has_name (all_options h.definitions) (codes "stack")) (from_entries (substitutes_of h.definitions)) f.n f.asked f.more S.rules h.ends
             (subst (λ how. AreRules (map (λ c. c.1) (all_conditions h.definitions)) how (has_name (all_options h.definitions) (codes "stack")) (from_entries (substitutes_of h.definitions)) ((f.n, rule f.asked (matching false (codes "a*") (Some (codes "b*"))) (Some (codes ";"))) ∷ f.more) S.rules h.ends false)
-                (ap (λ ds. record { fold = plain.fold || has_name (all_options ds) (codes "case-insensitive"); posix = plain.posix }) none_defined)
-                (subst (λ is. AreRules (map (λ c. c.1) (all_conditions h.definitions)) (record { fold = plain.fold || has_name (all_options h.definitions) (codes "case-insensitive"); posix = plain.posix }) (has_name (all_options h.definitions) (codes "stack")) (from_entries (substitutes_of h.definitions)) is S.rules h.ends false) all h.rules))
+            (ap (λ ds. record { fold = plain.fold || has_name (all_options ds) (codes "case-insensitive"); posix = plain.posix }) none_defined)
+            (subst (λ is. AreRules (map (λ c. c.1) (all_conditions h.definitions)) (record { fold = plain.fold || has_name (all_options h.definitions) (codes "case-insensitive"); posix = plain.posix }) (has_name (all_options h.definitions) (codes "stack")) (from_entries (substitutes_of h.definitions)) is S.rules h.ends false) all h.rules))
 
 pub no_rules : Example.NoRules
-no_rules = record { two_slashes = two_slashes; slash_and_dollar = slash_and_dollar; end_at_line = end_at_line; bar_of_end = bar_of_end; both_vary = both_vary; }
+no_rules = record { two_slashes = two_slashes; slash_and_dollar = slash_and_dollar; end_at_line = end_at_line; bar_of_end = bar_of_end; both_vary = both_vary }
