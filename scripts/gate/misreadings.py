@@ -153,9 +153,9 @@ class Pair:
                 subprocess.run(["rt", "lib"], cwd=it.folder, stdout=subprocess.DEVNULL, check=False)
 
     def sum_of(self, it):
-        """A checksum of all that a misreading's answer rests on, but for the kit."""
+        """A checksum of what the answer of a misreading rests on, but for the kit and this script."""
         files = sorted(path for made in self.sources for part in ("src", "specs", "proofs") for path in Path(made.folder, part).rglob("*.*"))
-        texts = [Path(__file__).read_bytes(), Path(slimming.__file__).read_bytes(), repr(it).encode(), *(path.read_bytes() for path in files)]
+        texts = [Path(slimming.__file__).read_bytes(), repr(it).encode(), *(path.read_bytes() for path in files)]
         return hashlib.sha256(b"\0".join(texts)).hexdigest()
 
     def copies(self, kind):

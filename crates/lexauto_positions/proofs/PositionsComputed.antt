@@ -1,13 +1,12 @@
 -- The worked examples of positions and subsets.
-use Rattle.std.proofs.Common.{◌≡◌, ℕ, zero, suc, ◌+◌, ◌<◌, ◌≤◌, Bool, true, false, List, [], ◌∷◌, ◌++◌, map, length, ◌⊎◌, inl, inr, ◌↔◌, Some, None, refl, sym, ◌∙◌, ap, subst, arith}
+use Rattle.std.proofs.Common.{◌≡◌, ℕ, zero, suc, ◌+◌, ◌<◌, ◌≤◌, Bool, false, List, [], ◌∷◌, ◌++◌, map, length, ◌⊎◌, inl, inr, ◌↔◌, Some, refl, sym, ◌∙◌, ap, subst, arith}
 use Rattle.std.specs.Prelude.{codes, slice_get, ◌≢◌}
 use Rattle.lex_semantics.proofs.Cuts.{same_rule}
 use Rattle.lex_semantics.proofs.ExampleWords.{is_a}
-use Rattle.lex_semantics.specs.Active.{active}
-use Rattle.lex_semantics.specs.Examples.{letter, string, rule}
+use Rattle.lex_semantics.specs.Examples.{string, rule}
 use Rattle.lex_semantics.specs.Positions.{Cell, Reads}
 use Rattle.lex_semantics.specs.Spec.{Rule, Echo}
-use Rattle.lex_semantics.specs.Subsets.{ReadsRule, ReadsActive, IsLast, ListsSet, IsActive, Subsets}
+use Rattle.lex_semantics.specs.Subsets.{ReadsRule, ReadsActive, IsLast, ListsSet, IsActive}
 use Rattle.lex_semantics.specs.Text.{IsText, Among, Pairwise}
 use Rattle.lexauto_positions.specs.PositionExamples.{two_as, CountsPositions, ReadsBytes, CountsSubsets}
 

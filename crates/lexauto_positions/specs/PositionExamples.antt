@@ -1,6 +1,6 @@
 -- Worked examples of positions, of readings, and of the count of subsets, by the rule `aa ECHO;` and by single patterns. (This
 -- project's.)
-use Rattle.std.specs.Prelude.{◌≡◌, ℕ, false, List, [], ◌∷◌, Some, None, codes}
+use Rattle.std.specs.Prelude.{◌≡◌, false, [], ◌∷◌, Some, None, codes}
 use Rattle.lex_semantics.specs.Tree.{Alt, Star, Repeat, trees}
 use Rattle.lex_semantics.specs.Spec.{Spec}
 use Rattle.lex_semantics.specs.Positions.{positions, Reads}

@@ -5,9 +5,9 @@ use Rattle.lex_semantics.specs.ByteSets.{has, set_of, single, is_alpha, is_digit
 use Rattle.lex_semantics.specs.Escapes.{simple_escape, octal_at, hexadecimal_at, until_quote}
 use Rattle.lex_semantics.specs.Reading.{take_up_to, begins, IsCut}
 use Rattle.lexre_bytes.specs.Lexical.{after_word, run_at, escape_at, class_name_at, enclosed_by, bracketed_at, range_at, element_at, elements_at, class_at, span}
-use Rattle.lexre.specs.Cutting.{IsCutting, piece_at, ends_pattern, depth}
+use Rattle.lexre.specs.Cutting.{piece_at, ends_pattern, depth}
 use Rattle.lexre.proofs.OneTree.{some_is}
-use Rattle.lexre.specs.CuttingExamples.{Ends, Slashes, Dollars, HasNone, NoCuttings}
+use Rattle.lexre.specs.CuttingExamples.{Ends, Slashes, Dollars, NoCuttings}
 
 -- how many parentheses are open after a piece
 abbrev step : ℕ → List ℕ → ℕ

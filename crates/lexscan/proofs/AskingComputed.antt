@@ -1,8 +1,8 @@
 -- The worked examples of what turns ask for.
-use Rattle.std.proofs.Common.{◌≡◌, ℕ, zero, suc, ◌+◌, ◌<◌, ◌≤◌, Bool, true, false, List, [], ◌∷◌, ◌++◌, length, ◌⊎◌, inl, inr, ◌↔◌, Some, None, refl, sym, ◌∙◌, ap, subst, arith}
+use Rattle.std.proofs.Common.{◌≡◌, ℕ, zero, suc, ◌+◌, ◌<◌, Bool, true, List, [], ◌∷◌, ◌++◌, length, inl, inr, ◌↔◌, Some, None, refl, ap, subst, arith}
 use Rattle.std.specs.Prelude.{codes, slice_get, max}
 use Rattle.lex_semantics.proofs.ExampleWords.{is_a, string_in, string_is, word_fits, fits_word}
-use Rattle.lex_semantics.specs.Demand.{AsksAt, AsksForEnd, Far, FarFrom, Reach}
+use Rattle.lex_semantics.specs.Demand.{AsksAt, AsksForEnd, Far, FarFrom}
 use Rattle.lex_semantics.specs.Fits.{Fits}
 use Rattle.lex_semantics.specs.Rules.{Live, rules_of}
 use Rattle.lex_semantics.specs.Run.{State, first_state, first_place}

@@ -1,7 +1,7 @@
 -- Worked examples of what the turns of a scan ask for, and of what is known of it, by the rule `aa ECHO;`. (This project's.)
-use Rattle.std.specs.Prelude.{ℕ, true, false, List, [], ◌∷◌, codes}
+use Rattle.std.specs.Prelude.{true, false, [], ◌∷◌, codes}
 use Rattle.lex_semantics.specs.Spec.{Spec}
-use Rattle.lex_semantics.specs.Rules.{Rules, rules_of}
+use Rattle.lex_semantics.specs.Rules.{rules_of}
 use Rattle.lex_semantics.specs.Run.{first_state}
 use Rattle.lex_semantics.specs.Demand.{Far, EndAsked, Consistent}
 use Rattle.lex_semantics.specs.Scanned.{Scanned}

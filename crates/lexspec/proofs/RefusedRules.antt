@@ -1,10 +1,10 @@
 -- Lines that are no rules, in files that so spell no specification.
-use Rattle.std.proofs.Common.{◌≡◌, ℕ, zero, suc, ◌+◌, ◌-◌, true, false, Bool, List, [], ◌∷◌, map, take, drop, Option, Some, None, ◌⊎◌, inl, inr, refl, sym, ap, ◌∙◌, subst}
+use Rattle.std.proofs.Common.{◌≡◌, ℕ, suc, ◌+◌, ◌-◌, true, false, Bool, List, [], ◌∷◌, map, take, drop, Option, Some, None, inl, inr, refl, sym, ap, ◌∙◌, subst}
 use Rattle.std.specs.Prelude.{codes, IsSomeAnd, ◌||◌}
 use Rattle.std.specs.FinMap.{get, from_entries}
 use Rattle.lex_semantics.specs.ByteSets.{has, set_of, single, is_blank}
 use Rattle.lex_semantics.specs.Reading.{begins, take_up_to, after_blanks}
-use Rattle.lex_semantics.specs.Sound.{IsCutOf, HasFixed}
+use Rattle.lex_semantics.specs.Sound.{IsCutOf}
 use Rattle.lex_semantics.specs.Spec.{Rule, Spec, Cut, Whole, Head, Trail}
 use Rattle.lex_semantics.specs.Tree.{Tree, Star}
 use Rattle.lexre.proofs.CuttingLaws.{one_cutting}
@@ -16,17 +16,16 @@ use Rattle.lexre.specs.Definitions.{Definitions}
 use Rattle.lexre.specs.PatternExamples.{plain, a, b}
 use Rattle.lexre.specs.Pieces.{dollar, other, slash, kind_at, slashes, ends_with_dollar}
 use Rattle.lexre.specs.Spelling.{Spells}
-use Rattle.lexre.specs.declared.options.ReadOptions.{ReadOptions}
 use Rattle.lexre_bytes.specs.Lexical.{symbol_at}
 use Rattle.lexspec_lines.proofs.OneSection.{no_true, one_up_to, separator_ends, some_pair}
-use Rattle.lexspec_lines.specs.DefinitionLines.{Definition, definition_at, all_conditions, all_options, has_name, substitutes_of}
+use Rattle.lexspec_lines.specs.DefinitionLines.{definition_at, all_conditions, all_options, has_name, substitutes_of}
 use Rattle.lexspec_lines.specs.Lines.{line_in, newlines, without_returns}
 use Rattle.lexspec.proofs.CutLaws.{not_fixed_is}
 use Rattle.lexspec.proofs.TestLaws.{tree_is_sound}
 use Rattle.lexspec.proofs.FileSections.{sections_of}
 use Rattle.lexspec.specs.Files.{SpellsSpec}
 use Rattle.lexspec.specs.Items.{Conditions, unlisted, Subject, at_end, matching, Item, skipped, rule, IsSides, IsSubject, AreItems, conditions_at, starts_rule, action_at, action_end, after_piece, action_of}
-use Rattle.lexspec.specs.RuleItems.{AreRules, EndRule, HasHead}
+use Rattle.lexspec.specs.RuleItems.{AreRules, EndRule}
 use Rattle.lexspec.specs.SpecExamples as Example
 use Rattle.lexspec.specs.Tests.{any_below}
 

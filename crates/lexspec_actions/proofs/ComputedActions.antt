@@ -11,7 +11,7 @@ use Rattle.lexspec_actions.specs.Bytes.{after_space, skip, expect, string_escape
 use Rattle.lexspec_actions.specs.Actions.{Piece, AreBalanced, next_piece, statement_at, SpellsAction, SpellsEndAction, parts_of, in_parentheses, number_within, second_word, format_at, after_statement, condition_at}
 use Rattle.lexspec_actions.specs.ActionSteps as S
 use Rattle.lexspec_actions.specs.ActionSteps.{does, prints, prints_text, may_stand}
-use Rattle.lexspec_actions.specs.ActionExamples.{known, EachStatement, SeveralStatements, NoActions, EndActions}
+use Rattle.lexspec_actions.specs.ActionExamples.{known, SaysNothing, EachStatement, SeveralStatements, NoActions, EndActions}
 use Rattle.lexspec_actions.proofs.OneAction.{one_cut}
 use Rattle.lexspec_actions.proofs.SameActions.{balanced, one_balanced, none_left}
 
@@ -73,6 +73,14 @@ unlike text qs is not ss ((ps, cut, balanced, same), stands) =
     let may : may_stand (normal (flat_map (λ (q : Piece). q.1) ps)) ≡ true = ap may_stand (sym same) ∙ stands in
     not (subst AreBalanced e balanced) (subst (λ xs. may_stand (normal (flat_map (λ (q : Piece). q.1) xs)) ≡ true) e may)
 
+no_semicolon : SaysNothing (codes "ECHO ECHO;")
+unfolding take_up_to is_alpha is_upper is_lower is_alnum is_blank is_digit is_xdigit octal_at hexadecimal_at until_quote simple_escape after_word run_at number_at name_at escape_at after_space skip expect string_escape_at literal_at next_piece statement_at parts_of in_parentheses number_within second_word format_at after_statement condition_at
+no_semicolon = nothing_first (codes "ECHO ECHO;") refl (λ e. cc)
+
+no_stack : SaysNothing (codes "yy_pop_state();")
+unfolding take_up_to is_alpha is_upper is_lower is_alnum is_blank is_digit is_xdigit octal_at hexadecimal_at until_quote simple_escape after_word run_at number_at name_at escape_at after_space skip expect string_escape_at literal_at next_piece statement_at parts_of in_parentheses number_within second_word format_at after_statement condition_at
+no_stack = nothing_first (codes "yy_pop_state();") refl (λ e. cc)
+
 pub no_actions : NoActions
 unfolding take_up_to is_alpha is_upper is_lower is_alnum is_blank is_digit is_xdigit octal_at hexadecimal_at until_quote simple_escape after_word run_at number_at name_at escape_at after_space skip expect string_escape_at literal_at next_piece statement_at parts_of in_parentheses number_within second_word format_at after_statement condition_at
 no_actions = record {
@@ -87,13 +95,13 @@ no_actions = record {
   nul = nothing_first (codes "puts(\"\\0\");") refl (λ e. cc);
   brace = unlike (codes "{ ECHO;") ((codes "{", []) ∷ ([], Echo ∷ []) ∷ []) (codes " ECHO;", refl, ([], refl, refl)) (λ matched stands. absurd (omega (arith, matched.0)));
   after_end = unlike (codes "exit(1); ECHO;") (([], End 1 ∷ []) ∷ ([], Echo ∷ []) ∷ []) (codes " ECHO;", refl, ([], refl, refl)) (λ matched stands. cc);
-  no_semicolon = nothing_first (codes "ECHO ECHO;") refl (λ e. cc);
+  no_semicolon = no_semicolon;
   less_twice = unlike (codes "yyless(1); yyless(2);") (([], Less 1 ∷ []) ∷ ([], Less 2 ∷ []) ∷ []) (codes " yyless(2);", refl, ([], refl, refl)) (λ matched stands. cc);
   less_and_more = unlike (codes "yyless(1); yymore();") (([], Less 1 ∷ []) ∷ ([], More ∷ []) ∷ []) (codes " yymore();", refl, ([], refl, refl)) (λ matched stands. cc);
   less_and_reject = unlike (codes "yyless(1); REJECT;") (([], Less 1 ∷ []) ∷ ([], Reject ∷ []) ∷ []) (codes " REJECT;", refl, ([], refl, refl)) (λ matched stands. cc);
   more_and_reject = unlike (codes "yymore(); REJECT;") (([], More ∷ []) ∷ ([], Reject ∷ []) ∷ []) (codes " REJECT;", refl, ([], refl, refl)) (λ matched stands. cc);
   after_reject = unlike (codes "REJECT; ECHO;") (([], Reject ∷ []) ∷ ([], Echo ∷ []) ∷ []) (codes " ECHO;", refl, ([], refl, refl)) (λ matched stands. cc);
-  stack = nothing_first (codes "yy_pop_state();") refl (λ e. cc);
+  stack = no_stack;
 }
 
 -- ECHO alone is no literal and no end
