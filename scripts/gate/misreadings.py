@@ -18,10 +18,11 @@ A misreading is a file crates/CRATE/misreadings/NAME.edit of the crate that has 
     passes: why no example refuses it, where that is known
     file: .. old: .. new: ..    as a wrong body has them, one or more
 
-The crate of the definition is read as source with the change, and so is each crate between it and that of the examples. None of them is
-proved: the prover is asked for that one function alone, and for the lemmas that its proof cites. For examples these crates are copied
-without their other functions (slimming.py), since reading those takes most of the time. A line of the answer begins with one
-of these words, and the status is 1 where one is not 'refused', 'law', or 'passes' of one that says why:
+The crate of the definition is read as source with the change, and so is each crate between it and that of the examples, and each one
+whose library is not built. None of them is proved: the prover is asked for that one function alone, and for the lemmas that its proof
+cites. For examples these crates are copied without their other functions (slimming.py), since reading those takes most of the time. A
+line of the answer begins with one of these words, and the status is 1 where one is not 'refused', 'law', or 'passes' of one that says
+why:
 
     refused      an example is not proved any more: which one, and its line
     law          the function is no list of examples but a law, and is not proved any more
@@ -29,8 +30,7 @@ of these words, and the status is 1 where one is not 'refused', 'law', or 'passe
     elsewhere    the examples are still proved, and another function of the definition's crate is not
     passes       the examples are still proved, and so is all of the definition's crate
     bad          it cannot be applied or read
-
-Libraries below have to be built: by `rt ci` here, or by `rt check`, which this calls where one is missing."""
+"""
 import argparse
 import hashlib
 import importlib.util
@@ -135,6 +135,14 @@ class Checked(NamedTuple):
     where: Path
 
 
+def is_fresh(made):
+    """Whether a crate's library is built, of its text as it stands."""
+    kept = Path(made.rlib) / "format"
+    newest = max(path.stat().st_mtime for part in ("src", "specs") for path in Path(made.folder, part).rglob("*.*"))
+    # (what rt says itself takes long in the upper crates)
+    return kept.is_file() and (newest < kept.stat().st_mtime or made.is_built())
+
+
 class Pair:
     """The crate of some definitions, and that of the examples above it, with a folder for copies of both and for kept work."""
 
@@ -142,29 +150,28 @@ class Pair:
         self.rtlib, self.room = rtlib, Path(room)
         self.low, self.high = crates[low], crates[high]
         self.folder = Path(self.low.folder)
-        # The crates that are read as source: the definition's, and each one between, and that of the examples.
-        self.sources = [it for it in self.high.below() if it is self.low or self.low in it.below()]
-        self.sources += [self.high]
-
-    def build_below(self):
-        """Builds the libraries that are not read as source, where one is missing."""
+        # The crates that are read as source: the definition's, those that are not built, each one above these, and that of the examples.
+        self.sources = []
         for it in self.high.below():
-            if it not in self.sources and not (Path(it.rlib) / "format").is_file():
-                subprocess.run(["rt", "lib"], cwd=it.folder, stdout=subprocess.DEVNULL, check=False)
+            if it is self.low or any(dep in self.sources for dep in it.below()) or not is_fresh(it):
+                self.sources.append(it)
+        self.sources += [self.high]
 
     def sum_of(self, it):
         """A checksum of what the answer of a misreading rests on, but for the kit and this script."""
-        files = sorted(path for made in self.sources for part in ("src", "specs", "proofs") for path in Path(made.folder, part).rglob("*.*"))
+        made = [*self.high.below(), self.high]
+        files = sorted(path for it in made for part in ("src", "specs", "proofs") for path in Path(it.folder, part).rglob("*.*"))
         texts = [Path(slimming.__file__).read_bytes(), repr(it).encode(), *(path.read_bytes() for path in files)]
         return hashlib.sha256(b"\0".join(texts)).hexdigest()
 
-    def copies(self, kind):
-        """The folder with copies of the sources: without their functions, or whole."""
-        room = self.room / kind
+    def copies(self, function):
+        """The folder with copies of the sources: of what a function needs alone, or whole."""
+        name = function.split("::")[-1] if function else "whole"
+        room = self.room / ("examples" if has_examples(name) else name)
         if not room.is_dir():
-            if kind == "slim":
-                slimming.copy([it.folder for it in self.sources], room, has_examples)
-            for it in self.sources if kind == "whole" else ():
+            if function:
+                slimming.copy([it.folder for it in self.sources], room, has_examples if has_examples(name) else name.__eq__)
+            for it in self.sources if not function else ():
                 for part in ("src", "specs", "proofs"):
                     if Path(it.folder, part).is_dir():
                         copytree(Path(it.folder, part), room / it.name / part)
@@ -193,8 +200,7 @@ class Pair:
     def check(self, pairs, function):
         """Checks the function over the changed definition; or, where none is named, all of the definition's crate."""
         texts = changed_texts(self.folder, pairs)
-        kind = "slim" if function and has_examples(function.split("::")[-1]) else "whole"
-        room, made = self.copies(kind), self.high if function else self.low
+        room, made = self.copies(function), self.high if function else self.low
         for file, text in texts.items():
             (room / self.low.name / file).write_text(text)
         words = [*self.rtlib.guarded(), self.rtlib.RATTLE, "check", *self.words(room, made, function), "--incremental", f"{room}/kept-{made.name}"]
@@ -338,7 +344,6 @@ def try_all(chosen, rtlib, crates, given):
     def work(low, high, group):
         with tempfile.TemporaryDirectory(prefix="misreadings-") as room:
             pair = Pair(rtlib, crates, low, high, room)
-            pair.build_below()
             for it in group:
                 sum_of, kept = pair.sum_of(it), Kept(pair.folder)
                 told = None if given.anew else kept.get(it, sum_of)
@@ -403,7 +408,6 @@ def itself(rtlib, crates):
     failed = 0
     with tempfile.TemporaryDirectory(prefix="misreadings-") as room:
         pair = Pair(rtlib, crates, "lexre_bytes", "lexre", room)
-        pair.build_below()
         for name, want, old, new in ITSELF:
             it = Misreading("lexre_bytes", name, "lexre", "laws::examples_of_patterns", "", (("specs/Lexical.antt", old, new),))
             word, why = judge(pair.check(it.pairs, it.function), it) or ("passes", "the examples are proved")

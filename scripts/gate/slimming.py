@@ -1,4 +1,4 @@
-"""Copies crates without their functions: what is left are types, constants and definitions, with the functions that have worked examples.
+"""Copies crates without their functions: what is left are types, constants and definitions, with some functions and those that they call.
 A check of such a function reads that alone, so it takes a third of the time. Used by misreadings.py."""
 import re
 import shutil
@@ -63,9 +63,25 @@ def without_names(text, gone):
     return USE.sub(use, text)
 
 
-def copy(folders, room, is_kept):
-    """Copies these crates into a folder, those below first, without the functions that are not kept."""
-    gone = set()
+def called_by(folders, is_asked):
+    """The names of the functions that are asked for, and of those that they call, by name."""
+    calls = {}
+    for path in (path for folder in folders for path in Path(folder, "src").rglob("*.rt")):
+        for item in items(path.read_text()):
+            first = next((line for line in item if HEAD.match(line)), "")
+            if first:
+                calls.setdefault(HEAD.match(first)[1], set()).update(re.findall(r"\b(\w+)\(", "\n".join(item)))
+    found, left = set(), {name for name in calls if is_asked(name)}
+    while left:
+        found |= left
+        left = {name for it in left for name in calls[it] if name in calls} - found
+    return found
+
+
+def copy(folders, room, is_asked):
+    """Copies these crates into a folder, those below first, without the functions that are neither asked for nor called by such."""
+    gone, kept = set(), called_by(folders, is_asked)
+    is_kept = kept.__contains__
     for folder in map(Path, folders):
         texts = {path.relative_to(folder): without_functions(path.read_text(), is_kept, gone) for path in (folder / "src").rglob("*.rt")}
         for path, text in texts.items():
