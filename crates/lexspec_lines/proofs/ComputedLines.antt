@@ -27,7 +27,7 @@ name_defined = refl
 
 pub no_definitions : NoDefinitions
 unfolding definition_at definition_in percent_line name_at take_up_to is_alpha is_upper is_lower is_alnum is_blank is_digit
-no_definitions = (refl, refl, refl, refl)
+no_definitions = (refl, refl, refl, refl, refl)
 
 pub block_skipped : Block
 unfolding definition_at after_block take_up_to is_blank

@@ -28,7 +28,7 @@ Defines = ◌≡◌ {A = Option (Definition × List ℕ)} (definition_at (codes 
 -- A name without a substitute, or with one that is anchored, a `%s` without a name, and a line that begins with `%%` are no
 -- definitions.
 abbrev pub NoDefinitions : Type 0
-NoDefinitions = (definition_at (codes "foo") ≡ None) × (definition_at (codes "A ^a") ≡ None) × (definition_at (codes "%s") ≡ None) × (definition_at (codes "%%") ≡ None)
+NoDefinitions = (definition_at (codes "foo") ≡ None) × (definition_at (codes "A ") ≡ None) × (definition_at (codes "A ^a") ≡ None) × (definition_at (codes "%s") ≡ None) × (definition_at (codes "%%") ≡ None)
 
 -- `%{` and `%}` on lines of their own
 abbrev pub Block : Type 0
