@@ -2,8 +2,8 @@
 use Rattle.std.proofs.Common.{◌≡◌, ℕ, suc, ◌+◌, ◌-◌, true, false, Bool, List, [], ◌∷◌, map, take, drop, Option, Some, None, inl, inr, refl, sym, ap, ◌∙◌, subst}
 use Rattle.std.specs.Prelude.{codes, IsSomeAnd, ◌||◌}
 use Rattle.std.specs.FinMap.{get, from_entries}
-use Rattle.lex_semantics.specs.ByteSets.{has, set_of, single, is_blank}
-use Rattle.lex_semantics.specs.Reading.{begins, take_up_to, after_blanks}
+use Rattle.lex_semantics.specs.ByteSets.{has, set_of, single, is_alpha, is_upper, is_lower, is_alnum, is_blank, is_digit}
+use Rattle.lex_semantics.specs.Reading.{IsCut, begins, take_up_to, after_blanks}
 use Rattle.lex_semantics.specs.Sound.{IsCutOf}
 use Rattle.lex_semantics.specs.Spec.{Rule, Spec, Cut, Whole, Head, Trail}
 use Rattle.lex_semantics.specs.Tree.{Tree, Star}
@@ -16,7 +16,9 @@ use Rattle.lexre.specs.Definitions.{Definitions}
 use Rattle.lexre.specs.PatternExamples.{plain, a, b}
 use Rattle.lexre.specs.Pieces.{dollar, other, slash, kind_at, slashes, ends_with_dollar}
 use Rattle.lexre.specs.Spelling.{Spells}
-use Rattle.lexre_bytes.specs.Lexical.{symbol_at}
+use Rattle.lexre_bytes.specs.Lexical.{symbol_at, after_word, name_at}
+use Rattle.lexspec_actions.specs.Actions.{Piece, next_piece, statement_at}
+use Rattle.lexspec_actions.specs.Bytes.{after_space, skip}
 use Rattle.lexspec_lines.proofs.OneSection.{no_true, one_up_to, separator_ends, some_pair}
 use Rattle.lexspec_lines.specs.DefinitionLines.{definition_at, all_conditions, all_options, has_name, substitutes_of}
 use Rattle.lexspec_lines.specs.Lines.{line_in, newlines, without_returns}
@@ -25,7 +27,7 @@ use Rattle.lexspec.proofs.TestLaws.{tree_is_sound}
 use Rattle.lexspec.proofs.FileSections.{sections_of}
 use Rattle.lexspec.specs.Files.{SpellsSpec}
 use Rattle.lexspec.specs.Items.{Conditions, unlisted, Subject, at_end, matching, Item, skipped, rule, IsSides, IsSubject, AreItems, conditions_at, starts_rule, action_at, action_end, after_piece, action_of}
-use Rattle.lexspec.specs.RuleItems.{AreRules, EndRule}
+use Rattle.lexspec.specs.RuleItems.{AreRules, EndRule, known}
 use Rattle.lexspec.specs.SpecExamples as Example
 use Rattle.lexspec.specs.Tests.{any_below}
 
@@ -255,5 +257,59 @@ both_vary S h =
             (ap (λ ds. record { fold = plain.fold || has_name (all_options ds) (codes "case-insensitive"); posix = plain.posix }) none_defined)
             (subst (λ is. AreRules (map (λ c. c.1) (all_conditions h.definitions)) (record { fold = plain.fold || has_name (all_options h.definitions) (codes "case-insensitive"); posix = plain.posix }) (has_name (all_options h.definitions) (codes "stack")) (from_entries (substitutes_of h.definitions)) is S.rules h.ends false) all h.rules))
 
+-- the text of a statement of the stack, where the option is not set
+no_piece : (names : List (List ℕ)) (defined : Definitions) (ps : List Piece) → IsCut (next_piece (known names plain false defined)) (λ t. skip t ≡ []) (codes "yy_pop_state();") ps → ⊥
+unfolding take_up_to is_alpha is_upper is_lower is_alnum is_blank is_digit after_word name_at after_space skip next_piece statement_at
+no_piece names defined [] cut = cc
+no_piece names defined (p ∷ ps) (rest, here, cut) = no here
+  where
+    no : ◌≡◌ {A = Option (Piece × List ℕ)} None (Some (p, rest)) → ⊥
+    no e = cc
+
+pops : (names : List (List ℕ)) (defined : Definitions) (n : ℕ) (asked : Conditions) (more : List (ℕ × Item)) (rules : List Rule) (ends : List EndRule)
+    → AreRules names plain false defined ((n, rule asked (matching false (codes "a") None) (Some (codes "yy_pop_state();"))) ∷ more) rules ends false → ⊥
+pops names defined n asked more [] ends h = h
+pops names defined n asked more (r ∷ rules) ends (h, acts, rest) = no_piece names defined acts.0.0 acts.0.1
+
+no_stack : Example.IsNone (codes "%%\na yy_pop_state();\n")
+unfolding definition_at conditions_at take_up_to is_blank action_at action_end after_piece kind_at piece_at slashes ends_with_dollar
+no_stack S h =
+    let items = items_of (codes "%%\na yy_pop_state();\n") (codes "a yy_pop_state();\n") refl refl S h in
+    let first = first_item items.0 (codes "a yy_pop_state();\n") h.items items.1 (λ e. cc) refl refl refl items.2 in
+    none first first.subject refl
+  where
+    cut : IsCutting (codes "a yy_pop_state();\n") 1 None false false
+    cut = cutting_of (codes "a yy_pop_state();\n") 1 None false false (record { pieces = (other, 0) ∷ []; cut = (codes " yy_pop_state();\n", refl, refl, (refl, refl)); places = []; outside = refl; first = refl; second = refl; last = refl })
+
+    none_is_no_some : (n : ℕ) → ◌≡◌ {A = Option ℕ} None (Some n) → ⊥
+    none_is_no_some n e = cc
+
+    none : (f : First (codes "a yy_pop_state();\n") h.items) (subject : Subject) → f.subject ≡ subject → ⊥
+    none f at_end e = (let (here, rest, ends) = subst (λ s. IsSubject (codes "a yy_pop_state();\n") s f.v) e f.begins_so in no_true here)
+    none f (matching true head trail) e = (let (here, not_end, sides) = subst (λ s. IsSubject (codes "a yy_pop_state();\n") s f.v) e f.begins_so in no_true here)
+    none f (matching false head (Some trail)) e = with_trail (subst (λ s. IsSubject (codes "a yy_pop_state();\n") s f.v) e f.begins_so).2
+      where
+        with_trail : IsSides (codes "a yy_pop_state();\n") head (Some trail) f.v → ⊥
+        with_trail (stop, rest, inl (so, head_is, more)) = no_true (one_cutting (codes "a yy_pop_state();\n") 1 stop None None false false false true cut so).3
+        with_trail (stop, rest, inr (at, so, head_is, more)) = none_is_no_some at (one_cutting (codes "a yy_pop_state();\n") 1 stop None (Some at) false false false false cut so).1
+    none f (matching false head None) e =
+        let (here, not_end, (stop, so, head_is, rest)) = subst (λ s. IsSubject (codes "a yy_pop_state();\n") s f.v) e f.begins_so in
+        let same = one_cutting (codes "a yy_pop_state();\n") 1 stop None None false false false false cut so in
+        let v_is : f.v ≡ codes " yy_pop_state();\n" = rest ∙ ap (λ n. drop n (codes "a yy_pop_state();\n")) (sym same.0) in
+        let front : head ≡ codes "a" = head_is ∙ ap (λ n. take n (codes "a yy_pop_state();\n")) (sym same.0) in
+        let acts : ◌≡◌ {A = Option (List ℕ × List ℕ)} (action_at (after_blanks (codes " yy_pop_state();\n"))) (Some (f.text, f.after)) = subst (λ v. action_at (after_blanks v) ≡ Some (f.text, f.after)) v_is f.acts in
+        let pop = some_pair (codes "yy_pop_state();") f.text [] f.after acts in
+        let does : f.action ≡ Some (codes "yy_pop_state();") = f.action_is ∙ ap action_of (sym pop.0) in
+        let all : h.items ≡ (f.n, rule f.asked (matching false (codes "a") None) (Some (codes "yy_pop_state();"))) ∷ f.more =
+        f.is_so ∙ ap (λ s. (f.n, rule f.asked s f.action) ∷ f.more) e ∙ ap (λ o. (f.n, rule f.asked (matching false head None) o) ∷ f.more) does
+        ∙ ap (λ x. (f.n, rule f.asked (matching false x None) (Some (codes "yy_pop_state();"))) ∷ f.more) front in
+        let none_defined = no_definitions (codes "%%\na yy_pop_state();\n") refl S h in
+        pops (map (λ c. c.1) (all_conditions h.definitions)) (from_entries (substitutes_of h.definitions)) f.n f.asked f.more S.rules h.ends
+        (subst (λ stack. AreRules (map (λ c. c.1) (all_conditions h.definitions)) plain stack (from_entries (substitutes_of h.definitions)) ((f.n, rule f.asked (matching false (codes "a") None) (Some (codes "yy_pop_state();"))) ∷ f.more) S.rules h.ends false)
+        (ap (λ ds. has_name (all_options ds) (codes "stack")) none_defined)
+        (subst (λ how. AreRules (map (λ c. c.1) (all_conditions h.definitions)) how (has_name (all_options h.definitions) (codes "stack")) (from_entries (substitutes_of h.definitions)) ((f.n, rule f.asked (matching false (codes "a") None) (Some (codes "yy_pop_state();"))) ∷ f.more) S.rules h.ends false)
+        (ap (λ ds. record { fold = plain.fold || has_name (all_options ds) (codes "case-insensitive"); posix = plain.posix }) none_defined)
+        (subst (λ is. AreRules (map (λ c. c.1) (all_conditions h.definitions)) (record { fold = plain.fold || has_name (all_options h.definitions) (codes "case-insensitive"); posix = plain.posix }) (has_name (all_options h.definitions) (codes "stack")) (from_entries (substitutes_of h.definitions)) is S.rules h.ends false) all h.rules)))
+
 pub no_rules : Example.NoRules
-no_rules = record { two_slashes = two_slashes; slash_and_dollar = slash_and_dollar; end_at_line = end_at_line; bar_of_end = bar_of_end; both_vary = both_vary }
+no_rules = record { two_slashes = two_slashes; slash_and_dollar = slash_and_dollar; end_at_line = end_at_line; bar_of_end = bar_of_end; both_vary = both_vary; no_stack = no_stack }
