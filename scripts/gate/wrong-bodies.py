@@ -7,13 +7,13 @@ whether the prover refuses it in its own function, and by which clause.
         --jobs N          N checks side by side (as many as processors)
         --itself          two bodies of lex_machine that are right, which must be told as proved, and one that is wrong
 
-The bodies stand in three folders of a crate, each a file with lines 'file:', 'old:' and 'new:' as `rt help` has them:
+The bodies stand in two folders of a crate, each a file with lines 'file:', 'old:' and 'new:' as `rt help` has them:
 
     must-fail/*.edit      those that the gate tries too, one by one
     wrong-bodies/*.edit   the others
-    misreadings/*.edit    changes of a definition
 
-Where the text stands in no function, as in the last, a line 'function:' names the one whose proof must refuse it.
+Where the text stands in no function, a line 'function:' names the one whose proof must refuse it. Changes of a definition are
+misreadings, which `misreadings.py` tries.
 
 A line of the answer begins with one of these words, and the status is 1 where one is not 'refused':
 
@@ -41,7 +41,7 @@ from typing import NamedTuple
 
 sys.dont_write_bytecode = True
 ROOT = Path(__file__).resolve().parents[2]
-FOLDERS = ("must-fail", "wrong-bodies", "misreadings")
+FOLDERS = ("must-fail", "wrong-bodies")
 PARTS = ("src", "specs", "proofs")
 FUNCTION = re.compile(r"^\s*(?:pub(?:\([^)]*\))?\s+)?(?:const\s+)?(?:unsafe\s+)?(?:ghost\s+)?fn\s+(\w+)")
 IMPL = re.compile(r"^\s*(?:unsafe\s+)?impl\b")
@@ -285,7 +285,7 @@ def told_of(checked, edit):
     for file, line, text in TOLD.findall(checked.text):
         # (an edit is one line for one line, so that lines keep their numbers)
         held = file in sources and function_at(folder, file, sources[file], min(int(line), len(sources[file])) - 1)
-        if file.startswith(proofs) or held and held[0] in edit.functions or edit.folder == "misreadings":
+        if file.startswith(proofs) or held and held[0] in edit.functions:
             yield text
 
 
@@ -294,8 +294,6 @@ def clause(checked, edit):
     # (first what is not proved, then what a proof file cites in vain)
     told = sorted(told_of(checked, edit), key=lambda it: bool(GONE.search(it)))
     goals = [(goal[1], text) for text in told for goal in [GOAL.search(text)] if goal]
-    if edit.folder == "misreadings" and goals:
-        return f"example {goals[0][0]}"
     for goal, text in goals:
         if "-clause-" in goal:
             return f"clause {goal.rpartition('-clause-')[2]}"
@@ -308,7 +306,7 @@ def clause(checked, edit):
 def is_gone(checked, edit):
     """Whether all that the prover says of the edit's functions is that a proof file cites what is no more."""
     told = list(told_of(checked, edit))
-    return bool(told) and edit.folder != "misreadings" and all(GONE.search(text) for text in told)
+    return bool(told) and all(GONE.search(text) for text in told)
 
 
 def judge(checked, edit, others):
@@ -338,13 +336,9 @@ def whole(crate, edit):
 
 
 def batch_of(pending):
-    """The edits of a next batch: of each function one, each definition alone."""
+    """The edits of a next batch: of each function one."""
     taken, batch = set(), []
     for edit in pending:
-        if edit.folder == "misreadings":
-            if not batch:
-                return [edit]
-            continue
         if not taken & set(edit.homes):
             taken |= set(edit.homes)
             batch.append(edit)

@@ -23,3 +23,4 @@ pub mod LaidLaws
 pub mod Bases
 pub mod Owning
 pub mod Passing
+pub mod PositionsComputed

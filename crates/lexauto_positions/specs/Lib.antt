@@ -1,4 +1,5 @@
 pub mod PositionAutomaton
+pub mod PositionExamples
 pub mod RuleAutomaton
 pub mod Flow
 pub mod Flows

@@ -8,6 +8,7 @@ ghost use Rattle.lex_semantics.specs.Reports.{HasFit};
 ghost use Rattle.lex_semantics.specs.Sound.{IsSound};
 ghost use Rattle.lex_semantics.specs.Subsets.{IsLast, ReadsActive};
 ghost use Rattle.lexauto_positions.specs.PositionAutomaton.{quad, Whole};
+ghost use Rattle.lexauto_positions.specs.PositionExamples.{CountsPositions, ReadsBytes, CountsSubsets};
 ghost use Rattle.lexauto_positions.specs.Flow.{exits, enters};
 ghost use Rattle.lexauto_positions.specs.Flows.{Exits, Enters};
 ghost use Rattle.lexauto_positions.specs.RuleAutomaton.{active_automaton, automaton, active_quad, rule_quad, every};
@@ -66,4 +67,11 @@ pub fn one_step_of_rules()
         → (rule_exits r S base ≡ true) ↔ ((p : ℕ) × (S p ≡ true) × (rule_quad r base).last p) }
     ensures reads { (b : ℕ) → b < 256 → (q : ℕ) (rules : List Rule) (i base : ℕ)
         → (rules_read rules b q base ≡ true) ↔ (active_quad every i base rules).letter (b, q) }
+{}
+
+/// Worked examples of positions: how many there are, which one reads each byte, and how many subsets of them.
+pub fn examples_of_positions()
+    ensures counts_positions { CountsPositions }
+    ensures reads_bytes { ReadsBytes }
+    ensures counts_subsets { CountsSubsets }
 {}

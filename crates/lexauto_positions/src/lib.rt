@@ -10,7 +10,8 @@
 //! - `rules`: one step over all rules.
 //! - `owners`: the rule that has a position.
 //! - `letters`: the bytes that each position reads.
-//! - `laws`: the position automaton reads what the patterns do; how the last positions of a specification move.
+//! - `laws`: the position automaton reads what the patterns do; how the last positions of a specification move;
+//!   worked examples.
 //!
 //! It promises that a step leads to the positions that follow by the definitions, and leaves the rules that have a last
 //! one. lexauto alone stands on it. How a rule is laid out and walked may change alone. The positions may not:
@@ -39,8 +40,8 @@ mod walk;
 
 pub use counting::count_positions;
 pub use laws::{
-    first_positions, live_positions, next_positions, one_step, one_step_of_rules,
-    position_automaton, words_that_fit,
+    examples_of_positions, first_positions, live_positions, next_positions, one_step,
+    one_step_of_rules, position_automaton, words_that_fit,
 };
 pub use letters::{letters_of, mask_of};
 pub use owners::{Owner, owners_of};

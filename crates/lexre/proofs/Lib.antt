@@ -3,6 +3,7 @@ pub mod BraceLaws
 pub mod CountLaws
 pub mod CuttingLaws
 pub mod CuttingsComputed
+pub mod FaultsComputed
 pub mod CycleLaws
 pub mod DefinitionLaws
 pub mod EntryLaws

@@ -3,7 +3,7 @@ use Rattle.std.proofs.Common.{◌≡◌, ℕ, List, [], ◌∷◌, Some, None, c
 use Rattle.std.proofs.lemmas.Bool.{leb-true}
 use Rattle.std.specs.FinMap.{get}
 use Rattle.std.specs.Prelude.{true, false, nat_le, ◌+◌, ◌^◌, ◌++◌}
-use Rattle.lex_semantics.specs.ByteSets.{has, set_of, empty_set, single, range_set, union, complement, other_case, fold_case, is_upper, is_lower, is_alpha, is_digit, is_xdigit, is_alnum, named_set}
+use Rattle.lex_semantics.specs.ByteSets.{has, set_of, empty_set, single, range_set, union, complement, other_case, fold_case, is_upper, is_lower, is_alpha, is_digit, is_xdigit, is_alnum, is_blank, named_set}
 use Rattle.lex_semantics.specs.Escapes.{simple_escape, octal_at, hexadecimal_at, until_quote}
 use Rattle.lex_semantics.specs.Reading.{take_up_to}
 use Rattle.lex_semantics.specs.Shapes.{nodes}
@@ -12,7 +12,7 @@ use Rattle.lexre_bytes.specs.Lexical.{after_word, run_at, number_at, name_at, es
 use Rattle.lexre_bytes.specs.Symbols.{item, name}
 use Rattle.lexre.specs.Grammar.{SpellsWithin}
 use Rattle.lexre.specs.Limits.{max_nodes, max_open}
-use Rattle.lexre.specs.PatternExamples.{a, b, c, ab, a_or_b, letter, quote, backslash, signed_often, repeated_often, enclosed, Is, IsNone, plain, folding, over_series, Items, Classes, Escapes, Folded, Joined, Operators, OverItems, OverSeries, Named, Bounds, Refused, RefusedItems}
+use Rattle.lexre.specs.PatternExamples.{a, b, c, ab, a_or_b, letter, quote, backslash, signed_often, repeated_often, enclosed, Is, IsNone, plain, folding, over_series, Items, Classes, ClassNames, Escapes, Folded, Joined, Operators, OverItems, OverSeries, Named, Bounds, Refused, RefusedItems}
 use Rattle.lexre.specs.Running.{state, fresh, pushed}
 use Rattle.lexre.specs.declared.options.ReadOptions.{ReadOptions}
 use Rattle.lexre.proofs.GrammarLaws.{spelled_runs, runs_spelled}
@@ -52,13 +52,28 @@ classes = (
   is_tree plain 20 (codes "[[:xdigit:]]") (Set (union (range_set 48 57) (union (range_set 65 70) (range_set 97 102)))) refl refl,
 )
 
+pub class_names : ClassNames
+unfolding after_word run_at number_at name_at escape_at quoted_tree class_name_at enclosed_by bracketed_at range_at element_at elements_at class_at span class_set bounded interval_at braces_at symbol_at has set_of empty_set single range_set union complement other_case fold_case is_upper is_lower is_alpha is_digit is_alnum is_blank simple_escape octal_at hexadecimal_at until_quote take_up_to is_xdigit named_set
+class_names = (
+  is_tree plain 20 (codes "[[:alpha:]]") (Set (union (range_set 65 90) (range_set 97 122))) refl refl,
+  is_tree plain 20 (codes "[[:upper:]]") (Set (range_set 65 90)) refl refl,
+  is_tree plain 20 (codes "[[:lower:]]") (Set (range_set 97 122)) refl refl,
+  is_tree plain 20 (codes "[[:alnum:]]") (Set (union (range_set 48 57) (union (range_set 65 90) (range_set 97 122)))) refl refl,
+  is_tree plain 20 (codes "[[:space:]]") (Set (union (range_set 9 13) (single 32))) refl refl,
+  is_tree plain 20 (codes "[[:blank:]]") (Set (union (single 9) (single 32))) refl refl,
+  is_tree plain 20 (codes "[[:cntrl:]]") (Set (union (range_set 0 31) (single 127))) refl refl,
+  is_tree plain 20 (codes "[[:graph:]]") (Set (range_set 33 126)) refl refl,
+  is_tree plain 20 (codes "[[:print:]]") (Set (range_set 32 126)) refl refl,
+  is_tree plain 20 (codes "[[:punct:]]") (Set (union (union (range_set 33 47) (range_set 58 64)) (union (range_set 91 96) (range_set 123 126)))) refl refl,
+)
+
 pub escapes : Escapes
 unfolding after_word run_at number_at name_at escape_at quoted_tree class_name_at enclosed_by bracketed_at range_at element_at elements_at class_at span class_set bounded interval_at braces_at symbol_at has set_of empty_set single range_set union complement other_case fold_case is_alpha is_digit is_alnum simple_escape octal_at hexadecimal_at until_quote take_up_to is_xdigit
 escapes = (
   is_tree plain 20 (codes "\\x411") (Cat (trees (letter 65 ∷ letter 49 ∷ []))) refl refl,
   is_tree plain 20 (codes "\\1011") (Cat (trees (letter 65 ∷ letter 49 ∷ []))) refl refl,
   is_tree plain 20 (codes "\\x") (letter 120) refl refl,
-  is_tree plain 20 (codes "\\r") (letter 13) refl refl,
+  is_tree plain 20 (codes "\\a\\b\\f\\n\\r\\t\\v") (Cat (trees (letter 7 ∷ letter 8 ∷ letter 12 ∷ letter 10 ∷ letter 13 ∷ letter 9 ∷ letter 11 ∷ []))) refl refl,
   is_tree plain 20 (codes "\\*") (letter 42) refl refl,
   is_tree plain 20 (codes "\"a\\\"b\"") (Cat (trees (a ∷ letter 34 ∷ b ∷ []))) refl refl,
 )
@@ -67,6 +82,7 @@ pub folded : Folded
 unfolding after_word run_at number_at name_at escape_at quoted_tree class_name_at enclosed_by bracketed_at range_at element_at elements_at class_at span class_set bounded interval_at braces_at symbol_at has set_of empty_set single range_set union complement other_case fold_case is_alpha is_digit is_alnum simple_escape octal_at hexadecimal_at until_quote take_up_to
 folded = (
   is_tree folding 20 (codes "a") (Set (2 ^ 65 + 2 ^ 97)) refl refl,
+  is_tree folding 20 (codes "\"a\"") (Set (2 ^ 65 + 2 ^ 97)) refl refl,
   is_tree folding 20 (codes "[A-B]") (Set (2 ^ 65 + 2 ^ 66 + 2 ^ 97 + 2 ^ 98)) refl refl,
   is_tree folding 20 (codes "[^a]") (Set (complement (2 ^ 65 + 2 ^ 97))) refl refl,
 )
@@ -151,8 +167,8 @@ unfolding after_word run_at number_at name_at escape_at quoted_tree class_name_a
 named = λ definitions found.
     let inside : SpellsWithin false (symbol_at false) (get definitions) 63 (codes "a|b") a_or_b =
     runs_spelled false (symbol_at false) (get definitions) 63 (codes "a|b") a_or_b (found_runs false false (get definitions) 20 (state fresh [] 63) (codes "a|b") a_or_b refl) in (
-      runs_spelled false (symbol_at false) (get definitions) 64 (codes "{D}c") (Cat (trees (a_or_b ∷ c ∷ []))) (
-        name (codes "D") ∷ item c ∷ [],
+      runs_spelled false (symbol_at false) (get definitions) 64 (codes "{D-1}c") (Cat (trees (a_or_b ∷ c ∷ []))) (
+        name (codes "D-1") ∷ item c ∷ [],
         (codes "c", refl, ([], refl, refl)),
         (state (pushed a_or_b fresh) [] 64, (a_or_b, (codes "a|b", found, inside), refl), (state (pushed c (pushed a_or_b fresh)) [] 64, refl, refl)),
       ),
@@ -167,8 +183,14 @@ refused_items = (
   is_none plain 20 (codes "[[:foo:]]") refl,
   is_none plain 20 (codes "[[:^digit:]]") refl,
   is_none plain 20 (codes "[[=a=]]") refl,
+  is_none plain 20 (codes "[[.a.]]") refl,
   is_none plain 20 (codes "[a-[:digit:]]") refl,
   is_none plain 20 (codes "\\400") refl,
   is_none plain 20 backslash refl,
   is_none plain 20 (codes "a/b") refl,
+  is_none plain 20 (codes "a\tb") refl,
+  is_none plain 20 (codes "a\nb") refl,
+  is_none plain 20 (codes "a\\\nb") refl,
+  is_none plain 20 (codes "\"a\nb\"") refl,
+  is_none plain 20 (codes "[a\n]") refl,
 )

@@ -1,41 +1,38 @@
--- Worked examples of texts without a cutting, each with its first fault and the offset of that. (Which fault is told is this project's.)
-use Rattle.std.specs.Prelude.{◌≡◌, ℕ, List, Some, None, codes}
-use Rattle.lexre_bytes.specs.declared.error.PatternErrorKind.{PatternErrorKind}
-use Rattle.lexre_bytes.specs.declared.error.PatternErrorKind.TheVariants.{UnclosedQuote, UnclosedClass, BadEscape, MisplacedSlash}
-use Rattle.lexre.specs.CuttingFaults.{cutting_fault}
+-- Worked examples of where the pattern of a rule ends, and what stands at its end. (POSIX, lex, Rules in lex; flex, Patterns:
+-- `r/s`, `r$`.)
+use Rattle.std.specs.Prelude.{ℕ, Bool, true, false, List, Option, Some, None, codes}
+use Rattle.lexre.specs.Cutting.{IsCutting}
 
-abbrev pub Tells : List ℕ → PatternErrorKind → ℕ → Type 0
-Tells text kind at = cutting_fault text ≡ Some (record { kind = kind; at = at })
+-- A blank ends the pattern, unless it stands in quotes, in a class or behind a backslash.
+pub record Ends : Type 0 where
+  pub at_blank : IsCutting (codes "a b") 1 None false false
+  pub at_newline : IsCutting (codes "a\nb") 1 None false false
+  pub at_end : IsCutting (codes "a") 1 None false false
+  pub in_quotes : IsCutting (codes "\"a b\" c") 5 None false false
+  pub in_class : IsCutting (codes "[ a] c") 4 None false false
+  pub behind_backslash : IsCutting (codes "a\\ b c") 4 None false false
 
--- A quote and a class without an end, also where a range is out of order in it. A bad escape alone, at the end, in quotes, in a
--- class, and as the end of a range. A backslash between brackets is no escape. A slash inside parentheses.
-abbrev pub OneFault : Type 0
-OneFault =
-    Tells (codes "a\"b c") UnclosedQuote 1
-    × Tells (codes "a[b c") UnclosedClass 1
-    × Tells (codes "[z-a") UnclosedClass 0
-    × Tells (codes "[]") UnclosedClass 0
-    × Tells (codes "a\\400") BadEscape 1
-    × Tells (codes "a\\") BadEscape 1
-    × Tells (codes "\"a\\400\"") BadEscape 2
-    × Tells (codes "[^a\\400]") BadEscape 3
-    × Tells (codes "[a-\\400]") BadEscape 3
-    × Tells (codes "[[=\\400=]") UnclosedClass 0
-    × Tells (codes "(a/b)") MisplacedSlash 2
+-- A slash counts, unless it stands in quotes, in a class or behind a backslash; it is told where the first stands, and whether
+-- there is a second.
+pub record Slashes : Type 0 where
+  pub slash : IsCutting (codes "a/b c") 3 (Some 1) false false
+  pub two_slashes : IsCutting (codes "a/b/c d") 5 (Some 1) true false
+  pub in_quotes : IsCutting (codes "\"a/b\" c") 5 None false false
+  pub in_class : IsCutting (codes "[/]b c") 4 None false false
+  pub behind_backslash : IsCutting (codes "a\\/b c") 4 None false false
+  pub behind_parentheses : IsCutting (codes "(a)/b c") 5 (Some 3) false false
 
--- Of two faults the first is told: a slash before a quote and behind it, an escape before the end of its quotes, and a quote before
--- a class.
-abbrev pub TwoFaults : Type 0
-TwoFaults =
-    Tells (codes "(a/\"b") MisplacedSlash 2
-    × Tells (codes "(\"b/a") UnclosedQuote 1
-    × Tells (codes "\"a\\400") BadEscape 2
-    × Tells (codes "\"a[b") UnclosedQuote 0
+-- A `$` counts where it comes last, and not behind a backslash.
+pub record Dollars : Type 0 where
+  pub dollar : IsCutting (codes "a$ b") 2 None false true
+  pub inside : IsCutting (codes "a$b c") 3 None false false
+  pub behind_backslash : IsCutting (codes "a\\$ b") 3 None false false
+  pub behind_a_slash : IsCutting (codes "a/b$ c") 4 (Some 1) false true
 
--- A closing parenthesis with none open counts for nothing, a `/` in quotes or in a class is no slash, and the pattern ends at the
--- first blank.
-abbrev pub NoFault : Type 0
-NoFault =
-    (cutting_fault (codes "(a))/b") ≡ None)
-    × (cutting_fault (codes "(\"/\"[/])") ≡ None)
-    × (cutting_fault (codes "a \"") ≡ None)
+abbrev pub HasNone : List ℕ → Type 0
+HasNone text = (end : ℕ) (first : Option ℕ) (two special : Bool) → IsCutting text end first two special → ⊥
+
+-- a slash in parentheses, and a text in quotes without an end
+pub record NoCuttings : Type 0 where
+  pub in_parentheses : HasNone (codes "(a/b) c")
+  pub open_quote : HasNone (codes "\"a b")

@@ -11,6 +11,7 @@ pub mod Names
 pub mod Outcome
 pub mod CuttingExamples
 pub mod CuttingFaults
+pub mod FaultExamples
 pub mod CuttingSoFar
 pub mod Reading
 pub mod Pieces

@@ -77,6 +77,20 @@ Classes =
     × Is plain (codes "[[:digit:]]") (Set (range_set 48 57))
     × Is plain (codes "[[:xdigit:]]") (Set (union (range_set 48 57) (union (range_set 65 70) (range_set 97 102))))
 
+-- the other named classes
+abbrev pub ClassNames : Type 0
+ClassNames =
+    Is plain (codes "[[:alpha:]]") (Set (union (range_set 65 90) (range_set 97 122)))
+    × Is plain (codes "[[:upper:]]") (Set (range_set 65 90))
+    × Is plain (codes "[[:lower:]]") (Set (range_set 97 122))
+    × Is plain (codes "[[:alnum:]]") (Set (union (range_set 48 57) (union (range_set 65 90) (range_set 97 122))))
+    × Is plain (codes "[[:space:]]") (Set (union (range_set 9 13) (single 32)))
+    × Is plain (codes "[[:blank:]]") (Set (union (single 9) (single 32)))
+    × Is plain (codes "[[:cntrl:]]") (Set (union (range_set 0 31) (single 127)))
+    × Is plain (codes "[[:graph:]]") (Set (range_set 33 126))
+    × Is plain (codes "[[:print:]]") (Set (range_set 32 126))
+    × Is plain (codes "[[:punct:]]") (Set (union (union (range_set 33 47) (range_set 58 64)) (union (range_set 91 96) (range_set 123 126))))
+
 -- Escapes: at most two hexadecimal digits and at most three octal ones, `\x` without a digit, and those of C; in quotes they
 -- are the same.
 abbrev pub Escapes : Type 0
@@ -84,14 +98,15 @@ Escapes =
     Is plain (codes "\\x411") (Cat (trees (letter 65 ∷ letter 49 ∷ [])))
     × Is plain (codes "\\1011") (Cat (trees (letter 65 ∷ letter 49 ∷ [])))
     × Is plain (codes "\\x") (letter 120)
-    × Is plain (codes "\\r") (letter 13)
+    × Is plain (codes "\\a\\b\\f\\n\\r\\t\\v") (Cat (trees (letter 7 ∷ letter 8 ∷ letter 12 ∷ letter 10 ∷ letter 13 ∷ letter 9 ∷ letter 11 ∷ [])))
     × Is plain (codes "\\*") (letter 42)
     × Is plain (codes "\"a\\\"b\"") (Cat (trees (a ∷ letter 34 ∷ b ∷ [])))
 
--- `a` and `[A-B]` stand for both cases where that is asked, and `[^a]` for neither
+-- `a`, also in quotes, and `[A-B]` stand for both cases where that is asked, and `[^a]` for neither
 abbrev pub Folded : Type 0
 Folded =
     Is folding (codes "a") (Set (2 ^ 65 + 2 ^ 97))
+    × Is folding (codes "\"a\"") (Set (2 ^ 65 + 2 ^ 97))
     × Is folding (codes "[A-B]") (Set (2 ^ 65 + 2 ^ 66 + 2 ^ 97 + 2 ^ 98))
     × Is folding (codes "[^a]") (Set (complement (2 ^ 65 + 2 ^ 97)))
 
@@ -136,11 +151,11 @@ OverSeries =
     × Is over_series (codes "c|ab{2}") (Alt (trees (c ∷ Repeat ab 2 (Some 2) ∷ [])))
     × Is over_series (codes "a*b") (Cat (trees (Star a ∷ b ∷ [])))
 
--- `{D}c`: a name stands for its text as if in parentheses.
+-- `{D-1}c`: a name stands for its text as if in parentheses.
 abbrev pub Named : Type 0
 Named =
-    (definitions : Definitions) → get definitions (codes "D") ≡ Some (codes "a|b")
-    → Spells plain definitions (codes "{D}c") (Cat (trees (a_or_b ∷ c ∷ [])))
+    (definitions : Definitions) → get definitions (codes "D-1") ≡ Some (codes "a|b")
+    → Spells plain definitions (codes "{D-1}c") (Cat (trees (a_or_b ∷ c ∷ [])))
 
 -- a letter with so many `+`
 abbrev pub signed_often : ℕ → List ℕ
@@ -183,7 +198,8 @@ Refused =
     × IsNone plain (codes "a b")
 
 -- A class without an element, a complement without a byte, a name of no class, a class that is negated by its name, a class of
--- equal letters, a range up to a class, an octal escape above 255, a backslash at the end, and a slash.
+-- equal letters, a collating element, a range up to a class, an octal escape above 255, a backslash at the end, a slash, a
+-- tab, and a newline: alone, behind a backslash, in quotes and in a class.
 abbrev pub RefusedItems : Type 0
 RefusedItems =
     IsNone plain (codes "[]")
@@ -191,7 +207,13 @@ RefusedItems =
     × IsNone plain (codes "[[:foo:]]")
     × IsNone plain (codes "[[:^digit:]]")
     × IsNone plain (codes "[[=a=]]")
+    × IsNone plain (codes "[[.a.]]")
     × IsNone plain (codes "[a-[:digit:]]")
     × IsNone plain (codes "\\400")
     × IsNone plain backslash
     × IsNone plain (codes "a/b")
+    × IsNone plain (codes "a\tb")
+    × IsNone plain (codes "a\nb")
+    × IsNone plain (codes "a\\\nb")
+    × IsNone plain (codes "\"a\nb\"")
+    × IsNone plain (codes "[a\n]")

@@ -3,10 +3,11 @@ ghost use Rattle.std.specs.Prelude.{◌≡◌, ℕ, ◌+◌, Bool, List, Option}
 ghost use Rattle.lex_semantics.specs.Positions.{Cell, Reads, positions};
 ghost use Rattle.lex_semantics.specs.Tree.{Tree};
 ghost use Rattle.lexre.specs.Cutting.{IsCutting};
-ghost use Rattle.lexre.specs.CuttingExamples.{NoFault, OneFault, TwoFaults};
+ghost use Rattle.lexre.specs.CuttingExamples.{Ends, Slashes, Dollars, NoCuttings};
 ghost use Rattle.lexre.specs.Definitions.{Definitions};
-ghost use Rattle.lexre.specs.PatternExamples.{Items, Classes, Escapes, Folded, Joined, Operators, OverItems};
-ghost use Rattle.lexre.specs.PatternExamples.{OverSeries, Named, Bounds, Refused, RefusedItems};
+ghost use Rattle.lexre.specs.FaultExamples.{NoFault, OneFault, TwoFaults};
+ghost use Rattle.lexre.specs.PatternExamples.{Items, Classes, ClassNames, Escapes, Folded, Joined, Operators};
+ghost use Rattle.lexre.specs.PatternExamples.{OverItems, OverSeries, Named, Bounds, Refused, RefusedItems};
 ghost use Rattle.lexre.specs.Readings.{UsesFrom};
 ghost use Rattle.lexre.specs.Spelling.{Spells};
 ghost use Rattle.lexre.specs.declared.options.ReadOptions.{ReadOptions};
@@ -30,7 +31,7 @@ pub fn one_cutting()
 {}
 
 /// Worked examples of texts without a cutting, each with its first fault and its offset, and of texts without a fault.
-pub fn examples_of_cuttings()
+pub fn examples_of_cutting_faults()
     ensures one_fault { OneFault }
     ensures two_faults { TwoFaults }
     ensures no_fault { NoFault }
@@ -41,6 +42,7 @@ pub fn examples_of_cuttings()
 pub fn examples_of_patterns()
     ensures items { Items }
     ensures classes { Classes }
+    ensures class_names { ClassNames }
     ensures escapes { Escapes }
     ensures folded { Folded }
     ensures joined { Joined }
@@ -51,4 +53,13 @@ pub fn examples_of_patterns()
     ensures bounds { Bounds }
     ensures refused { Refused }
     ensures refused_items { RefusedItems }
+{}
+
+/// Worked examples of where a pattern ends: blanks, slashes and a `$` that count and that do not, and texts that have no
+/// cutting.
+pub fn examples_of_cuttings()
+    ensures ends { Ends }
+    ensures slashes { Slashes }
+    ensures dollars { Dollars }
+    ensures none { NoCuttings }
 {}

@@ -16,3 +16,4 @@ pub mod Pushing
 pub mod Lying
 pub mod SoFar
 pub mod Tables
+pub mod AskingComputed

@@ -17,6 +17,7 @@ pub mod Turns
 pub mod Ties
 pub mod Scanners
 pub mod Pushes
+pub mod AskingExamples
 pub mod Attempts
 pub mod Steps
 pub mod Scans

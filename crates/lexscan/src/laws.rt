@@ -1,14 +1,24 @@
-//! The laws of tokens.
+//! The laws of tokens, and worked examples of what turns ask for.
 ghost use Rattle.lex_semantics.specs.Machine.{Machine, rules_of_machine};
 ghost use Rattle.lex_semantics.specs.MachineLaws.{MachineLaws};
 ghost use Rattle.lex_semantics.specs.Rules.{rules_of};
 ghost use Rattle.lex_semantics.specs.Sound.{IsSound};
 ghost use Rattle.lex_semantics.specs.Spec.{Spec};
 ghost use Rattle.lex_semantics.specs.TableFor.{TableFor};
+ghost use Rattle.lexscan.specs.AskingExamples.{Asking, AskingEnd, Given, Known};
 ghost use Rattle.lexscan.specs.Tokens.{SameTokens};
 
 /// The tokens by a machine that is a table for a specification are those of the specification.
 pub fn table_tokens()
     ensures { (M : Machine) (S : Spec) → MachineLaws M → IsSound S → TableFor M S
         → SameTokens (rules_of_machine M) (rules_of S) }
+{}
+
+/// Worked examples of what turns ask for, and of what is known of a scan: the bytes of a match, the end, the inputs that
+/// a source may still have, and the scan before its first turn.
+pub fn examples_of_asking()
+    ensures asking { Asking }
+    ensures asking_end { AskingEnd }
+    ensures given { Given }
+    ensures known { Known }
 {}

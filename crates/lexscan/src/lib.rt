@@ -13,7 +13,7 @@
 //! - `asking`: the state after all bytes of a match that asks for more.
 //! - `push`: a scan that is fed its input piece by piece.
 //! - `token`: the tokens of an input in memory, by the turns of a scanner.
-//! - `laws`: a table has the tokens of its specification.
+//! - `laws`: a table has the tokens of its specification; worked examples of what turns ask for.
 //!
 //! It promises lexkit what a run writes, takes and holds, by records over a scan and its ends before and after
 //! (`specs/Scans`, `TurnInvariants`, `Runs`). How turns are made may be changed alone, under the contracts of `run`,
@@ -45,7 +45,7 @@ mod token;
 mod turn;
 mod whole;
 
-pub use laws::table_tokens;
+pub use laws::{examples_of_asking, table_tokens};
 pub use lex_io::{ByteReader, FromBytes, FromRead, MemorySource, ReadFault, Source};
 pub use lexscan_matching::{accepted, longest};
 pub use lexscan_window::{Candidate, Match, MatchedRule, RunError, Window};

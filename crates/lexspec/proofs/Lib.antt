@@ -27,4 +27,5 @@ pub mod ReadingLaws
 pub mod ComputedRules
 pub mod ComputedSections
 pub mod ComputedSpecs
+pub mod RefusedRules
 pub mod RefusedSpecs

@@ -168,3 +168,13 @@ pub record NoFiles : Type 0 where
   pub not_declared : IsNone (codes "%%\n<A>a ECHO;\n")
   pub bar_at_end : IsNone (codes "%%\na |\n")
   pub two_ends : IsNone (codes "%%\n<<EOF>> exit(1);\n<<EOF>> exit(2);\n")
+
+-- Lines that are no rules: two slashes, a slash beside a `$`, `^` before `<<EOF>>`, a `|` at `<<EOF>>`, trailing context where
+-- neither side has a fixed length, and a statement of the stack without its option.
+pub record NoRules : Type 0 where
+  pub two_slashes : IsNone (codes "%%\na/b/c ;\n")
+  pub slash_and_dollar : IsNone (codes "%%\na/b$ ;\n")
+  pub end_at_line : IsNone (codes "%%\n^<<EOF>> ;\n")
+  pub bar_of_end : IsNone (codes "%%\n<<EOF>> |\na ;\n")
+  pub both_vary : IsNone (codes "%%\na*/b* ;\n")
+  pub no_stack : IsNone (codes "%%\na yy_pop_state();\n")

@@ -11,8 +11,8 @@ ghost use Rattle.lexspec.specs.Files.{SpellsSpec};
 ghost use Rattle.lexspec.specs.Endings.{conditions_with};
 ghost use Rattle.lexre.specs.declared.options.ReadOptions.{ReadOptions};
 ghost use Rattle.lexspec.specs.Tests.{is_sound, sound_tree};
-ghost use Rattle.lexspec.specs.RuleExamples.{ConditionLists, Actions};
-ghost use Rattle.lexspec.specs.SpecExamples.{WholeFile, WholeSkips, ShortFile, NoFiles};
+ghost use Rattle.lexspec.specs.RuleExamples.{ConditionLists, Actions, Sides};
+ghost use Rattle.lexspec.specs.SpecExamples.{WholeFile, WholeSkips, ShortFile, NoFiles, NoRules};
 ghost use Rattle.lex_semantics.specs.Limits.{max_conditions, max_rules};
 
 /// A tree passes the test exactly if it is sound.
@@ -40,10 +40,11 @@ pub fn sound_specifications()
         → is_sound (record { conditions = conditions_with 0 cs ends; rules = rules }) ≡ true }
 {}
 
-/// Worked examples of condition lists and actions.
+/// Worked examples of condition lists, actions, and the sides of patterns.
 pub fn examples_of_rules()
     ensures lists { ConditionLists }
     ensures actions { Actions }
+    ensures sides { Sides }
 {}
 
 /// Worked examples of files: one with each kind of line, and where it has code; a short one with an option; and files
@@ -53,4 +54,9 @@ pub fn examples_of_specs()
     ensures skipped { WholeSkips }
     ensures short { ShortFile }
     ensures none { NoFiles }
+{}
+
+/// Worked examples of lines that are no rules, in files that so spell no specification.
+pub fn examples_of_refused_rules()
+    ensures { NoRules }
 {}

@@ -54,8 +54,8 @@ mod statements;
 mod subject;
 
 pub use laws::{
-    examples_of_rules, examples_of_specs, one_specification, sound_specifications,
-    tested_specifications, tested_trees,
+    examples_of_refused_rules, examples_of_rules, examples_of_specs, one_specification,
+    sound_specifications, tested_specifications, tested_trees,
 };
 pub use lex_machine::Cut;
 pub use lexre::{PatternError, PatternErrorKind, ReadOptions};

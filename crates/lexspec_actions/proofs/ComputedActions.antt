@@ -1,17 +1,17 @@
 -- The worked examples of actions, computed.
-use Rattle.std.proofs.Common.{◌≡◌, ℕ, true, false, List, [], ◌∷◌, Option, Some, None, refl, sym, ap, ◌∙◌, subst, arith, inl}
+use Rattle.std.proofs.Common.{◌≡◌, ℕ, true, false, List, [], ◌∷◌, Option, Some, None, refl, sym, ap, ◌∙◌, subst, arith, ◌⊎◌, inl, inr}
 use Rattle.std.specs.Prelude.{codes, flat_map}
 use Rattle.lex_semantics.specs.ByteSets.{is_alpha, is_upper, is_lower, is_alnum, is_blank, is_digit, is_xdigit}
 use Rattle.lex_semantics.specs.Reading.{take_up_to, IsCut}
 use Rattle.lex_semantics.specs.Escapes.{simple_escape, octal_at, hexadecimal_at, until_quote}
 use Rattle.lex_semantics.specs.Literals.{normal}
-use Rattle.lex_semantics.specs.Spec.{Statement, Echo, Print, Begin, More, Less, Reject, End, Push, Pop}
+use Rattle.lex_semantics.specs.Spec.{EndAction, Statement, Echo, Print, Begin, More, Less, Reject, End, Push, Pop}
 use Rattle.lexre_bytes.specs.Lexical.{after_word, run_at, number_at, name_at, escape_at}
 use Rattle.lexspec_actions.specs.Bytes.{after_space, skip, expect, string_escape_at, literal_at}
-use Rattle.lexspec_actions.specs.Actions.{Piece, AreBalanced, next_piece, statement_at, SpellsAction, parts_of, in_parentheses, number_within, second_word, format_at, after_statement, condition_at}
+use Rattle.lexspec_actions.specs.Actions.{Piece, AreBalanced, next_piece, statement_at, SpellsAction, SpellsEndAction, parts_of, in_parentheses, number_within, second_word, format_at, after_statement, condition_at}
 use Rattle.lexspec_actions.specs.ActionSteps as S
 use Rattle.lexspec_actions.specs.ActionSteps.{does, prints, prints_text, may_stand}
-use Rattle.lexspec_actions.specs.ActionExamples.{known, EachStatement, SeveralStatements, NoActions, EndActions}
+use Rattle.lexspec_actions.specs.ActionExamples.{known, SaysNothing, EachStatement, SeveralStatements, NoActions, EndActions}
 use Rattle.lexspec_actions.proofs.OneAction.{one_cut}
 use Rattle.lexspec_actions.proofs.SameActions.{balanced, one_balanced, none_left}
 
@@ -48,6 +48,8 @@ several_statements = record {
   );
   last = ((([], Echo ∷ []) ∷ ([], Reject ∷ []) ∷ [], (codes " REJECT", refl, ([], refl, refl)), balanced (S.says (does Echo) ∷ S.says (does Reject) ∷ []) refl, refl), refl);
   line_comment = ((([], Echo ∷ []) ∷ [], (codes " // }\n", refl, refl), one_balanced (does Echo), refl), refl);
+  open_comment = ((([], Echo ∷ []) ∷ [], (codes " /* }", refl, refl), one_balanced (does Echo), refl), refl);
+  text_alone = ((([], Print [] ∷ Echo ∷ Print [] ∷ []) ∷ [], ([], refl, refl), one_balanced (prints_text [] []), refl), refl);
 }
 
 nothing_first : (text : List ℕ) → next_piece (known false) text ≡ None → (skip text ≡ [] → ⊥) → (ss : List Statement) → SpellsAction (known false) text ss → ⊥
@@ -71,29 +73,72 @@ unlike text qs is not ss ((ps, cut, balanced, same), stands) =
     let may : may_stand (normal (flat_map (λ (q : Piece). q.1) ps)) ≡ true = ap may_stand (sym same) ∙ stands in
     not (subst AreBalanced e balanced) (subst (λ xs. may_stand (normal (flat_map (λ (q : Piece). q.1) xs)) ≡ true) e may)
 
+no_semicolon : SaysNothing (codes "ECHO ECHO;")
+unfolding take_up_to is_alpha is_upper is_lower is_alnum is_blank is_digit is_xdigit octal_at hexadecimal_at until_quote simple_escape after_word run_at number_at name_at escape_at after_space skip expect string_escape_at literal_at next_piece statement_at parts_of in_parentheses number_within second_word format_at after_statement condition_at
+no_semicolon = nothing_first (codes "ECHO ECHO;") refl (λ e. cc)
+
+no_stack : SaysNothing (codes "yy_pop_state();")
+unfolding take_up_to is_alpha is_upper is_lower is_alnum is_blank is_digit is_xdigit octal_at hexadecimal_at until_quote simple_escape after_word run_at number_at name_at escape_at after_space skip expect string_escape_at literal_at next_piece statement_at parts_of in_parentheses number_within second_word format_at after_statement condition_at
+no_stack = nothing_first (codes "yy_pop_state();") refl (λ e. cc)
+
 pub no_actions : NoActions
 unfolding take_up_to is_alpha is_upper is_lower is_alnum is_blank is_digit is_xdigit octal_at hexadecimal_at until_quote simple_escape after_word run_at number_at name_at escape_at after_space skip expect string_escape_at literal_at next_piece statement_at parts_of in_parentheses number_within second_word format_at after_statement condition_at
 no_actions = record {
   status = nothing_first (codes "exit(64);") refl (λ e. cc);
   kept = nothing_first (codes "yyless(0);") refl (λ e. cc);
   format = nothing_first (codes "printf(\"%d\");") refl (λ e. cc);
+  number = nothing_first (codes "BEGIN(1);") refl (λ e. cc);
+  text_twice = nothing_first (codes "printf(\"%s%s\", yytext);") refl (λ e. cc);
+  no_text = nothing_first (codes "printf(\"%s\");") refl (λ e. cc);
+  unknown_escape = nothing_first (codes "puts(\"\\q\");") refl (λ e. cc);
+  no_digit = nothing_first (codes "puts(\"\\x\");") refl (λ e. cc);
   nul = nothing_first (codes "puts(\"\\0\");") refl (λ e. cc);
   brace = unlike (codes "{ ECHO;") ((codes "{", []) ∷ ([], Echo ∷ []) ∷ []) (codes " ECHO;", refl, ([], refl, refl)) (λ matched stands. absurd (omega (arith, matched.0)));
   after_end = unlike (codes "exit(1); ECHO;") (([], End 1 ∷ []) ∷ ([], Echo ∷ []) ∷ []) (codes " ECHO;", refl, ([], refl, refl)) (λ matched stands. cc);
-  no_semicolon = nothing_first (codes "ECHO ECHO;") refl (λ e. cc);
+  no_semicolon = no_semicolon;
   less_twice = unlike (codes "yyless(1); yyless(2);") (([], Less 1 ∷ []) ∷ ([], Less 2 ∷ []) ∷ []) (codes " yyless(2);", refl, ([], refl, refl)) (λ matched stands. cc);
   less_and_more = unlike (codes "yyless(1); yymore();") (([], Less 1 ∷ []) ∷ ([], More ∷ []) ∷ []) (codes " yymore();", refl, ([], refl, refl)) (λ matched stands. cc);
   less_and_reject = unlike (codes "yyless(1); REJECT;") (([], Less 1 ∷ []) ∷ ([], Reject ∷ []) ∷ []) (codes " REJECT;", refl, ([], refl, refl)) (λ matched stands. cc);
   more_and_reject = unlike (codes "yymore(); REJECT;") (([], More ∷ []) ∷ ([], Reject ∷ []) ∷ []) (codes " REJECT;", refl, ([], refl, refl)) (λ matched stands. cc);
   after_reject = unlike (codes "REJECT; ECHO;") (([], Reject ∷ []) ∷ ([], Echo ∷ []) ∷ []) (codes " ECHO;", refl, ([], refl, refl)) (λ matched stands. cc);
-  stack = nothing_first (codes "yy_pop_state();") refl (λ e. cc);
+  stack = no_stack;
 }
+
+-- ECHO alone is no literal and no end
+echo_no_end : (print : List ℕ) (status : ℕ) → Echo ∷ [] ≡ normal (Print print ∷ End status ∷ []) → ⊥
+echo_no_end [] status e = cc
+echo_no_end (b ∷ bs) status e = cc
+
+echo_no_literal : (print : List ℕ) → Echo ∷ [] ≡ normal (Print print ∷ []) → ⊥
+echo_no_literal [] e = cc
+echo_no_literal (b ∷ bs) e = cc
+
+echo_at_end : (e : EndAction) → SpellsEndAction (known false) (codes "ECHO;") e → ⊥
+unfolding take_up_to is_alpha is_upper is_lower is_alnum is_blank is_digit is_xdigit octal_at hexadecimal_at until_quote simple_escape after_word run_at number_at name_at escape_at after_space skip expect string_escape_at literal_at next_piece statement_at parts_of in_parentheses number_within second_word format_at after_statement condition_at
+echo_at_end e (ss, (ps, cut, balanced, same), few, says) =
+    let is : IsCut (next_piece (known false)) (λ t. skip t ≡ []) (codes "ECHO;") (([], Echo ∷ []) ∷ []) = ([], refl, refl) in
+    let f : ps ≡ ([], Echo ∷ []) ∷ [] = one_cut (next_piece (known false)) (λ t. skip t ≡ []) no_more (codes "ECHO;") ps (([], Echo ∷ []) ∷ []) cut is in
+    let echoes : ss ≡ Echo ∷ [] = same ∙ ap (λ (qs : List Piece). normal (flat_map (λ (q : Piece). q.1) qs)) f in
+    ends_no_way says echoes
+  where
+    ends_no_way : (ss ≡ normal (Print e.print ∷ End e.status ∷ [])) ⊎ ((ss ≡ normal (Print e.print ∷ [])) × (e.status ≡ 0)) → ss ≡ Echo ∷ [] → ⊥
+    ends_no_way (inl s) echoes = echo_no_end e.print e.status (sym echoes ∙ s)
+    ends_no_way (inr s) echoes = echo_no_literal e.print (sym echoes ∙ s.0)
 
 pub end_actions : EndActions
 unfolding take_up_to is_alpha is_upper is_lower is_alnum is_blank is_digit is_xdigit octal_at hexadecimal_at until_quote simple_escape after_word run_at number_at name_at escape_at after_space skip expect string_escape_at literal_at next_piece statement_at parts_of in_parentheses number_within second_word format_at after_statement condition_at
-end_actions = (
-  Print (codes "a\n") ∷ End 3 ∷ [],
-  (([], Print (codes "a\n") ∷ []) ∷ ([], End 3 ∷ []) ∷ [], (codes " exit(3);", refl, ([], refl, refl)), balanced (S.says (prints (codes "a\n")) ∷ S.says (does (End 3)) ∷ []) refl, refl),
-  refl,
-  inl refl,
-)
+end_actions = record {
+  ends = (
+    Print (codes "a\n") ∷ End 3 ∷ [],
+    (([], Print (codes "a\n") ∷ []) ∷ ([], End 3 ∷ []) ∷ [], (codes " exit(3);", refl, ([], refl, refl)), balanced (S.says (prints (codes "a\n")) ∷ S.says (does (End 3)) ∷ []) refl, refl),
+    refl,
+    inl refl,
+  );
+  without_status = (
+    Print (codes "a\n") ∷ [],
+    (([], Print (codes "a\n") ∷ []) ∷ [], ([], refl, refl), one_balanced (prints (codes "a\n")), refl),
+    refl,
+    inr (refl, refl),
+  );
+  echo = echo_at_end;
+}

@@ -1,6 +1,6 @@
 -- Worked examples of actions, each with the statements that it spells. The conditions are INITIAL and A.
 use Rattle.std.specs.Prelude.{ℕ, Bool, true, false, List, [], ◌∷◌, codes}
-use Rattle.lex_semantics.specs.Spec.{Statement, Echo, Print, Begin, More, Less, Reject, End, Push, Pop}
+use Rattle.lex_semantics.specs.Spec.{EndAction, Statement, Echo, Print, Begin, More, Less, Reject, End, Push, Pop}
 use Rattle.lexspec_actions.specs.Names.{Known, known_in}
 use Rattle.lexspec_actions.specs.Actions.{SpellsAction, SpellsEndAction}
 
@@ -29,20 +29,28 @@ pub record EachStatement : Type 0 where
   pub push : SpellsAction (known true) (codes "yy_push_state(A);") (Push 1 ∷ [])
   pub pop : SpellsAction (known true) (codes "yy_pop_state();") (Pop ∷ [])
 
--- nothing; literals in a row, with braces and a comment; a semicolon that is absent at the end; a comment to the end of its line
+-- nothing; literals in a row, with braces and a comment; a semicolon that is absent at the end; a comment to the end of its
+-- line, and one that is not closed; a format with nothing beside its text
 pub record SeveralStatements : Type 0 where
   pub none : Says (codes " ;") []
   pub joined : Says (codes "{ puts(\"a\"); /* b */ printf(\"%%c\") }") (Print (codes "a\n%c") ∷ [])
   pub last : Says (codes "ECHO; REJECT") (Echo ∷ Reject ∷ [])
   pub line_comment : Says (codes "ECHO; // }\n") (Echo ∷ [])
+  pub open_comment : Says (codes "ECHO; /* }") (Echo ∷ [])
+  pub text_alone : Says (codes "printf(\"%s\", yytext);") (Echo ∷ [])
 
--- a status above 63; no byte kept; a sign of printf's that is none of these; a NUL by an escape; a brace that stays open; something
--- after the end; no semicolon between statements; two of yyless, yymore and REJECT, each of which says what becomes of the text;
+-- a status above 63; no byte kept; a condition by a number that is not 0; a sign of printf's that is none of these, two texts, and
+-- one without its argument; a NUL by an escape, and escapes that C has not; a brace that stays open; something after the end; no semicolon between statements; two of yyless, yymore and REJECT, each of which says what becomes of the text;
 -- a statement of the stack without the option
 pub record NoActions : Type 0 where
   pub status : SaysNothing (codes "exit(64);")
   pub kept : SaysNothing (codes "yyless(0);")
   pub format : SaysNothing (codes "printf(\"%d\");")
+  pub number : SaysNothing (codes "BEGIN(1);")
+  pub text_twice : SaysNothing (codes "printf(\"%s%s\", yytext);")
+  pub no_text : SaysNothing (codes "printf(\"%s\");")
+  pub unknown_escape : SaysNothing (codes "puts(\"\\q\");")
+  pub no_digit : SaysNothing (codes "puts(\"\\x\");")
   pub nul : SaysNothing (codes "puts(\"\\0\");")
   pub brace : SaysNothing (codes "{ ECHO;")
   pub after_end : SaysNothing (codes "exit(1); ECHO;")
@@ -54,6 +62,8 @@ pub record NoActions : Type 0 where
   pub after_reject : SaysNothing (codes "REJECT; ECHO;")
   pub stack : SaysNothing (codes "yy_pop_state();")
 
--- an end action prints, and ends the scan
-abbrev pub EndActions : Type 0
-EndActions = SpellsEndAction (known false) (codes "puts(\"a\"); exit(3);") (record { print = codes "a\n"; status = 3 })
+-- An end action prints, and ends the scan, with status 0 where it says none. It has no ECHO.
+pub record EndActions : Type 0 where
+  pub ends : SpellsEndAction (known false) (codes "puts(\"a\"); exit(3);") (record { print = codes "a\n"; status = 3 })
+  pub without_status : SpellsEndAction (known false) (codes "puts(\"a\");") (record { print = codes "a\n"; status = 0 })
+  pub echo : (e : EndAction) → SpellsEndAction (known false) (codes "ECHO;") e → ⊥

@@ -1,6 +1,6 @@
 //! Worked examples.
 ghost use Rattle.lexspec_lines.specs.LineExamples.{ReturnsDropped, BlanksTrimmed, DollarAnchors};
-ghost use Rattle.lexspec_lines.specs.LineExamples.{Declares, Defines, NoDefinitions, Block};
+ghost use Rattle.lexspec_lines.specs.LineExamples.{Declares, Defines, NoDefinitions, Block, Ignored};
 
 /// Worked examples of lines.
 pub fn examples_of_lines()
@@ -11,4 +11,5 @@ pub fn examples_of_lines()
     ensures defined { Defines }
     ensures refused { NoDefinitions }
     ensures block { Block }
+    ensures ignored { Ignored }
 {}

@@ -1,11 +1,14 @@
 use Rattle.lexre.proofs.CuttingsComputed as Computed
 use Rattle.lexre.proofs.laws.examples_of_cuttings.Goals as goal
 
-pub returns-clause-one_fault : goal.returns-clause-one_fault
-returns-clause-one_fault c = Computed.one_fault
+pub returns-clause-ends : goal.returns-clause-ends
+returns-clause-ends c = Computed.ends
 
-pub returns-clause-two_faults : goal.returns-clause-two_faults
-returns-clause-two_faults c = Computed.two_faults
+pub returns-clause-slashes : goal.returns-clause-slashes
+returns-clause-slashes c = Computed.slashes
 
-pub returns-clause-no_fault : goal.returns-clause-no_fault
-returns-clause-no_fault c = Computed.no_fault
+pub returns-clause-dollars : goal.returns-clause-dollars
+returns-clause-dollars c = Computed.dollars
+
+pub returns-clause-none : goal.returns-clause-none
+returns-clause-none c = Computed.no_cuttings

@@ -36,3 +36,6 @@ returns-clause-escapes c = Computed.escapes
 
 pub returns-clause-refused_items : goal.returns-clause-refused_items
 returns-clause-refused_items c = Computed.refused_items
+
+pub returns-clause-class_names : goal.returns-clause-class_names
+returns-clause-class_names c = Computed.class_names

@@ -6,3 +6,6 @@ returns-clause-lists c = Rule.condition_lists
 
 pub returns-clause-actions : goal.returns-clause-actions
 returns-clause-actions c = Rule.actions_cut
+
+pub returns-clause-sides : goal.returns-clause-sides
+returns-clause-sides c = Rule.sides_cut

@@ -21,3 +21,6 @@ returns-clause-refused c = Line.no_definitions
 
 pub returns-clause-block : goal.returns-clause-block
 returns-clause-block c = Line.block_skipped
+
+pub returns-clause-ignored : goal.returns-clause-ignored
+returns-clause-ignored c = Line.lines_ignored
