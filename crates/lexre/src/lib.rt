@@ -54,7 +54,8 @@ pub use counts::positions;
 pub use cutting::{Cutting, cut_pattern};
 pub use definitions::{Defs, DefsError};
 pub use laws::{
-    examples_of_cutting_faults, examples_of_cuttings, examples_of_patterns, one_cutting, one_tree, readings_use_own_positions,
+    examples_of_cutting_faults, examples_of_cuttings, examples_of_patterns, one_cutting, one_tree,
+    readings_use_own_positions,
 };
 pub use lexre_bytes::{ByteSet, PatternError, PatternErrorKind};
 pub use measures::lengths;
