@@ -8,7 +8,7 @@ use Rattle.lexauto.specs.declared.error.BuildError.TheVariants as builds
 use Rattle.lexauto_dfa.specs.declared.dfa.Dfa.{Dfa}
 use Rattle.lexspec.specs.Files.{SpellsSpec}
 use Rattle.lexspec.specs.Skipped.{AreSkipped}
-use Rattle.lexkit.specs.Headline.{BuildRefusal, Headline, IsWithin, ScansBy, TableRefusal, reading}
+use Rattle.lexkit.specs.Headline.{BuildRefusal, IsWithin, ScansBy, TableRefusal, reading}
 use Rattle.lextab_packed.specs.Table as T
 use Rattle.lextab_file.specs.File.{IsFileOf}
 use Rattle.lextab_file.specs.Refusals.{is_out_of_memory}
@@ -21,8 +21,7 @@ use Rattle.lexkit.specs.declared.making.Made.{Made}
 use Rattle.lexkit.specs.declared.options.Options.{Options}
 use Rattle.lexkit.specs.declared.errors.GenError.{GenError}
 use Rattle.lexkit.specs.declared.errors.GenError.TheVariants as gens
-use Rattle.lexkit.specs.declared.errors.ScanError.{ScanError}
-use Rattle.lexkit.specs.declared.errors.ScanError.TheVariants.{Generate, Run, Table}
+use Rattle.lexkit.specs.declared.errors.ScanError.TheVariants.{Generate}
 
 pub by_reason : (limits : Limits) (S : Spec) (e : BuildError) → (e ≡ builds.TooManyPositions → limits.positions < all_positions S.rules) → (e ≡ builds.TooManyStates → (n : ℕ) → Subsets S n → limits.states < n) → BuildRefusal limits S e
 by_reason limits S builds.TooManyPositions positions states = positions refl
@@ -62,13 +61,3 @@ tables_of_text options text S skipped spells lines (Ok m) made = (S, spells, ski
 tables_of_text options text S skipped spells lines (Err (gens.Build e)) refused = (S, spells, refused)
 tables_of_text options text S skipped spells lines (Err gens.OutOfMemory) refused = tt
 tables_of_text options text S skipped spells lines (Err (gens.Spec e)) refused = absurd refused
-
--- a scan by the specification that a text spells is one by the text
-pub headline_of : {A B : Type 0} (gave : A → List ℕ → A → Type 0) (wrote : B → List ℕ → B → Type 0) (s s' : A) (t t' : B) (at_end : Bool) (faults : ℕ) (options : Options) (text : List ℕ) (S : Spec)
-    → SpellsSpec (reading options) text S → (r : Result ℕ ScanError) → ScansBy gave wrote s s' t t' at_end faults options.limits S r → Headline gave wrote s s' t t' at_end faults options text r
-headline_of gave wrote s s' t t' at_end faults options text S spells (Ok status) h = (S, spells, h.0, h.1)
-headline_of gave wrote s s' t t' at_end faults options text S spells (Err (Run e)) h = (S, spells, h.0, h.1)
-headline_of gave wrote s s' t t' at_end faults options text S spells (Err (Generate (gens.Build e))) h = ((S, spells, h.0), h.1, h.2)
-headline_of gave wrote s s' t t' at_end faults options text S spells (Err (Generate gens.OutOfMemory)) h = (tt, h.0, h.1)
-headline_of gave wrote s s' t t' at_end faults options text S spells (Err (Generate (gens.Spec e))) h = absurd h
-headline_of gave wrote s s' t t' at_end faults options text S spells (Err (Table e)) h = absurd h

@@ -34,25 +34,6 @@ each_more f xs n len all s lt = elim (cases_lt s n) [
       )
 ]
 
--- the same of numbers
-index_before : (xs : List ℕ) (y s : ℕ) → s < length xs → slice_index (xs ++ y ∷ []) s ≡ slice_index xs s
-index_before [] y s lt = absurd (omega (arith, lt))
-index_before (x ∷ xs) y zero lt = refl
-index_before (x ∷ xs) y (suc s) lt = index_before xs y s (omega (arith, lt))
-
-index_last : (xs : List ℕ) (y : ℕ) → slice_index (xs ++ y ∷ []) (length xs) ≡ y
-index_last [] y = refl
-index_last (x ∷ xs) y = index_last xs y
-
-pub index_more : (f : ℕ → ℕ) (xs : List ℕ) (n y : ℕ) → length xs ≡ n → y ≡ f n → ((s : ℕ) → s < n → slice_index xs s ≡ f s) → (s : ℕ) → s < n + 1 → slice_index (xs ++ y ∷ []) s ≡ f s
-index_more f xs n y len is all s lt = elim (cases_lt s n) [
-  | inl low ↦ index_before xs y s (omega (arith, len, low)) ∙ all s low
-  | inr high ↦ (
-      let e : n ≡ s = omega (arith, lt, high) in
-      ap (slice_index (xs ++ y ∷ [])) (sym e ∙ sym len) ∙ index_last xs y ∙ is ∙ ap f e
-      )
-]
-
 -- This is the first rule that the state accepts, and it keeps all of a match.
 pub record Firstly (M : Machine) (s rule : ℕ) : Type 0 where
   pub others : List ℕ

@@ -16,17 +16,6 @@ use Rattle.lextab_packed.specs.Steps.{step_of}
 use Rattle.lextab_packed.specs.Views.{table_of}
 use Rattle.lextab_packed.proofs.Marks as Mark
 
--- bytes without one of the three, and after them more of such
-pub others_then : (l : Leavers) (bytes : List ℕ) (a b c : ℕ) → AllOthers l bytes a b → AllOthers l bytes b c → AllOthers l bytes a c
-others_then l bytes a b c p q = record {
-  order = omega (arith, p.order, q.order);
-  inside = q.inside;
-  others = λ i low high. elim (cases_lt i b) [
-    | inl before ↦ p.others i low before
-    | inr after ↦ q.others i after high
-  ];
-}
-
 -- a state whose target by a byte is its own row
 stays_at : (t : Tables) (rows : List ℕ) (s b : ℕ) → s < states_of t →
     get_or rows (256 * s + b) 0 ≡ marked (flag t.goes_on.items (step_of (table_of t.parts) s b)) (kind_of (table_machine t) (step_of (table_of t.parts) s b)) (step_of (table_of t.parts) s b) →
