@@ -17,11 +17,10 @@ returns-clause-placed c =
       | else-len-need w ↦ (λ i. ap (λ (v : Vec ℕ Global). slot_bit v.items i) w.words-is)
     ] in
     let m : IsMarked mid c.args.entries.now c.first_fit-base.result (length c.args.entries.now) c.mark.new.words =
-    subst (λ (l : List ℕ). IsMarked l c.args.entries.now c.first_fit-base.result (length c.args.entries.now) c.mark.new.words) c.deref_mut.ensures.value c.mark.ensures in
-    (
+    subst (λ (l : List ℕ). IsMarked l c.args.entries.now c.first_fit-base.result (length c.args.entries.now) c.mark.new.words) c.deref_mut.ensures.value c.mark.ensures in (
       subst (λ (l : List ℕ). IsFirstFit l c.args.entries.now c.first_fit-base.result) c.deref.ensures.value c.first_fit-base.ensures.first,
       subst (λ (l : List ℕ). IsMarked old c.args.entries.now c.first_fit-base.result (length c.args.entries.now) l) (sym back)
-      (marked_from old mid c.mark.new.words c.args.entries.now c.first_fit-base.result (length c.args.entries.now) bits m),
+          (marked_from old mid c.mark.new.words c.args.entries.now c.first_fit-base.result (length c.args.entries.now) bits m),
     )
 
 pub first_fit-base-requires-clause-from : goal.first_fit-base-requires-clause-from
