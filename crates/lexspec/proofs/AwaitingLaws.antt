@@ -1,12 +1,10 @@
 -- An `<<EOF>>` rule where rules wait for an action, and another rule where there are enough.
-use Rattle.std.proofs.Common.{◌≡◌, ℕ, ◌+◌, ◌≤◌, ◌<◌, Bool, true, false, List, [], ◌∷◌, map, length, inl, inr, refl, sym, ap, subst, ◌∙◌, arith, length-append, Option, Some, None}
+use Rattle.std.proofs.Common.{◌≡◌, ℕ, ◌+◌, ◌≤◌, ◌<◌, Bool, true, false, List, [], map, length, refl, sym, ap, ◌∙◌, arith, Option, Some, None}
 use Rattle.std.specs.Prelude.{codes}
 use Rattle.std.proofs.lemmas.List.{length-map}
 use Rattle.lex_semantics.specs.Spec as S
-use Rattle.lex_semantics.specs.Reading.{take_up_to, begins}
+use Rattle.lex_semantics.specs.Reading.{begins}
 use Rattle.lexspec.specs.Items.{starts_rule, action_of}
-use Rattle.lexspec.specs.RuleItems.{EndRule}
-use Rattle.lexspec.specs.WaitingRules.{acting, first_statements, RulesFrom}
 use Rattle.lexspec.specs.Keeping.{HasRoom}
 use Rattle.lexspec.specs.EndOpenings.{opens_end, begins_end}
 use Rattle.lexspec.specs.RuleViews.{rule_of}
@@ -16,7 +14,7 @@ use Rattle.lexspec.specs.declared.rule_text.Front.{Front}
 use Rattle.lexspec.specs.declared.rule_text.Front.TheVariants as F
 use Rattle.lexspec.specs.declared.rules_so_far.RulesSoFar.{RulesSoFar}
 use Rattle.lexspec.specs.ItemRuns.{Item, brings_rule, skipped, skipped_line, skipped_block, rule, IsLine, Trailing, Subject, at_end, matching, IsSubject}
-use Rattle.lexspec_lines.proofs.OneSection.{no_true, two_percents}
+use Rattle.lexspec_lines.proofs.OneSection.{no_true}
 use Rattle.lexspec.proofs.OneItems.{both_ways, AllBlank, StartsBlank, OpensBlock, tests_of, rule_tests, not_caret}
 use Rattle.lexspec.proofs.RulesLaws.{ActsAs, invert}
 use Rattle.lex_semantics.specs.Limits.{max_rules}

@@ -1,10 +1,9 @@
 -- The first faulty line of a rules section.
-use Rattle.std.proofs.Common.{◌≡◌, ◌≢◌, ℕ, suc, ◌+◌, ◌-◌, ◌^◌, ◌<◌, ◌≤◌, Bool, true, false, List, [], ◌∷◌, ◌++◌, map, length, length-append, append_assoc, append-nil, Option, Some, None, refl, sym, ap, subst, ◌∙◌, arith, ◌⊎◌, inl, inr}
+use Rattle.std.proofs.Common.{◌≡◌, ◌≢◌, ℕ, suc, ◌+◌, ◌-◌, ◌^◌, ◌≤◌, Bool, true, false, List, [], ◌∷◌, ◌++◌, map, length, length-append, append_assoc, append-nil, Some, None, refl, sym, ap, subst, ◌∙◌, arith, ◌⊎◌, inl, inr}
 use Rattle.std.specs.Prelude.{codes, slice_get, filter, cond}
 use Rattle.std.proofs.lemmas.List.{append_cancel_right, length-map, map-append}
-use Rattle.lex_semantics.specs.ByteSets.{has, set_of, empty_set, single, range_set, union, complement, other_case, fold_case, is_alpha, is_upper, is_lower, is_digit, is_alnum, is_blank}
+use Rattle.lex_semantics.specs.ByteSets.{has, set_of, empty_set, single, range_set, union, complement, other_case, fold_case, is_alpha, is_digit, is_alnum}
 use Rattle.lex_semantics.specs.Escapes.{simple_escape, octal_at, hexadecimal_at, until_quote}
-use Rattle.lex_semantics.specs.Limits.{max_rules}
 use Rattle.lex_semantics.specs.Reading.{take_up_to}
 use Rattle.lex_semantics.specs.Spec.{Rule, Statement, Whole}
 use Rattle.lex_semantics.specs.Tree.{Tree, Set}
@@ -23,21 +22,21 @@ use Rattle.lexspec.specs.FaultLines.{is_rule, last_of, MayBegin, IsFirstFault}
 use Rattle.lexspec.specs.FaultLines as P
 use Rattle.lexspec.specs.Items as F
 use Rattle.lexspec.specs.RuleItems.{AreRules}
-use Rattle.lexspec.proofs.ItemRunLaws.{trail_as, subject_as, kept_as, all_as, line_back, up_to_on, all_more}
+use Rattle.lexspec.proofs.ItemRunLaws.{kept_as, all_as, line_back, up_to_on, all_more}
 use Rattle.lexspec.proofs.RuleRunLaws.{rules_first, rules_off, as_passed, same_behind}
 use Rattle.lexspec.specs.Files.{AreSingle}
 use Rattle.lexspec.specs.ItemReads.{names_in, NoneLeft}
-use Rattle.lexspec.specs.ItemRuns.{Item, ItemsUpTo, EndsRules, skipped, skipped_line, skipped_block, rule, IsLine, no_trail, at_end, matching, brings_rule}
+use Rattle.lexspec.specs.ItemRuns.{Item, ItemsUpTo, EndsRules, skipped, skipped_line, skipped_block, rule, no_trail, at_end, matching, brings_rule}
 use Rattle.lexspec.specs.Items.{unlisted}
 use Rattle.lexspec.specs.Keeping.{Keeps}
 use Rattle.lexspec.specs.RuleItems.{EndRule}
 use Rattle.lexspec.specs.RuleViews.{rule_of}
 use Rattle.lexspec.specs.SectionReads.{line_of_last}
-use Rattle.lexspec.specs.WaitingRules.{Left, acting, filled, may_wait, HasHead, RulesFrom}
+use Rattle.lexspec.specs.WaitingRules.{Left, acting, filled, may_wait, RulesFrom}
 use Rattle.lexspec.specs.declared.rule.Rule.{Rule as RuleKept}
 use Rattle.lexspec.specs.declared.rules_so_far.RulesSoFar.{RulesSoFar}
 use Rattle.lexspec_actions.proofs.SameActions.{balanced}
-use Rattle.lexspec_actions.specs.Actions.{SpellsAction, next_piece}
+use Rattle.lexspec_actions.specs.Actions.{SpellsAction}
 use Rattle.lexspec_actions.specs.Bytes.{after_space, skip}
 use Rattle.lexspec_actions.specs.Names.{Known, known_in}
 use Rattle.lexspec_lines.specs.Lines.{newlines}

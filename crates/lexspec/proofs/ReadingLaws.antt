@@ -18,9 +18,9 @@ use Rattle.lexspec.specs.Files.{AreSingle, SpellsSpec}
 use Rattle.lexspec.specs.Endings.{conditions_with}
 use Rattle.lexspec.specs.ItemReads.{names_in}
 use Rattle.lexspec.specs.SectionReads.{HasRules, IsRefused}
-use Rattle.lexspec_lines.specs.Sections.{HasSection}
+use Rattle.lexspec_lines.specs.Sections.{HasSection, IsFaultyLine}
 use Rattle.lexspec.specs.Readings.{of_sections, IsRefusedRest, SpellsRest, SkipsRest}
-use Rattle.lexspec.specs.FaultLines.{IsFirstFault, TellsLength, TellsRules}
+use Rattle.lexspec.specs.FaultLines.{IsFirstFault, MayDeclare, TellsDefinitions, TellsLength, TellsRules}
 use Rattle.lexspec.specs.EndRules.{end_rule_of}
 use Rattle.lexspec.specs.RuleViews.{rule_of}
 use Rattle.lexspec_lines.specs.Outcome.{UnlessMemory}
@@ -41,7 +41,7 @@ use Rattle.lexspec_lines.specs.Skips.{TellsPieces}
 use Rattle.lexspec_lines.proofs.CodeLaws.{lines_told}
 use Rattle.lexspec_lines.proofs.DeclaringLaws.{names_kept, test_distinct, distinct_test}
 use Rattle.lexspec_lines.proofs.OneSection.{separator_ends, one_up_to}
-use Rattle.lexre_bytes.proofs.MemoryLaws.{unless_memory}
+use Rattle.lexre_bytes.proofs.MemoryLaws.{unless_memory, always}
 use Rattle.lexspec.proofs.PassLaws.{kept_passes, length_with}
 use Rattle.lexspec.proofs.RestLaws.{newlines_few}
 use Rattle.lexspec.proofs.RuleRunLaws.{rules_first, file_rules}
@@ -177,7 +177,7 @@ no_section how file none S k =
 
 pub tells_rules : (how : ReadOptions) (file : List ℕ) (s : Section) (e : SpecError) → HasSection how (without_returns file) s
     → IsFirstFault (names_in s.declarations) s.declarations.options s.declarations.stack s.declarations.definitions (s.line + 1) (line_in s.rest.now).1 e → TellsRules how file e
-tells_rules how file s e h fault ds rest short cut separator distinct once known few =
+tells_rules how file s e h fault short ds rest (cut, separator, may) =
     let d = s.declarations in
     let same = one_up_to definition_at (without_returns file) ds h.definitions rest s.rest.now cut h.lines (separator_ends rest separator) (separator_ends s.rest.now h.separator) in
     let names : names_in d ≡ names_of (all_conditions h.definitions) = sym (names_kept d.conditions.items) ∙ ap names_of h.declares.conditions in
@@ -198,10 +198,33 @@ tells_rules how file s e h fault ds rest short cut separator distinct once known
     told : List Definition → List ℕ → Type 0
     told z rest = IsFirstFault (names_of (all_conditions z)) (fold_of z) (stack_of z) (from_entries (substitutes_of z)) (2 + newlines file - newlines rest) (line_in rest).1 e
 
-no_rules_told : (how : ReadOptions) (file : List ℕ) (e : SpecError) → ((ds : List Definition) (after : List ℕ) → IsUpTo definition_at (without_returns file) ds after → begins (codes "%%") after ≡ true → AreAllowed ds → ⊥)
-    → TellsRules how file e
-no_rules_told how file e none ds rest short cut separator distinct once known few =
-    absurd (none ds rest cut separator ((distinct_test (names_of (all_conditions ds)) distinct, few), distinct_test (map (λ (d : List ℕ × List ℕ). d.0) (substitutes_of ds)) once, known))
+-- what may be declared, as a test
+allowed_of : (ds : List Definition) → MayDeclare ds → AreAllowed ds
+allowed_of ds (distinct, few, once, known) = ((distinct_test (names_of (all_conditions ds)) distinct, few), distinct_test (map (λ (d : List ℕ × List ℕ). d.0) (substitutes_of ds)) once, known)
+
+may_of : (ds : List Definition) → AreAllowed ds → MayDeclare ds
+may_of ds ((distinct, few), once, known) = (test_distinct (names_of (all_conditions ds)) distinct, few, test_distinct (map (λ (d : List ℕ × List ℕ). d.0) (substitutes_of ds)) once, known)
+
+abbrev NoSection : List ℕ → Type 0
+NoSection file = (ds : List Definition) (after : List ℕ) → IsUpTo definition_at (without_returns file) ds after → begins (codes "%%") after ≡ true → AreAllowed ds → ⊥
+
+no_rules_told : (how : ReadOptions) (file : List ℕ) (e : SpecError) → NoSection file → TellsRules how file e
+no_rules_told how file e none short ds rest (cut, separator, may) = absurd (none ds rest cut separator (allowed_of ds may))
+
+definitions_told : (file : List ℕ) (e : SpecError) → IsFaultyLine AreAllowed (without_returns file) e → TellsDefinitions file e
+definitions_told file e h short none = record {
+  definitions = h.definitions;
+  rest = h.rest;
+  lines = h.lines;
+  allowed = may_of h.definitions h.allowed;
+  off = h.off;
+  stuck = (λ d next more here may. h.stuck d next more here (allowed_of (h.definitions ++ d ∷ more) may));
+  told = h.told;
+  ended = h.ended;
+}
+
+no_definitions_told : (how : ReadOptions) (file : List ℕ) (s : Section) (e : SpecError) → HasSection how (without_returns file) s → TellsDefinitions file e
+no_definitions_told how file s e h short none = absurd (none h.definitions s.rest.now (h.lines, h.separator, may_of h.definitions h.allowed))
 
 pub length_told : (file : List ℕ) (e : SpecError) → length file ≤ max_file_bytes → 1 ≤ e.line → TellsLength file e
 length_told file e short line = (((λ none. absurd (omega (arith, none))), (λ long. absurd (omega arith))), (λ none. absurd (omega (arith, none))))
@@ -234,6 +257,15 @@ pub read_rules_told : (r : Result SpecOfCode SpecError) (how : ReadOptions) (fil
 read_rules_told (Ok x) how file kept s is h rest = tt
 read_rules_told (Err e) how file kept s is h rest =
     unless_memory e.kind (IsRefusedRest s e) (TellsRules how file e) (λ refused. tells_rules how file s e (subst (λ z. HasSection how z s) is h) refused.first) rest
+
+pub read_definitions_told : (r : Result SpecOfCode SpecError) (how : ReadOptions) (file kept : File) (s : Section) → kept ≡ without_returns file → HasSection how kept s
+    → IfErr r (λ e. UnlessMemory e.kind (TellsDefinitions file e))
+read_definitions_told (Ok x) how file kept s is h = tt
+read_definitions_told (Err e) how file kept s is h = always e.kind (TellsDefinitions file e) (no_definitions_told how file s e (subst (λ z. HasSection how z s) is h))
+
+pub section_line_told : (file kept : File) (e : SpecError) → kept ≡ without_returns file → UnlessMemory e.kind (IsFaultyLine AreAllowed kept e) → UnlessMemory e.kind (TellsDefinitions file e)
+section_line_told file kept e is h =
+    unless_memory e.kind (IsFaultyLine AreAllowed kept e) (TellsDefinitions file e) (λ told. definitions_told file e (subst (λ z. IsFaultyLine AreAllowed z e) is told)) h
 
 pub read_length_told : (r : Result SpecOfCode SpecError) (file : File) (s : Section) → length file ≤ max_file_bytes
     → IfErr r (λ e. UnlessMemory e.kind (IsRefusedRest s e)) → IfErr r (λ e. UnlessMemory e.kind (TellsLength file e))

@@ -22,7 +22,6 @@ use Rattle.lexspec.specs.SectionReads.{HasRules, NoSuchRules, IsRefused, line_of
 use Rattle.lexspec_lines.specs.Outcome.{UnlessMemory}
 use Rattle.lexspec_lines.specs.declared.declarations.Declarations.{Declarations}
 use Rattle.lexre_bytes.specs.declared.refusals.SpecError.{SpecError}
-use Rattle.lexre_bytes.specs.declared.refusals.SpecErrorKind.{SpecErrorKind}
 use Rattle.lexspec.specs.declared.rule.Rule.{Rule}
 use Rattle.lexspec.specs.declared.rules_section.RulesSection.{RulesSection}
 use Rattle.lexspec.specs.declared.rules_so_far.RulesSoFar.{RulesSoFar}

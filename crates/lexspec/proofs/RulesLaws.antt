@@ -1,5 +1,5 @@
 -- The rules section, item by item.
-use Rattle.std.proofs.Common.{◌≡◌, ℕ, ◌+◌, ◌-◌, Bool, true, false, List, [], ◌∷◌, ◌++◌, map, length, inl, inr, Option, Some, None, refl, sym, ap, subst, ◌∙◌, append_assoc}
+use Rattle.std.proofs.Common.{◌≡◌, ℕ, Bool, true, false, List, [], ◌∷◌, ◌++◌, map, length, Option, Some, None, refl, sym, ap, subst, ◌∙◌, append_assoc}
 use Rattle.std.specs.FinMap.{get}
 use Rattle.std.proofs.lemmas.List.{map-append}
 use Rattle.lex_semantics.specs.Tree.{Tree}
@@ -12,15 +12,14 @@ use Rattle.lexre.proofs.CuttingLaws.{one_cutting}
 use Rattle.lexre.proofs.OneTree.{one_tree}
 use Rattle.lexspec_actions.specs.Names.{number_from, known_in}
 use Rattle.lexspec_actions.specs.Actions.{SpellsAction, SpellsEndAction}
-use Rattle.lex_semantics.specs.Reading.{after_blanks, take_up_to}
+use Rattle.lex_semantics.specs.Reading.{after_blanks}
 use Rattle.lexspec.specs.Items.{Conditions, conditions_at, action_at, action_of, starts_rule}
-use Rattle.lexspec_lines.specs.Lines.{newlines}
 use Rattle.lex_semantics.specs.Sound.{IsCutOf}
 use Rattle.lexspec.specs.RuleItems.{numbers_of, EndRule}
 use Rattle.lexspec.specs.WaitingRules.{acting, first_statements, filled, may_wait, Left, IsRule, goes_to_rule, RulesFrom, IsTrail, HasHead, IsActionOf}
-use Rattle.lexspec.specs.ItemRuns.{ItemsFrom, Item, skipped, skipped_line, skipped_block, rule, IsLine, Trailing, Subject, at_end, matching, IsSubject}
-use Rattle.lexspec_lines.proofs.OneSection.{no_true, two_percents, some_pair}
-use Rattle.lexspec.proofs.OneItems.{both_ways, AllBlank, StartsBlank, OpensBlock, tests_of, rule_tests, no_item_at_end, one_item, one_subject}
+use Rattle.lexspec.specs.ItemRuns.{Item, skipped, skipped_line, skipped_block, rule, IsLine, Trailing, Subject, at_end, matching, IsSubject}
+use Rattle.lexspec_lines.proofs.OneSection.{no_true, some_pair}
+use Rattle.lexspec.proofs.OneItems.{both_ways, AllBlank, StartsBlank, OpensBlock, tests_of, rule_tests, one_item, one_subject}
 use Rattle.lexspec.proofs.OneSpec.{one_rule, one_end, some_is}
 use Rattle.lexre.specs.declared.options.ReadOptions.{ReadOptions}
 

@@ -1,5 +1,5 @@
 -- One rule more.
-use Rattle.std.proofs.Common.{◌≡◌, ℕ, ◌+◌, ◌-◌, Bool, true, false, ◌&&◌, if◌then◌else◌, List, [], ◌∷◌, ◌++◌, map, length, drop, Option, Some, Global, refl, sym, ap, subst, ◌∙◌, arith, None}
+use Rattle.std.proofs.Common.{◌≡◌, ℕ, Bool, true, false, ◌&&◌, if◌then◌else◌, List, [], ◌∷◌, ◌++◌, map, length, drop, Option, Some, Global, refl, sym, ap, subst, ◌∙◌, arith, None}
 use Rattle.std.specs.Prelude.{codes, option_map, Vec}
 use Rattle.std.proofs.lemmas.List.{map-append, length-map}
 use Rattle.lex_semantics.specs.Spec as S
@@ -10,7 +10,7 @@ use Rattle.lexspec_actions.specs.declared.condition.Condition.{Condition}
 use Rattle.lex_semantics.specs.Reading.{begins}
 use Rattle.lexspec.specs.ItemRuns.{Item, rule, IsLine, at_end, matching}
 use Rattle.lexspec.specs.Items.{action_of}
-use Rattle.lexspec_lines.specs.Lines.{newlines, is_all_blank}
+use Rattle.lexspec_lines.specs.Lines.{is_all_blank}
 use Rattle.lexspec.specs.RuleItems.{numbers_of, EndRule}
 use Rattle.lexspec.specs.WaitingRules.{acting, Left}
 use Rattle.lexspec.specs.RuleViews.{rule_of}

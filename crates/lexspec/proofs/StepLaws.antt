@@ -1,7 +1,6 @@
 -- One item of the rules section more.
-use Rattle.std.proofs.Common.{◌≡◌, ℕ, suc, ◌+◌, ◌-◌, ◌<◌, ◌==◌, ◌&&◌, Bool, true, false, if◌then◌else◌, List, [], ◌∷◌, map, length, take, Option, Some, None, inl, inr, refl, sym, ap, ◌∙◌, arith, length-append}
-use Rattle.std.specs.Prelude.{codes}
-use Rattle.lex_semantics.specs.Reading.{after_blanks, begins, take_up_to}
+use Rattle.std.proofs.Common.{◌≡◌, ℕ, suc, ◌+◌, ◌-◌, ◌<◌, ◌==◌, ◌&&◌, Bool, true, false, if◌then◌else◌, List, [], ◌∷◌, map, length, take, Option, Some, None, refl, sym, ap, ◌∙◌, arith, length-append}
+use Rattle.lex_semantics.specs.Reading.{after_blanks, take_up_to}
 use Rattle.lexspec.specs.ActionSteps.{outside, action_in, with_byte, next_place, depth_after}
 use Rattle.lexspec.proofs.ActionPieces.{action_is}
 use Rattle.lexspec.specs.Items.{action_at, action_of, starts_rule}
@@ -21,9 +20,8 @@ use Rattle.lexspec.specs.declared.rule_text.RuleText.{RuleText}
 use Rattle.lexspec.specs.declared.skips.Skip.{Skip}
 use Rattle.lexspec.specs.declared.skips.Skip.TheVariants.{Blank, Code, Block}
 use Rattle.lexspec.specs.declared.rules_so_far.RulesSoFar.{RulesSoFar}
-use Rattle.lexspec.specs.ItemRuns.{ItemsFrom, Item, skipped, skipped_line, skipped_block, rule, IsLine, at_end, matching}
+use Rattle.lexspec.specs.ItemRuns.{Item, skipped, skipped_line, skipped_block, rule, IsLine, at_end, matching}
 use Rattle.lexspec_lines.proofs.OneSection.{no_true, some_pair}
-use Rattle.lexspec.proofs.OneItems.{both_ways}
 use Rattle.lexre_bytes.proofs.MemoryLaws.{unless_memory, always}
 use Rattle.lexspec_lines.proofs.SectionLaws.{EndsWith, ends_on, each_some, each_none, each_if, newlines_front}
 use Rattle.lexspec.proofs.EndLaws.{Ends, action_ends, blanks_end, conditions_end, subject_ends, item_ends}

@@ -1,6 +1,6 @@
 -- The first faulty line of a rules section: that of the first item that may not stand behind those before it.
 -- (Which of several faults is told is this project's.)
-use Rattle.std.specs.Prelude.{◌≡◌, ◌≢◌, ◌↔◌, ℕ, ◌+◌, ◌-◌, ◌<◌, ◌≤◌, Bool, true, false, ◌||◌, List, [], ◌∷◌, ◌++◌, ◌⊎◌, map, filter, length, Option, codes}
+use Rattle.std.specs.Prelude.{◌≡◌, ◌≢◌, ◌↔◌, ℕ, ◌+◌, ◌-◌, ◌<◌, ◌≤◌, Bool, true, false, ◌||◌, List, [], ◌∷◌, ◌++◌, ◌⊎◌, map, filter, length, codes}
 use Rattle.std.specs.FinMap.{from_entries}
 use Rattle.std.specs.List.{list_all}
 use Rattle.lex_semantics.specs.Limits.{max_conditions, max_file_bytes, max_rules}
@@ -16,6 +16,7 @@ use Rattle.lexspec.specs.Items.{Item, IsLine, rule, matching}
 use Rattle.lexspec.specs.RuleItems.{EndRule, AreRules}
 use Rattle.lexspec_lines.specs.DefinitionLines.{Definition, definition_at, all_conditions, has_name, substitutes_of, all_options, known_options}
 use Rattle.lexspec_lines.specs.Lines.{without_returns, line_in, newlines}
+use Rattle.lexspec_lines.specs.Sections.{IsFaultyLine}
 
 -- a file of too many bytes is told as too long at line 0, and nothing else at that line
 abbrev pub TellsLength : List ℕ → SpecError → Type 0
@@ -65,14 +66,22 @@ module _ (names : List (List ℕ)) (how : ReadOptions) (stack : Bool) (defined :
     pub told : e.kind ≢ DanglingBar → e.line ≡ place
     pub bar : e.kind ≡ DanglingBar → ((rules : List Rule) (ends : List EndRule) → AreRules names how stack defined items rules ends false → ⊥) → e.line ≡ last_of place (rule_lines items)
 
--- In a file that is not too long, whose definitions section stands before a line that begins with `%%`, the first faulty line behind
--- that is told.
+-- No condition is declared twice, and there are not too many; no name is defined twice; and options are known.
+abbrev pub MayDeclare : List Definition → Type 0
+MayDeclare ds = Pairwise ◌≢◌ (map (λ c. c.1) (all_conditions ds)) × (length (all_conditions ds) ≤ max_conditions)
+    × Pairwise ◌≢◌ (map (λ d. d.0) (substitutes_of ds)) × (list_all (has_name known_options) (all_options ds) ≡ true)
+
+-- the file has a definitions section, and this is left from the line on that begins with `%%`
+abbrev pub HasDefinitions : List ℕ → List Definition → List ℕ → Type 0
+HasDefinitions file ds rest = IsCut definition_at (λ t. t ≡ rest) (without_returns file) ds × (begins (codes "%%") rest ≡ true) × MayDeclare ds
+
+-- in a file that is not too long and has no definitions section, the first faulty line of that is told
+abbrev pub TellsDefinitions : List ℕ → SpecError → Type 0
+TellsDefinitions file e = length file ≤ max_file_bytes → ((ds : List Definition) (rest : List ℕ) → HasDefinitions file ds rest → ⊥)
+    → IsFaultyLine MayDeclare (without_returns file) e
+
+-- in one that has such a section, the first faulty line behind it is told
 abbrev pub TellsRules : ReadOptions → List ℕ → SpecError → Type 0
-TellsRules how file e = (definitions : List Definition) (rest : List ℕ) → length file ≤ max_file_bytes
-    → IsCut definition_at (λ t. t ≡ rest) (without_returns file) definitions → begins (codes "%%") rest ≡ true
-    → Pairwise ◌≢◌ (map (λ c. c.1) (all_conditions definitions)) → Pairwise ◌≢◌ (map (λ d. d.0) (substitutes_of definitions))
-    → list_all (has_name known_options) (all_options definitions) ≡ true → length (all_conditions definitions) ≤ max_conditions
-    → IsFirstFault (map (λ c. c.1) (all_conditions definitions))
-    (record { fold = how.fold || has_name (all_options definitions) (codes "case-insensitive"); posix = how.posix })
-    (has_name (all_options definitions) (codes "stack")) (from_entries (substitutes_of definitions))
-    (2 + newlines file - newlines rest) (line_in rest).1 e
+TellsRules how file e = length file ≤ max_file_bytes → (ds : List Definition) (rest : List ℕ) → HasDefinitions file ds rest
+    → IsFirstFault (map (λ c. c.1) (all_conditions ds)) (record { fold = how.fold || has_name (all_options ds) (codes "case-insensitive"); posix = how.posix })
+    (has_name (all_options ds) (codes "stack")) (from_entries (substitutes_of ds)) (2 + newlines file - newlines rest) (line_in rest).1 e

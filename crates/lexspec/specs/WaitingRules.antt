@@ -10,7 +10,7 @@ use Rattle.lex_semantics.specs.ByteSets.{single}
 use Rattle.lex_semantics.specs.Tree.{Tree, Set}
 use Rattle.lex_semantics.specs.Sound.{IsCutOf}
 use Rattle.lexre.specs.Spelling.{Spells}
-use Rattle.lexspec.specs.ItemRuns.{ItemsFrom, Item, rule, Trailing, no_trail, line_end, pattern_after, at_end, matching}
+use Rattle.lexspec.specs.ItemRuns.{Item, rule, Trailing, no_trail, line_end, pattern_after, at_end, matching}
 use Rattle.lexre.specs.declared.options.ReadOptions.{ReadOptions}
 
 -- the rule with these statements

@@ -2,7 +2,7 @@
 ghost use Rattle.std.specs.Prelude.{◌≡◌, ◌≤◌, ◌+◌, ◌++◌, true, length, IfOk, IfErr};
 ghost use Rattle.lex_semantics.specs.Spec.{Spec as Meant};
 ghost use Rattle.lexspec.specs.Files.{SpellsSpec};
-ghost use Rattle.lexspec.specs.FaultLines.{TellsLength, TellsRules};
+ghost use Rattle.lexspec.specs.FaultLines.{TellsDefinitions, TellsLength, TellsRules};
 ghost use Rattle.lexspec_lines.specs.Outcome.{UnlessMemory};
 ghost use Rattle.lexspec.specs.Readings.{of_sections, IsRefusedRest, SpellsRest, SkipsRest};
 ghost use Rattle.lexspec.specs.Skipped.{user_section, AreSkipped};
@@ -100,6 +100,7 @@ pub fn read_spec(alloc: Global, text: &[u8], options: ReadOptions) -> Result<Spe
     ensures skipped { IfOk result (λ s. AreSkipped text.now (skipped_in s)) }
     ensures none { IfErr result (λ e. UnlessMemory e.kind ((S : Meant) → SpellsSpec options text.now S → ⊥)) }
     ensures too_long { IfErr result (λ e. UnlessMemory e.kind (TellsLength text.now e)) }
+    ensures definitions { IfErr result (λ e. UnlessMemory e.kind (TellsDefinitions text.now e)) }
     ensures rules { IfErr result (λ e. UnlessMemory e.kind (TellsRules options text.now e)) }
 {
     if text.len() > MAX_FILE_BYTES {

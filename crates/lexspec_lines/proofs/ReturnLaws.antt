@@ -1,6 +1,6 @@
 -- Carriage returns before newlines, dropped run by run.
 use Rattle.std.proofs.Common.{◌≡◌, ℕ, zero, suc, ◌<◌, ◌==◌, Bool, true, false, ◌&&◌, if◌then◌else◌, List, [], ◌∷◌, ◌++◌, length, get_or, take, drop, refl, sym, ap, append_assoc, ◌∙◌, arith}
-use Rattle.std.specs.Prelude.{Option, Some, None, codes}
+use Rattle.std.specs.Prelude.{Some, None, codes}
 use Rattle.std.proofs.lemmas.Bool.{eqb-true}
 use Rattle.bstr.specs.Find.{IsFirstByte, is_byte}
 use Rattle.lex_semantics.specs.Reading.{begins}

@@ -1,10 +1,12 @@
 -- The definitions section, line by line.
-use Rattle.std.proofs.Common.{◌≡◌, ℕ, zero, suc, ◌+◌, ◌-◌, ◌==◌, Bool, true, false, cond, if◌then◌else◌, List, [], ◌∷◌, ◌++◌, map, length, take, drop, Option, Some, None, refl, sym, ap, subst, ◌∙◌, arith, append_assoc, length-append}
+use Rattle.std.proofs.Common.{◌≡◌, ℕ, zero, suc, ◌+◌, ◌-◌, ◌==◌, Bool, true, false, cond, if◌then◌else◌, List, [], ◌∷◌, ◌++◌, map, length, take, drop, ◌<◌, Option, Some, None, refl, sym, ap, subst, ◌∙◌, arith, append_assoc, length-append}
 use Rattle.std.specs.Prelude.{codes}
 use Rattle.std.specs.List.{list_any}
 use Rattle.std.proofs.Math.Seq.{take-append_seam}
 use Rattle.std.proofs.lemmas.List.Sums.{sum_by-append}
 use Rattle.lex_semantics.specs.Reading.{◌>>=◌, Reader, begins}
+use Rattle.lexre_bytes.specs.declared.refusals.SpecError.{SpecError}
+use Rattle.lexspec_lines.specs.Sections.{IsFaultyLine, ends_line}
 use Rattle.lex_semantics.specs.ByteSets.{is_blank}
 use Rattle.lexspec_lines.specs.Lines.{line_in, after_block, newlines, is_all_blank}
 use Rattle.lexspec_lines.specs.DefinitionLines.{Definition, ignored, code_line, code_block, definition_in, percent_line, definition_at, IsUpTo}
@@ -203,3 +205,48 @@ pub taking_refused : (kind : SpecErrorKind) (how : ReadOptions) (text rest next 
 taking_refused kind how text rest next old d r here h =
     unless_memory kind ((how : ReadOptions) (ds more : List Definition) → Declares how ds old → AreAllowed (ds ++ d ∷ more) → ⊥) (NoSection text)
     (λ refused. no_taking AreAllowed text rest next r.definitions d r.lines here (λ more. refused how r.definitions more r.declares)) h
+
+-- The first faulty line.
+
+faulty : (how : ReadOptions) (text rest : List ℕ) (d : Declarations) (e : SpecError) → Reading how text d rest → begins (codes "%%") rest ≡ false
+    → ((ds : List Definition) (f : Definition) (next : List ℕ) (more : List Definition) → Declares how ds d → definition_at rest ≡ Some (f, next) → AreAllowed (ds ++ f ∷ more) → ⊥)
+    → (0 < length rest → e.line ≡ 1 + newlines text - newlines rest) → (length rest ≡ 0 → e.line ≡ 1 + newlines text + (if ends_line text then 0 else 1)) → IsFaultyLine AreAllowed text e
+faulty how text rest d e r off stuck told ended = record {
+  definitions = r.definitions;
+  rest = rest;
+  lines = r.lines;
+  allowed = r.allowed;
+  off = off;
+  stuck = (λ f next more here allowed. stuck r.definitions f next more r.declares here allowed);
+  told = told;
+  ended = ended;
+}
+
+no_line_told : (n : ℕ) (text rest : List ℕ) → n + newlines rest ≡ 1 + newlines text → n ≡ 1 + newlines text - newlines rest
+no_line_told n text rest e = omega (arith, e)
+
+pub bad_line : (how : ReadOptions) (text rest : List ℕ) (d : Declarations) (e : SpecError) → Reading how text d rest → begins (codes "%%") rest ≡ false → 0 < length rest → definition_at rest ≡ None
+    → e.line + newlines rest ≡ 1 + newlines text → IsFaultyLine AreAllowed text e
+bad_line how text rest d e r off some none line =
+    faulty how text rest d e r off (λ ds f next more declares here allowed. no_item (f, next) (definition_at rest) here none)
+    (λ h. no_line_told e.line text rest line) (λ h. absurd (omega (arith, h)))
+
+pub bad_end : (how : ReadOptions) (text rest : List ℕ) (d : Declarations) (e : SpecError) → Reading how text d rest → length rest ≡ 0
+    → e.line ≡ 1 + newlines text + (if ends_line text then 0 else 1) → IsFaultyLine AreAllowed text e
+bad_end how text rest d e r none line =
+    faulty how text rest d e r (no_separator_at_end rest none) (λ ds f next more declares here allowed. no_item (f, next) (definition_at rest) here (no_definition_at_end rest none))
+    (λ h. absurd (omega (arith, h))) (λ h. line)
+
+pub bad_taking : (how : ReadOptions) (text rest next : List ℕ) (d : Declarations) (f : Definition) (e : SpecError) → Reading how text d rest → begins (codes "%%") rest ≡ false → 0 < length rest → definition_at rest ≡ Some (f, next)
+    → e.line + newlines rest ≡ 1 + newlines text → UnlessMemory e.kind ((how : ReadOptions) (ds more : List Definition) → Declares how ds d → AreAllowed (ds ++ f ∷ more) → ⊥) → UnlessMemory e.kind (IsFaultyLine AreAllowed text e)
+bad_taking how text rest next d f e r off some here line h =
+    unless_memory e.kind ((how : ReadOptions) (ds more : List Definition) → Declares how ds d → AreAllowed (ds ++ f ∷ more) → ⊥) (IsFaultyLine AreAllowed text e) (λ refused.
+    faulty how text rest d e r off (λ ds g next' more declares here' allowed. refused how ds more declares (subst (λ z. AreAllowed (ds ++ z ∷ more)) (some_pair g f next' next (sym here' ∙ here)).0 allowed))
+    (λ k. no_line_told e.line text rest line) (λ k. absurd (omega (arith, k)))) h
+
+-- the line after the last
+pub end_line : (text rest : List ℕ) (line told : ℕ) (v : Bool) → v ≡ ends_line text → length rest ≡ 0 → line + newlines rest ≡ 1 + newlines text → (v ≡ true → told ≡ line) → (v ≡ false → told ≡ line + 1)
+    → told ≡ 1 + newlines text + (if ends_line text then 0 else 1)
+end_line text [] line told true e none count same more = same refl ∙ subst (λ b. line ≡ 1 + newlines text + (if b then 0 else 1)) e (omega (arith, count))
+end_line text [] line told false e none count same more = more refl ∙ subst (λ b. line + 1 ≡ 1 + newlines text + (if b then 0 else 1)) e (omega (arith, count))
+end_line text (c ∷ rest) line told v e none count same more = absurd (omega arith)

@@ -1,10 +1,12 @@
 -- What the reader of the definitions section answers.
-use Rattle.std.specs.Prelude.{◌≡◌, ℕ, ◌+◌, true, List, [], codes, is_some, if◌then◌else◌}
+use Rattle.std.specs.Prelude.{◌≡◌, ℕ, ◌+◌, ◌-◌, ◌<◌, ◌||◌, ◌==◌, Bool, true, false, nat_eq, List, [], ◌∷◌, ◌++◌, length, Some, codes, is_some, if◌then◌else◌}
+use Rattle.std.specs.List.{ends_with}
 use Rattle.std.specs.FinMap.{get}
 use Rattle.lexre.specs.Definitions.{Definitions}
 use Rattle.lexre.specs.declared.options.ReadOptions.{ReadOptions}
 use Rattle.lexspec_lines.specs.declared.definition.DefinitionFault.{DefinitionFault}
 use Rattle.lexspec_lines.specs.declared.definition.DefinitionFault.TheVariants.{BadLine, Unclosed, Anchored}
+use Rattle.lexre_bytes.specs.declared.refusals.SpecError.{SpecError}
 use Rattle.lexre_bytes.specs.declared.refusals.SpecErrorKind.{SpecErrorKind}
 use Rattle.lexre_bytes.specs.declared.refusals.SpecErrorKind.TheVariants as K
 use Rattle.lex_semantics.specs.Reading.{begins}
@@ -30,3 +32,19 @@ abbrev pub reported_kind : Definitions → DefinitionFault → SpecErrorKind
 reported_kind defined BadLine = K.BadDefinitionLine
 reported_kind defined Unclosed = K.Unclosed
 reported_kind defined (Anchored name) = if is_some (get defined name.now) then K.DuplicateName else K.AnchoredDefinition
+
+-- the text is empty, or ends with a newline
+abbrev pub ends_line : List ℕ → Bool
+ends_line text = length text == 0 || ends_with nat_eq text (codes "\n")
+
+-- The first faulty line: the lines before it declare what they may, and it is no separator. No line stands there, or one that with
+-- these declares what it may not, whatever follows. Where the text ends it is the line after the last.
+pub record IsFaultyLine (Allowed : List Definition → Type 0) (text : List ℕ) (e : SpecError) : Type 0 where
+  pub definitions : List Definition
+  pub rest : List ℕ
+  pub lines : IsUpTo definition_at text definitions rest
+  pub allowed : Allowed definitions
+  pub off : begins (codes "%%") rest ≡ false
+  pub stuck : (d : Definition) (next : List ℕ) (more : List Definition) → definition_at rest ≡ Some (d, next) → Allowed (definitions ++ d ∷ more) → ⊥
+  pub told : 0 < length rest → e.line ≡ 1 + newlines text - newlines rest
+  pub ended : length rest ≡ 0 → e.line ≡ 1 + newlines text + (if ends_line text then 0 else 1)

@@ -3,7 +3,7 @@ ghost use Rattle.std.specs.Prelude.{◌≡◌, ℕ, ◌≤◌, ◌+◌, true, Li
 ghost use Rattle.lex_semantics.specs.Reading.{begins};
 ghost use Rattle.lexspec_lines.specs.DefinitionLines.{Definition as Meant, definition_at, IsUpTo};
 ghost use Rattle.lexspec_lines.specs.Declaring.{AreAllowed};
-ghost use Rattle.lexspec_lines.specs.Sections.{HasSection, reported_kind};
+ghost use Rattle.lexspec_lines.specs.Sections.{HasSection, IsFaultyLine, reported_kind};
 ghost use Rattle.lexspec_lines.specs.Outcome.{UnlessMemory};
 ghost use Rattle.lex_semantics.specs.Limits.{max_file_bytes};
 
@@ -39,6 +39,7 @@ pub fn read_section(
         → IsUpTo definition_at text.now ds after
         → begins (codes "%%") after ≡ true → AreAllowed ds → ⊥)) }
     ensures line { IfErr result (λ e. UnlessMemory e.kind (1 ≤ e.line)) }
+    ensures told { IfErr result (λ e. UnlessMemory e.kind (IsFaultyLine AreAllowed text.now e)) }
 {
     let mut declarations = Declarations::new(alloc, options)?;
     let mut rest = text;

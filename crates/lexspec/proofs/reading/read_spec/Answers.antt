@@ -1,5 +1,5 @@
 use Rattle.std.proofs.Common.{rules, ◌≤◌, ◌∙◌, length, arith}
-use Rattle.lexspec.proofs.ReadingLaws.{kept_short, rest_short, line_few, read_found, all_skipped, read_none, read_rules_told, read_length_told, section_none, section_told}
+use Rattle.lexspec.proofs.ReadingLaws.{kept_short, rest_short, line_few, read_found, all_skipped, read_none, read_rules_told, read_length_told, read_definitions_told, section_none, section_told, section_line_told}
 use Rattle.lexspec.proofs.reading.read_spec.Goals as goal
 use Rattle.lex_semantics.specs.Limits.{max_file_bytes}
 
@@ -48,3 +48,10 @@ returns-in-Ok-clause-too_long c =
 
 pub returns-clause-rules : goal.returns-clause-rules
 returns-clause-rules c = section_told c.args.options c.args.text.now c.deref.result.now c.in-Err.fault (c.deref.ensures.value ∙ c.in_ok-kept.ensures) c.in-Err.ensures.none
+
+pub returns-in-Ok-clause-definitions : goal.returns-in-Ok-clause-definitions
+returns-in-Ok-clause-definitions c =
+    read_definitions_told c.read_on.result c.args.options c.args.text.now c.deref.result.now c.in-Ok.section (c.deref.ensures.value ∙ c.in_ok-kept.ensures) c.in-Ok.ensures.found
+
+pub returns-clause-definitions : goal.returns-clause-definitions
+returns-clause-definitions c = section_line_told c.args.text.now c.deref.result.now c.in-Err.fault (c.deref.ensures.value ∙ c.in_ok-kept.ensures) c.in-Err.ensures.told

@@ -1,6 +1,11 @@
-use Rattle.std.proofs.Common.{rules, arith, sym, ◌∙◌, ◌≡◌, [], length}
+use Rattle.std.proofs.Common.{rules, arith, sym, ap, ◌∙◌, ◌≡◌, [], length}
 use Rattle.lexre_bytes.proofs.MemoryLaws.{always}
-use Rattle.lexspec_lines.proofs.SectionLaws.{no_line, taking_refused, no_definition_at_end, no_separator_at_end, begin_reading, good_kept, read_line, line_counts}
+use Rattle.lexspec_lines.proofs.SectionLaws.{no_line, taking_refused, no_definition_at_end, no_separator_at_end, begin_reading, good_kept, read_line, line_counts, bad_line, bad_taking, bad_end, end_line}
+use Rattle.lexspec_lines.proofs.OneSection.{no_true}
+use Rattle.lexspec_lines.specs.Sections.{ends_line}
+use Rattle.std.specs.List.{ends_with}
+use Rattle.std.specs.Prelude.{codes, nat_eq, ◌||◌}
+use Rattle.lexspec_lines.proofs.section.read_section.Goals.{then-is_empty-2, else-is_empty-2, then-ends_with, else-ends_with}
 use Rattle.lexspec_lines.specs.SkippedCode.{code_of_definition}
 use Rattle.lexspec_lines.specs.Skips.{IsDefinition}
 use Rattle.lexspec_lines.proofs.CodeLaws.{tells_none, tells_more}
@@ -40,3 +45,33 @@ returns-in-Err-clause-line c = always c.kind_of.result _ c.lines.invariant.count
 
 pub returns-in-Err-take-clause-line : goal.returns-in-Err-take-clause-line
 returns-in-Err-take-clause-line c = always c.in-Err-take.kind _ c.lines.invariant.counted
+
+pub returns-in-Err-clause-told : goal.returns-in-Err-clause-told
+returns-in-Err-clause-told c =
+    always c.kind_of.result _ (bad_line c.args.options c.args.text.now c.lines.rest.now _ _ c.lines.invariant.read (sym c.starts_with.ensures.value ∙ c.if-starts_with.false) (search rules) c.in-Err.ensures.none c.lines.invariant.line)
+
+pub returns-in-Err-take-clause-told : goal.returns-in-Err-take-clause-told
+returns-in-Err-take-clause-told c =
+    bad_taking c.args.options c.args.text.now c.lines.rest.now _ _ _ _ c.lines.invariant.read (sym c.starts_with.ensures.value ∙ c.if-starts_with.false) (search rules) c.in-Ok.ensures.found c.lines.invariant.line c.in-Err-take.ensures.none
+
+value_is : (c : goal.After-drop-declarations-then-is_empty-2) → c.if-is_empty-2.value ≡ ends_line c.args.text.now
+value_is c =
+    let last = ends_with nat_eq c.args.text.now (codes "\n") in
+    elim c.if-is_empty-2.branch [
+      | then-is_empty-2 w ↦ w.value-is ∙ w.if-is_empty-2.true ∙ ap (λ b. b || last) (sym w.if-is_empty-2.true ∙ c.is_empty-then-is_empty.ensures)
+      | else-is_empty-2 w ↦ w.value-is ∙ w.ends_with.ensures.value ∙ ap (λ b. b || last) (sym w.if-is_empty-2.false ∙ c.is_empty-then-is_empty.ensures)
+    ]
+
+pub returns-then-is_empty-clause-told : goal.returns-then-is_empty-clause-told
+returns-then-is_empty-clause-told c =
+    let none : length c.lines.rest.now ≡ 0 = search rules in
+    bad_end c.args.options c.args.text.now c.lines.rest.now _ _ c.lines.invariant.read none
+    (end_line c.args.text.now c.lines.rest.now c.lines.line c.if-ends_with.line c.if-is_empty-2.value (value_is c) none c.lines.invariant.line
+    (elim c.if-ends_with.branch [
+      | then-ends_with w ↦ λ same. w.line-is
+      | else-ends_with w ↦ λ same. no_true (sym w.if-ends_with.false ∙ same)
+    ])
+    (elim c.if-ends_with.branch [
+      | then-ends_with w ↦ λ more. no_true (sym more ∙ w.if-ends_with.true)
+      | else-ends_with w ↦ λ more. w.line-is
+    ]))
