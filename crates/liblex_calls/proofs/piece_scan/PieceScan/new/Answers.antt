@@ -5,6 +5,9 @@ use Rattle.liblex_calls.specs.declared.stage.Stage.TheVariants as stages
 use Rattle.liblex_calls.proofs.Piecing.{first_stands}
 use Rattle.liblex_calls.proofs.piece_scan.PieceScan.new.Goals as goal
 
+pub returns-clause-going : goal.returns-clause-going
+returns-clause-going c = refl
+
 pub returns-clause-progress : goal.returns-clause-progress
 returns-clause-progress c file is =
     let same = ap (λ f. table_machine f.tables) c.new.ensures.machine in
