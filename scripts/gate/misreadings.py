@@ -16,7 +16,9 @@ A misreading is a file crates/CRATE/misreadings/NAME.edit of the crate that has 
     crate: the crate whose examples must refuse it, where that is another one, above
     function: the function whose contract has these examples, or a law
     passes: why no example refuses it, where that is known
-    file: .. old: .. new: ..    as a wrong body has them, one or more
+    file: .. old: .. new: ..    as a wrong body has them, one or more; 'each:' in place of 'old:' is changed wherever it stands
+
+Lemmas may have to be changed with the definition that they speak of: so a file may be one of proofs/ too.
 
 The crate of the definition is read as source with the change, and so is each crate between it and that of the examples, and each one
 whose library is not built. None of them is proved: the prover is asked for that one function alone, and for the lemmas that its proof
@@ -99,14 +101,15 @@ def read(path):
     """A misreading by its file."""
     crate, text = path.parents[1].name, path.read_text()
     said = dict(HEAD.findall(text))
-    pairs, file, old = [], "", None
+    pairs, file, old, often = [], "", None, False
     for line in text.split("\n"):
         if line.startswith("file: "):
             file = line[6:].strip()
-        elif line.startswith("old: "):
-            old = line[5:]
+        elif line.startswith(("old: ", "each: ")):
+            key, _, old = line.partition(": ")
+            often = key == "each"
         elif line.startswith("new:") and old is not None:
-            pairs.append((file, old, line[4:].removeprefix(" ")))
+            pairs.append((file, old, line[4:].removeprefix(" "), *([often] if often else [])))
             old = None
     if "function" not in said or not pairs:
         raise BadMisreading("it has no line 'function:', or no 'old:' and 'new:'")
@@ -116,11 +119,11 @@ def read(path):
 def changed_texts(folder, pairs):
     """The texts of the changed files."""
     texts = {}
-    for file, old, new in pairs:
+    for file, old, new, *often in pairs:
         if file not in texts and not (folder / file).is_file():
             raise BadMisreading(f"there is no file {file}")
         text = texts.get(file) or (folder / file).read_text()
-        if text.count(old) != 1:
+        if text.count(old) != 1 and not (often and old in text):
             raise BadMisreading(f"an 'old:' text stands {text.count(old)} times in {file}")
         texts[file] = text.replace(old, new)
     return texts

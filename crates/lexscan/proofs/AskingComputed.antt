@@ -7,7 +7,7 @@ use Rattle.lex_semantics.specs.Fits.{Fits}
 use Rattle.lex_semantics.specs.Rules.{Live, rules_of}
 use Rattle.lex_semantics.specs.Run.{State, first_state, first_place}
 use Rattle.lex_semantics.specs.Spec.{Rule}
-use Rattle.lexscan.specs.AskingExamples.{two_as, Asking, AskingEnd, Given, Known}
+use Rattle.lexscan.specs.AskingExamples.{two_as, Asking, AskingEnd, Given, Known, Order}
 
 -- the word of the rule, and the words that go on
 
@@ -133,4 +133,14 @@ known = record {
   first = λ x consistent. record { turns = refl; reaches = refl; end = (λ e. cc, λ h. absurd h) };
   at_end = λ h. (h [] (tt, refl)).end.0 refl;
   one_byte = λ h. (let n : 1 ≡ 0 = (h (codes "a") ((omega arith, tt), ([], refl))).reaches in omega (arith, n));
+}
+
+pub order : Order
+order = record {
+  longer = inl (omega arith);
+  shorter = λ h. elim h [ inl less ↦ omega (arith, less) | inr same ↦ omega (arith, same.0) ];
+  by_context = inl (omega arith);
+  shorter_by_context = λ h. elim h [ inl less ↦ omega (arith, less) | inr same ↦ omega (arith, same.0) ];
+  earlier_rule = inr (refl, omega arith);
+  later_rule = λ h. elim h [ inl less ↦ omega (arith, less) | inr same ↦ omega (arith, same.1) ];
 }

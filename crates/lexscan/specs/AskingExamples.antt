@@ -1,7 +1,9 @@
--- Worked examples of what the turns of a scan ask for, and of what is known of it, by the rule `aa ECHO;`. (This project's.)
-use Rattle.std.specs.Prelude.{true, false, [], ◌∷◌, codes}
+-- Worked examples of what the turns of a scan ask for, and of what is known of it, by the rule `aa ECHO;`; and of the order of
+-- matches. (This project's.)
+use Rattle.std.specs.Prelude.{ℕ, true, false, [], ◌∷◌, codes}
 use Rattle.lex_semantics.specs.Spec.{Spec}
 use Rattle.lex_semantics.specs.Rules.{rules_of}
+use Rattle.lex_semantics.specs.Candidates.{Candidate, Before}
 use Rattle.lex_semantics.specs.Run.{first_state}
 use Rattle.lex_semantics.specs.Demand.{Far, EndAsked, Consistent}
 use Rattle.lex_semantics.specs.Scanned.{Scanned}
@@ -40,3 +42,15 @@ pub record Known : Type 0 where
   pub first : Scanned (rules_of two_as) [] false 0 first_state
   pub at_end : Scanned (rules_of two_as) [] true 0 first_state → ⊥
   pub one_byte : Scanned (rules_of two_as) (codes "a") false 0 first_state → ⊥
+
+abbrev pub match : ℕ → ℕ → ℕ → Candidate
+match len rule keep = record { len = len; rule = rule; keep = keep }
+
+-- a longer match comes first, by its trailing context too, and of two that are as long that of the earlier rule
+pub record Order : Type 0 where
+  pub longer : Before (match 3 1 3) (match 2 0 2)
+  pub shorter : Before (match 2 0 2) (match 3 1 3) → ⊥
+  pub by_context : Before (match 3 0 1) (match 2 1 2)
+  pub shorter_by_context : Before (match 2 1 2) (match 3 0 1) → ⊥
+  pub earlier_rule : Before (match 2 0 2) (match 2 1 2)
+  pub later_rule : Before (match 2 1 2) (match 2 0 2) → ⊥

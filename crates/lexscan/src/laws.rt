@@ -5,7 +5,7 @@ ghost use Rattle.lex_semantics.specs.Rules.{rules_of};
 ghost use Rattle.lex_semantics.specs.Sound.{IsSound};
 ghost use Rattle.lex_semantics.specs.Spec.{Spec};
 ghost use Rattle.lex_semantics.specs.TableFor.{TableFor};
-ghost use Rattle.lexscan.specs.AskingExamples.{Asking, AskingEnd, Given, Known};
+ghost use Rattle.lexscan.specs.AskingExamples.{Asking, AskingEnd, Given, Known, Order};
 ghost use Rattle.lexscan.specs.Tokens.{SameTokens};
 
 /// The tokens by a machine that is a table for a specification are those of the specification.
@@ -15,10 +15,11 @@ pub fn table_tokens()
 {}
 
 /// Worked examples of what turns ask for, and of what is known of a scan: the bytes of a match, the end, the inputs that
-/// a source may still have, and the scan before its first turn.
+/// a source may still have, and the scan before its first turn. And of the order of matches.
 pub fn examples_of_asking()
     ensures asking { Asking }
     ensures asking_end { AskingEnd }
     ensures given { Given }
     ensures known { Known }
+    ensures order { Order }
 {}

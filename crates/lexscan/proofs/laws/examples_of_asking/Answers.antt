@@ -12,3 +12,6 @@ returns-clause-given c = Computed.given
 
 pub returns-clause-known : goal.returns-clause-known
 returns-clause-known c = Computed.known
+
+pub returns-clause-order : goal.returns-clause-order
+returns-clause-order c = Computed.order
