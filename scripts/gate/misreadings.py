@@ -273,10 +273,10 @@ def judge(checked, it):
     if not has_examples(it.function.split("::")[-1]):
         return "law", f"{it.function}: {errors[0][0]}: {errors[0][2][:80]}"
     homes = names_of_examples(checked.where, it.function)
-    own = [error for error in errors if is_own(checked.where, homes, error)]
-    if own:
-        file, line, text = own[0]
-        more = f" (and {len(own) - 1} more)" if len(own) > 1 else ""
+    of_examples = [error for error in errors if is_own(checked.where, homes, error)]
+    if of_examples:
+        file, line, text = of_examples[0]
+        more = f" (and {len(of_examples) - 1} more)" if len(of_examples) > 1 else ""
         return "refused", f"{it.function}: {name_in(text)}: {line_at(checked.where / file, line)}{more}"
     return "lemma", f"{errors[0][0]}: {errors[0][2][:100]}"
 
