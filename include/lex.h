@@ -30,6 +30,14 @@
 extern "C" {
 #endif
 
+/* The version of this header, as text and as a number: 10000 times the first of its numbers, 100 times the second, and the third. */
+#define LEX_VERSION "1.0.0"
+#define LEX_VERSION_NUMBER 10000
+
+/* Tells the version of the library, as LEX_VERSION_NUMBER tells that of the header. A program that was made with a header of the same
+   first number, and of a second number that is no later, may call it. */
+uint32_t lex_version(void);
+
 /* What a call answers. From 65 on the numbers are statuses of the program lex. */
 enum lex_answer {
     LEX_OK = 0,              /* all is done */
@@ -156,7 +164,7 @@ int32_t lex_rule_lines(const uint8_t *text, size_t text_len, uint32_t flags, uin
 
 /* A scan by pieces. Begin with LEX_SCAN_INIT, and leave its fields to the calls. What holds for it:
 
-   - It is written by these four calls alone, one at a time, each in the thread of the first.
+   - It is written by these four calls alone, one at a time. They may be made by one thread and then by another.
    - It is not copied while it is open: of two copies only one could be closed.
    - lex_close gives its memory back. A scan that is not closed keeps it. */
 struct lex_scan {

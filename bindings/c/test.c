@@ -260,6 +260,8 @@ int main(int argc, char **argv)
     int answer, status;
     if (argc != 5)
         return 2;
+    if (lex_version() != LEX_VERSION_NUMBER)
+        return fail("the version", (int)lex_version());
     text = read_file(argv[1]);
     input = read_file(argv[2]);
     wanted = read_file(argv[3]);

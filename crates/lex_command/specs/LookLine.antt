@@ -1,12 +1,14 @@
 -- What the words of the command line of lexlook ask for.
-use Rattle.std.specs.Prelude.{◌≡◌, ◌&&◌, ◌||◌, Bool, true, false, not, List, [], ◌∷◌, Option, Some, None, fold, codes, string_bytes}
+use Rattle.std.specs.Prelude.{◌≡◌, ◌||◌, if◌then◌else◌, true, List, [], ◌∷◌, Option, Some, None, fold, codes, string_bytes}
 use Rattle.std.specs.Str.{bytes_eq}
 use Rattle.clap.specs.Words.{App, Row, Rule, Text, fault_of, first_of, new_app, new_rule, subcommand_of, with_rule, with_subcommand}
 use Rattle.clap.specs.Simple.{on_top}
 use Rattle.clap.specs.declared.builder.action.ArgAction.TheVariants.{Set}
 use Rattle.lex_command.specs.Flags.{is_separator, pattern_rules, patterns_of}
+use Rattle.lex_command.specs.declared.look.args.About.{About}
+use Rattle.lex_command.specs.declared.look.args.About.TheVariants.{Help, Version}
 use Rattle.lex_command.specs.declared.look.args.Look.{Look}
-use Rattle.lex_command.specs.declared.look.args.Look.TheVariants.{Help, One, Same}
+use Rattle.lex_command.specs.declared.look.args.Look.TheVariants.{About as OfItself, One, Same}
 use Rattle.lex_command.specs.declared.look.args.Subcommand.{Subcommand}
 use Rattle.lex_command.specs.declared.look.args.Subcommand.TheVariants.{Picture, Lines, Words, Trace}
 
@@ -48,10 +50,14 @@ lexlook_app = fold with_subcommand no_subcommand (
 
 -- ---- what is asked for
 
--- a word before any `--` is `--help`
-abbrev pub has_help : List Text → Bool
-has_help [] = false
-has_help (word ∷ rest) = not (is_separator word) && (bytes_eq word (codes "--help") || has_help rest)
+-- what the first of the words `--help`, `-h` and `--version` asks for, if it stands before any `--`
+abbrev pub about_of : List Text → Option About
+about_of [] = None
+about_of (word ∷ rest) =
+    if is_separator word then None
+    else if bytes_eq word (codes "--help") || bytes_eq word (codes "-h") then Some Help
+    else if bytes_eq word (codes "--version") then Some Version
+    else about_of rest
 
 -- what a subcommand of one file is called
 abbrev pub name_of : Subcommand → Text
@@ -71,10 +77,10 @@ IsLookOf (Some p) (Same left right patterns) = (p.0 ≡ codes "same")
     × (patterns ≡ patterns_of p.1)
 IsLookOf p look = ⊥
 
--- The words ask for the help if one of them is `--help`, before any `--`. Else they are a line of the program's, and ask for what the
--- subcommand does.
+-- The words ask for something of the program itself if one of them does, before any `--`. Else they are a line of the program's, and
+-- ask for what the subcommand does.
 abbrev pub AsksFor : List Text → Look → Type 0
-AsksFor words Help = has_help words ≡ true
-AsksFor words look = (has_help words ≡ false)
+AsksFor words (OfItself what) = about_of words ≡ Some what
+AsksFor words look = (about_of words ≡ None)
     × (fault_of lexlook_app words ≡ [])
     × IsLookOf (subcommand_of lexlook_app words) look

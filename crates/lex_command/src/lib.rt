@@ -5,7 +5,7 @@
 //! - `error`: why a command line is refused, `ArgsError`.
 //! - `flags`: what both lines have: flags, words that have a value, and how patterns are read (`PatternFlags`).
 //! - `job`: the line of lex. `args` reads it into a `Job`, and `laws` has worked examples of lines.
-//! - `look`: the line of lexlook. `args` reads it into a `Look`, and `help` writes how the program is called.
+//! - `look`: the line of lexlook. `args` reads it into a `Look`, and `help` writes how the program is called, and its version.
 //!
 //! It promises that what is answered is what the words ask for, and that words refused by `Usage` ask for nothing
 //! (`AsksFor` of `specs/CommandLine` and of `specs/LookLine`). A flag or a subcommand is added here, with its rule in
@@ -20,7 +20,8 @@
 //! - **`-t` wins over `-o`, and `-n` over `-v`**, in whatever order they stand, so that no order has to be remembered.
 //! - **No value stands behind a `=`**, as in `--scan-spec=FILE` and `-o=FILE`, and `--` is none beside a scan, though clap
 //!   takes them.
-//! - **`--help` is read before clap reads the words.** So a contract can say exactly which words ask for the help.
+//! - **`--help`, `-h` and `--version` of lexlook are read before clap reads the words.** So a contract can say exactly which words
+//!   ask for them.
 #![tactic(auto)]
 
 mod error;
@@ -31,4 +32,4 @@ mod look;
 pub use error::ArgsError;
 pub use flags::PatternFlags;
 pub use job::{Job, command_lines, read_args};
-pub use look::{Look, Subcommand, read_args as read_look_args, write_help};
+pub use look::{About, Look, Subcommand, read_args as read_look_args, write_help, write_version};

@@ -1,7 +1,7 @@
-//! The command line of lexlook, and its help.
+//! The command line of lexlook, its help and its version.
 
 mod args;
 mod help;
 
-pub use args::{Look, Subcommand, read_args};
-pub use help::write_help;
+pub use args::{About, Look, Subcommand, read_args};
+pub use help::{write_help, write_version};

@@ -1,4 +1,5 @@
-//! Automata of lex, by subset construction: the states are the sets of positions that words leave.
+//! Automata of lex, by subset construction: the states are the sets of positions that words leave. The least automaton
+//! is made of one by `minimise` of lexauto_dfa.
 //!
 //! The modules, in an order for reading:
 //! - `error`: why there is no automaton for a specification.

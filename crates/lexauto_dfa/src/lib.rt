@@ -2,17 +2,17 @@
 //! specifications.
 //!
 //! The modules, in an order for reading:
-//! - `memory`: the one refusal of all that can fail by want of memory alone.
+//! - `memory`: the error `OutOfMemory`, of all that can fail by want of memory alone.
 //! - `dfa`: the lists of an automaton, the type that keeps what holds of them, and its readers.
-//! - `alike`: for each byte the first one by which all states go alike.
-//! - `least`: the minimal DFA. Its head lists its modules: labels, letters and their sources, blocks, marks and splits,
-//!   the partition that they come to, its classes numbered, and `minimising`, which puts these together.
+//! - `alike`: for each byte the first one that no state tells apart from it, as in flex's equivalence classes.
+//! - `least`: the minimal DFA. Its head lists its modules: labels, letters and their sources, blocks, marked states and
+//!   splits, the partition that they come to, its classes numbered, and `minimising`, which puts these together.
 //! - `laws`: that an automaton of a sound specification is a machine.
 //!
 //! The type promises: numbers in range, a dead state 0, each other state reached, rules ascending, going on exactly
 //! where a longer word is accepted. `minimise` promises the minimal DFA that accepts and goes on as the one handed in
-//! after every word, with canonical numbers, of which there is just one. That a specification's machine stays one, and
-//! its table one, are clauses of `minimise` for every specification, so a caller needs no law of its own.
+//! after every word, with canonical numbers, of which there is just one. Its contract also says, of every specification,
+//! that an automaton that is right for it is so after minimising too.
 //!
 //! How the minimal DFA is found may change alone, under the contract of `minimise`. What the type keeps may not:
 //! `build` makes such automata, and packing, reports and pictures read them.
@@ -20,8 +20,8 @@
 //! Decided here:
 //! - The model of an automaton is total. A number that is no byte, or of no state, leads to the dead state, which
 //!   accepts nothing. So the laws of machines hold of it for all numbers.
-//! - That a state is reached, and that it leads on, is kept as a mere fact. A type may keep only facts that have one
-//!   proof, and words that lead to a state are many. The contract of `minimise` names a word for each state again.
+//! - That some word leads to a state, and that the state leads on, is kept without the word: a type may keep only facts
+//!   that have one possible proof. The contract of `minimise` names a word for each state again.
 //! - An automaton is made of its lists by one call, which asks for all that the type keeps. Another call shows the
 //!   lists.
 #![tactic(auto)]

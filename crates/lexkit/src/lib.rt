@@ -10,6 +10,8 @@
 //! - `failure` and `faults`: what ended a program, its line on standard error and its status.
 //! - `program`: the words of a command line, the files that both programs read, and how a failure is reported.
 //!
+//! The tokens of an input, for a parser, are made by `token` of lexscan, and exported here.
+//!
 //! The headline is promised here: what `scan_spec` and `scan_table` write, answer and take (`specs/Headline`), and what
 //! `generate` makes (`specs/Generated`). It joins the automata of lexauto, the tables of lextab and the scans of lexscan, and
 //! exports what a caller names of these. A change of what is told of a fault stays here, with docs/MANUAL.md. The calls

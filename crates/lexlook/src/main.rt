@@ -15,7 +15,9 @@ ghost use Rattle.std.specs.Prelude.{◌≡◌, ◌≤◌};
 mod reading;
 
 use crate::reading::read_compared_file;
-use lex_command::{ArgsError, Look, PatternFlags, Subcommand, read_look_args, write_help};
+use lex_command::{
+    About, ArgsError, Look, PatternFlags, Subcommand, read_look_args, write_help, write_version,
+};
 use lexkit::{
     ByteReader, ByteWriter, Failure, FromBytes, MAX_POSITIONS, MAX_STATES, Options, Sink, ToBytes,
     ToWrite, command_words, read_spec_file, report_failure,
@@ -45,10 +47,13 @@ fn options_of(patterns: PatternFlags) -> Options
     Options::reading(patterns.fold, patterns.posix)
 }
 
-/// Writes the help to standard output.
-fn show_help(rt: &HostRuntime) -> Result<ExitCode, Failure> {
+/// Writes the help or the version to standard output.
+fn show_about(rt: &HostRuntime, what: About) -> Result<ExitCode, Failure> {
     let mut sink = ToWrite::new(io::writer(rt));
-    write_help(&mut sink)?;
+    match what {
+        About::Help => write_help(&mut sink)?,
+        About::Version => write_version(&mut sink)?,
+    }
     sink.flush()?;
     Ok(ExitCode::SUCCESS)
 }
@@ -161,7 +166,7 @@ fn show_one(
 /// Shows what the command line asks for, and answers with the status of the program.
 fn run(rt: &HostRuntime) -> Result<ExitCode, Failure> {
     match look_of(rt)? {
-        Look::Help => show_help(rt),
+        Look::About(what) => show_about(rt, what),
         Look::One {
             what,
             file,

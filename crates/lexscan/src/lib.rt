@@ -1,32 +1,34 @@
-//! A scanner over any machine, any source and any sink: its turns, its runs, and the tokens of an input.
+//! A scanner over any machine, any source and any sink: its turns (a match with its actions, or the end action), whole
+//! runs, and the tokens of an input. Which rule matches, and REJECT, are in lexscan_matching. The bytes held, what
+//! statements do, and the stack of start conditions are in lexscan_window.
 //!
-//! - `scan`: what a scan keeps between two turns, and its two ends.
+//! - `scan`: what a scan keeps between two turns, with its source and its sink.
 //! - `turn`: one turn, of any scan.
 //! - `find`: looks for the match at the place of the scan.
 //! - `carry`: carries the match out, or the end action.
 //! - `leave`: leaves the place of the match for that of the next one.
-//! - `burst`: turns in one go over a text alone, where the machine tells them at a glance.
+//! - `burst`: many turns in one loop over bytes in memory, where each rule at most writes or sets the condition.
 //! - `further`: lets a burst go over the bytes that the source has ready.
 //! - `whole`: `run`, all turns to the end.
 //! - `scanner`: single turns, for callers.
-//! - `attempt`: turns over the bytes that are there, as far as these decide them.
-//! - `asking`: the state after all bytes of a match that asks for more.
+//! - `attempt`: for `push`: turns that are undone where they ask for a byte that was not fed yet.
+//! - `asking`: the state after all bytes of a match that asks for more, from where the next piece goes on.
 //! - `push`: a scan that is fed its input piece by piece.
 //! - `token`: the tokens of an input in memory, by the turns of a scanner.
 //! - `laws`: a table has the tokens of its specification; worked examples of what turns ask for.
 //!
-//! It promises lexkit what a run writes, takes and holds, by records over a scan and its ends before and after
+//! It promises lexkit what a run writes, takes and holds, by relations between scan, source and sink before and after
 //! (`specs/Scans`, `TurnInvariants`, `Runs`). How turns are made may be changed alone, under the contracts of `run`,
 //! `Scanner` and `PushScanner`.
 //!
 //! Decided for this room alone; docs/DECISIONS.md has what concerns others (The scanner):
 //!
-//! - A burst keeps the state where the next match starts, not whether a line does: that flag made each match wait for
-//!   it.
-//! - What is shown halves where it was of little use, down to 64 bytes, and doubles where it was used up, to 8,192.
-//! - Marks are used only where more than 128 held bytes lie before a match: other matches pay for one comparison.
-//! - A turn keeps the rule of its match, and counts its text from what was taken and held: there is no copy.
-//! - The marks are given back where a turn is given up, since the contract of a refused turn says nothing of them.
+//! - A burst keeps the state in which the next match starts, and no flag for the start of a line: each match had to
+//!   wait for that flag.
+//! - How many bytes a burst may look at halves where it used few, down to 64, and doubles where it used all, up to 8,192.
+//! - Marks (`memo` of lexscan_window) are used only where over 128 bytes are held: other matches pay one comparison.
+//! - A turn keeps only the rule of its match. Where its text begins is worked out from counts, and no byte is copied.
+//! - All marks are dropped where a turn is undone or refused, since its contract says nothing of them.
 //! - `tokens` fills a list, and is no iterator: a struct cannot borrow from the source and the sink beside it.
 #![tactic(auto)]
 

@@ -3,10 +3,11 @@
 //! - `last_states`: looks ahead over the bytes held and those that it takes, and keeps the last two states.
 //! - `pick`: finds the longest match of a turn by these, or by one more walk, and carries it out.
 //! - `looking`: looks ahead with the state after each byte, where rules have REJECT.
-//! - `descent`: tries the matches from the longest down, up to the first that is not rejected.
-//! - `glanced`: for bursts: a match that is told by its last state, by the one before it or by a short walk, and what
-//!   it does.
-//! - `back`: a match over many bytes that an earlier one asked for, which stops at a mark.
+//! - `descent`: REJECT: tries the matches from the longest down, up to the first whose action does not reject.
+//! - `glanced`: for `burst` of lexscan: a match that is told by its last state, by the one before it or by a short walk,
+//!   and what it does.
+//! - `back`: a match over many bytes that an earlier match has read ahead already; the walk stops where a mark says that
+//!   no match follows.
 //! - `front`: the longest match at the front of a text, for callers that walk a machine themselves; no scan uses it.
 //!
 //! It promises lexscan that the match is the machine's, over the bytes held and taken (`specs/Calls`), and that its
@@ -15,15 +16,16 @@
 //! Decided for this room alone:
 //!
 //! - There are two forms of a match. Where no rule has REJECT the last two states are kept, since mostly one of them
-//!   accepts; else the bytes held are walked over once more. Where some rule has it, the states after each byte are.
-//! - A match that comes back over at most 128 bytes stays in a burst. A longer one ends it, so that no byte is walked
-//!   over more than a fixed number of times.
+//!   accepts; else the bytes held are walked over once more. Where some rule has REJECT, the state after every byte is
+//!   kept.
+//! - A burst goes back over at most 128 bytes to find the last accepting state. Where there are more it ends, so that no
+//!   byte is walked over more than a fixed number of times.
 //! - A rule that does nothing is asked for first: its match changes three numbers, which stay in registers.
 //! - Where some rule has REJECT there are no marks. Its matches are tried one after another, which may take time in
 //!   the square of the text, whatever is known of walks.
 //! - A walk marks that no state on its way accepts, not that no rule fits. In the automaton of a specification these
-//!   are the same. A table file that no specification makes may accept a rule whose cut leaves no text, and then walks
-//!   are not marked.
+//!   are the same. A table file that no specification makes may accept a rule whose trailing context takes the whole
+//!   match, and then walks are not marked.
 #![tactic(auto)]
 
 mod back;

@@ -1,11 +1,13 @@
-//! What a scan holds, and the two ends that it works at.
+//! What a scan holds: the bytes ahead, the stack of start conditions, its source and its sink. And what the statements
+//! of an action do.
 //!
 //! - `error`: why a turn is refused.
 //! - `matched`: what a turn has matched.
 //! - `window`: the bytes held, in a buffer that is used up from the front.
 //! - `walk`: takes bytes into the window as long as a machine asks for them.
-//! - `stack`: the stack of start conditions.
-//! - `state`: what a scanner keeps beside its ends: the reading, the place of the next match, what actions left.
+//! - `stack`: the stack of start conditions (flex's `yy_push_state` and `yy_pop_state`), for `act`.
+//! - `state`: what a scanner keeps beside source and sink: what is known of the source, the place of the next match, and
+//!   what actions left.
 //! - `path`: the state after each byte of a match.
 //! - `intake`: the source and the sink, each with what is known of its failures.
 //! - `tie`: the sink is flushed before a read that may wait.
@@ -13,7 +15,7 @@
 //! - `act`: the statements of a rule are carried out.
 //! - `memo`: the marks: pairs of a place and a state from which a walk leads to no match.
 //! - `cell`: a few marks of one place.
-//! - `waiting`: a source over two slices, for scans by pieces.
+//! - `waiting`: a source over what is left of earlier pieces and the new piece, for scans by pieces.
 //!
 //! It promises lexscan_matching and lexscan which bytes were taken, held and written (`specs/Takings`, `Walks`), and
 //! what a statement does (`Acts`). How the window grows and how the marks are laid out may be changed alone.
@@ -22,10 +24,11 @@
 //!
 //! - Room for a byte, and for its state, is made before the byte is read: out of memory loses no byte. A full buffer
 //!   grows, or its bytes move to its start where as many were dropped as are held.
-//! - A row of marks has room for as many states as failed at one place, in cells of four. Where one is full the next
-//!   table has half the rows, each twice as long, at places twice as far apart, and takes no more memory.
-//! - A mark that is lost costs time alone: a state above 65,535 is not marked, and where a table is refused a scan
-//!   goes on.
+//! - The marks are like a hash table: a row for each place, with room for as many states as failed there, in cells of
+//!   four. Where a row is full the next table has half the rows, each twice as long, at places twice as far apart, and
+//!   takes no more memory.
+//! - A mark that is lost costs time alone: a state above 65,535 is not marked, and where memory for the marks is refused
+//!   a scan goes on without them.
 #![tactic(auto)]
 
 mod act;

@@ -19,8 +19,8 @@
 //! - `laws`: a file spells one specification, what passes the tests is sound; worked examples.
 //!
 //! `read_spec` promises the one specification that the file spells, sound by its type; what is refused spells none,
-//! unless memory ran out. In the rules section it tells the first faulty line (`specs/FaultLines`), and line 0 just
-//! where the file is too long. A part of the reader may change alone. `Spec` and `Rule` may not: automata and tables
+//! unless memory ran out. It tells the first faulty line of each section (`specs/FaultLines`), and line 0 just where the
+//! file is too long. A part of the reader may change alone. `Spec` and `Rule` may not: automata and tables
 //! are made of them.
 //!
 //! Decided here:

@@ -1,5 +1,6 @@
-//! Tables: the packing of an automaton with the actions of its specification. It exports the rooms below it too: packed
-//! tables, their file, the trait `Machine` and sinks.
+//! Tables: the packing of an automaton with the actions of its specification. It exports what a caller needs of the rooms
+//! below it too: packed tables (lextab_packed), their file (lextab_file), the trait `Machine` (lex_machine) and sinks
+//! (lex_io).
 //!
 //! The modules, in an order for reading:
 //! - `classes`: the classes of bytes that no state distinguishes.

@@ -2,21 +2,23 @@
 //!
 //! The modules, in an order for reading:
 //! - `error`: why bytes are no table file.
-//! - `tag`: the bytes that stand for kinds of cuts and statements.
+//! - `tag`: the bytes that stand for statements, and for how much of a match is the text (a cut).
 //! - `version`: which version of the file rules need.
 //! - `writing`: the writer. Inside it `fields`, `conditions`, `actions` and `states` write these parts.
 //! - `reading`: the reader of the parts. Inside it `fields`, `header`, `conditions`, `actions`, `states` and `slots`
-//!   have a part each, in the order of the file.
+//!   have a part each, in the order of the file. Refusals are found here; callers call `tables`.
 //! - `inverse`: the inverse transitions of a table, as chains.
 //! - `live`: which states are live: some text that is not empty leads from them to one that accepts.
-//! - `tables`: `read_tables`, which adds which states are live, and `read_flat`, which lays the table flat for a scan.
+//! - `tables`: `read_tables`, which adds which states are live, and `read_flat`, which also lays out a row of 256 targets
+//!   for each state, for a scan.
 //! - `laws`: tables and their files are one to one, and what is no file is refused.
 //!
 //! It promises that what is written is the table's file, and that what is read is a table's file and all of it. A
 //! refusal means that the bytes are no table's file, unless memory ran out. It is the fault of the first field from the
 //! left that is not as it must be, with that field's offset.
 //!
-//! A field, a version and a refusal change the format, and with it lextab_packed's parts and the page of the format.
+//! To change a field, a version or a refusal is to change the format, and with it lextab_packed's parts and the page of
+//! the format.
 //! How live states are found may change alone.
 //!
 //! Decided here:
@@ -27,8 +29,8 @@
 //!   judged when it was read, by what stands before it: each byte of the class map, a tag before its arguments, a
 //!   length before its bytes, a count before what it counts, a check before its next. A field that is cut short is
 //!   `Truncated`. `TrailingBytes` comes only after a whole table.
-//! - A literal that passes the bytes of its action is a fault of its tag, if it has at most 4,096: the same bytes could
-//!   stand in another action.
+//! - An action may write 4,096 bytes of literals in all. One that is short enough by itself, but too long for what is
+//!   left, is a fault of its tag and not of its length.
 //! - A version has no room for additions. What a later version adds has a number of its own, and a number that is not
 //!   known is refused as `BadVersion`.
 #![tactic(auto)]

@@ -3,12 +3,12 @@
 //! Each function has a name of C (`lex_..`) and makes one call of liblex_calls: table files (`lex_generate`), scans of whole
 //! inputs (`lex_scan_table`), tokens and the lines of rules, and scans by pieces, from opening to closing.
 //!
-//! It promises what liblex_calls does, and its clauses are those again. The arguments cross as addresses and lengths: that a
-//! caller hands in what they say is its own to keep. A function here, its line in include/lex.h and its call in bindings/rust
+//! It promises what liblex_calls does, and its contracts repeat those. A slice is passed as a pointer and a length: that
+//! these are right is up to the caller in C. A function here, its line in include/lex.h and its call in bindings/rust
 //! change together, and `bindings/c/test.c` tries them.
 //!
-//! It links lexkit and what that stands on, and no reader of command lines. It has no wrong bodies, since those of
-//! liblex_calls show its clauses.
+//! It links lexkit and what that stands on, and no reader of command lines. Wrong bodies of the same contracts
+//! (docs/EDITS.md) stand in liblex_calls.
 #![tactic(auto)]
 
 ghost use Rattle.std.specs.Prelude.{◌≡◌, ℕ, Bool, List, None};
@@ -27,6 +27,17 @@ use liblex_calls::{
     options_of, rule_lines_into, scan_into, tokens_into,
 };
 use std::alloc::Global;
+
+/// The version of the library, 1.0.0: 10,000 times its first number, 100 times its second, and its third.
+const VERSION: u32 = 10_000;
+
+/// Tells the version of the library.
+#[unsafe(no_mangle)]
+pub extern "C" fn lex_version() -> u32
+    ensures { result ≡ 10000 }
+{
+    VERSION
+}
 
 /// Makes the table file of the specification that a text spells.
 #[unsafe(no_mangle)]

@@ -1,15 +1,16 @@
-//! What a program in C or Rust calls: tables made and scans run between slices, with numbers for answers. It is for
-//! liblex, whose functions make these calls; docs/C.md is for their callers.
+//! What a program in C or Rust calls: tables made, and scans from one buffer into another, with numbers for answers. It
+//! is for liblex, whose functions make these calls; docs/C.md is for their callers.
 //!
 //! - `answer`: what a call answers, as a number.
 //! - `flags` and `kinds`: how a specification is read, and the kinds of refusals, as numbers.
-//! - `buffers` and `memory`: buffers of a caller, and the two ends of a scan between slices.
+//! - `buffers` and `memory`: buffers of a caller, and the sink that keeps what a scan writes.
 //! - `generating`: table files, made into a buffer.
 //! - `machines`: the machine of a table file, laid flat.
 //! - `scanning`: scans of whole inputs.
 //! - `listing`: the tokens of an input, and the lines of rules.
 //! - `stage`, `backlog` and `piece_scan`: a scan by pieces, how far it has come, and what was not handed out yet.
-//! - `loose`, `holder` and `handle`: a scan by pieces as what C holds of it. `by_pieces` has its calls.
+//! - `handle`: the struct that C holds of a scan by pieces. `holder` and `loose` are the owning pointer in it, and
+//!   `by_pieces` has its calls.
 //!
 //! It promises that what was handed out is the file, the run of the whole input or of all pieces, or its tokens. The
 //! numbers stand in include/lex.h, in bindings/rust and in docs/C.md too: none of them may change. How bytes are kept
@@ -19,10 +20,10 @@
 //!   buffer is too small, the count says how large it has to be, and the call is made again.
 //! - **A scan by pieces is what the caller holds, with a pointer in it that owns the scan.** An open scan and a closed one are
 //!   told apart by a flag and not by the pointer. So a closed scan may be closed again, and feeding it has an answer.
-//! - **What has no room is kept, and comes before what the scan has come to.** A feed takes each piece whole. So a caller
-//!   sees each byte before the end or the fault that follows it. After out of memory a scan by pieces has stopped.
-//! - **Answers are the statuses of the program**, so that a number has one meaning in a log. The default rule has the greatest
-//!   number of 32 bits: no specification has so many rules, and 0 is one of them.
+//! - **Output that does not fit the caller's buffer is kept and handed out first**; only then is the end or the fault
+//!   answered. A feed takes each piece whole. After out of memory a scan by pieces has stopped.
+//! - **Answers are the exit statuses of the program lex**, so that a number has one meaning in a log. The default rule has the
+//!   greatest number of 32 bits: no specification has so many rules. It cannot be 0, which is a rule's number.
 //! - **Lines of rules are a call of their own, by the text.** A table file keeps none: the same rules have the same file.
 #![tactic(auto)]
 

@@ -2,7 +2,7 @@
 ghost use Rattle.std.specs.Prelude.{◌≡◌, ◌≢◌, IfErr, IfOk, IfSome, None, Some, codes, false, fold, map};
 ghost use Rattle.std.specs.Prelude.{string_bytes};
 ghost use Rattle.clap.specs.Words.{app_of, found_of, rows_of, rule_of, subcommand_rows_of, with_rule, with_subcommand};
-ghost use Rattle.lex_command.specs.LookLine.{AsksFor, IsLookOf, file_app, has_help, lexlook_app, name_of};
+ghost use Rattle.lex_command.specs.LookLine.{AsksFor, IsLookOf, about_of, file_app, lexlook_app, name_of};
 ghost use Rattle.lex_command.specs.LookLine.{needed_rule};
 
 use crate::error::ArgsError;
@@ -23,11 +23,20 @@ pub enum Subcommand {
     Trace,
 }
 
+/// What the program tells of itself.
+#[derive(Clone, Copy, Debug, PartialEq, Eq)]
+pub enum About {
+    /// How it is called.
+    Help,
+    /// Its version.
+    Version,
+}
+
 /// What the program is to show. A file `-` is standard input.
 #[derive(Debug, Drop)]
 pub enum Look {
-    /// How the program is called.
-    Help,
+    /// This of the program itself.
+    About(About),
     /// This of one file.
     One {
         what: Subcommand,
@@ -45,35 +54,38 @@ pub enum Look {
 }
 
 /// Reads the words after the program's name: `picture FILE`, `same FILE FILE`, `lines FILE`, `words FILE` or `trace
-/// FILE`, with `-i` or `-X` or without, or any words with `--help`. Flags may be repeated. Words that it refuses by
-/// `Usage` ask for nothing.
+/// FILE`, with `-i` or `-X` or without, or any words with `--help`, `-h` or `--version`. Flags may be repeated. Words that it
+/// refuses by `Usage` ask for nothing.
 pub fn read_args(alloc: Global, words: &[String]) -> Result<Look, ArgsError>
     ensures asked { IfOk result (AsksFor (map string_bytes words.now)) }
     ensures refused { IfErr result (λ e. e ≡ ArgsError.Usage
         → (look : Look) → AsksFor (map string_bytes words.now) look → ⊥) }
 {
-    if has_help(words) {
-        return Ok(Look::Help);
+    if let Some(what) = about_of(words) {
+        return Ok(Look::About(what));
     }
     let command = command(alloc)?;
     let matches = command.try_get_matches_from(words)?;
     look_of(alloc, &matches)
 }
 
-/// Whether some word before any `--` is `--help`.
-fn has_help(words: &[String]) -> bool
-    ensures { result ≡ has_help (map string_bytes words.now) }
+/// What the first of the words `--help`, `-h` and `--version` asks for, if it stands before any `--`.
+fn about_of(words: &[String]) -> Option<About>
+    ensures { result ≡ about_of (map string_bytes words.now) }
 {
     for word in words {
         let text = word.as_str();
         if text == "--" {
-            return false;
+            return None;
         }
-        if text == "--help" {
-            return true;
+        if text == "--help" || text == "-h" {
+            return Some(About::Help);
+        }
+        if text == "--version" {
+            return Some(About::Version);
         }
     }
-    false
+    None
 }
 
 /// A word that names a file, and has to stand there.

@@ -1,4 +1,4 @@
-//! How the program is called.
+//! How the program is called, and its version.
 ghost use Rattle.std.specs.Prelude.{◌≡◌, ◌+◌, ◌-◌, ◌^◌, ◌<◌};
 ghost use Rattle.lex_io.specs.Sink.{Appended, fault_count};
 
@@ -18,6 +18,18 @@ const HELP: &str = "lexlook shows what a specification of lex does.\n\n\
     a line for each match of a scan of standard input by a specification, and the scan's status\n\n\
     FILE may be - for standard input. With -i letters stand for both cases. With -X an interval\n\
     applies to the whole series to its left.\n";
+
+/// The program's name and its version, which is that of the file VERSION.
+const VERSION: &str = "lexlook 1.0.0\n";
+
+/// Writes the line of the version. It takes no memory.
+pub fn write_version<K: Sink>(sink: &mut K) -> Result<(), WriteFault>
+    requires { K.failures sink.old < 2 ^ 64 - 1 }
+    ensures bytes { Appended (λ xs. K.wrote sink.old xs sink.new) VERSION.now result }
+    ensures failures { K.failures sink.new ≡ K.failures sink.old + fault_count result }
+{
+    sink.put(VERSION.as_bytes())
+}
 
 /// Writes the lines of the help. It takes no memory.
 pub fn write_help<K: Sink>(sink: &mut K) -> Result<(), WriteFault>
