@@ -112,9 +112,9 @@ pub echo_after_less : E.Writes (E.echoes_after_less 1) (codes "ab") (codes "ab")
 unfolding has single range_set union complement fold_case other_case set_of perform
 echo_after_less = run_is (E.echoes_after_less 1) (codes "ab") 40 (codes "ab") (Status 0) refl
 
-pub less_of_a_shorter_text : E.Writes (E.echoes_after_less 5) (codes "ab") (codes "ab") 0
+pub less_of_a_shorter_text : E.Writes E.brackets_after_less (codes "ab") (codes "[ab]") 0
 unfolding has single range_set union complement fold_case other_case set_of perform
-less_of_a_shorter_text = run_is (E.echoes_after_less 5) (codes "ab") 40 (codes "ab") (Status 0) refl
+less_of_a_shorter_text = run_is E.brackets_after_less (codes "ab") 40 (codes "[ab]") (Status 0) refl
 
 pub line_of_the_match : E.Writes E.line_after_more (codes "xa") (codes "xa") 0
 unfolding has single range_set union complement fold_case other_case set_of perform

@@ -232,3 +232,7 @@ rejects_after_more = of_rules (rule (letter 120) (More ∷ []) ∷ rule (string 
 -- `ab yyless(n); ECHO;`
 abbrev pub echoes_after_less : ℕ → Spec
 echoes_after_less n = of_rules (rule (string (codes "ab")) (Less n ∷ Echo ∷ []) ∷ [])
+
+-- `ab yyless(5); printf("[%s]", yytext);`
+abbrev pub brackets_after_less : Spec
+brackets_after_less = of_rules (rule (string (codes "ab")) (Less 5 ∷ Print (codes "[") ∷ Echo ∷ Print (codes "]") ∷ []) ∷ [])

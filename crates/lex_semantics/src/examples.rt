@@ -34,7 +34,7 @@ pub fn examples_of_actions()
     ensures one_by_one { E.Writes E.one_by_one (codes "aaaaa") [] 0 }
     ensures reject_keeps_more { E.Writes E.rejects_after_more (codes "xab") (codes "xab") 0 }
     ensures echo_after_less { E.Writes (E.echoes_after_less 1) (codes "ab") (codes "ab") 0 }
-    ensures less_of_a_shorter_text { E.Writes (E.echoes_after_less 5) (codes "ab") (codes "ab") 0 }
+    ensures less_of_a_shorter_text { E.Writes E.brackets_after_less (codes "ab") (codes "[ab]") 0 }
 {}
 
 /// Trailing context, line starts and start conditions.
