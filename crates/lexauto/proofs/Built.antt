@@ -7,7 +7,7 @@ use Rattle.lex_semantics.specs.TableFor.{TableFor}
 use Rattle.lex_semantics.specs.MachineLaws.{MachineLaws}
 use Rattle.lexauto_dfa.specs.declared.dfa.Parts.{Parts}
 use Rattle.lexauto_dfa.specs.Parts.{states}
-use Rattle.lexauto_dfa.specs.Machines.{IsReached}
+use Rattle.lexauto_dfa.specs.Machines.{IsDeadOrReached}
 use Rattle.lexauto_dfa.specs.Automata.{machine_in}
 use Rattle.lexauto_dfa.specs.Invariant.{IsAutomaton}
 use Rattle.lexauto_dfa.proofs.Machinery.{automaton_of_laws}
@@ -24,7 +24,7 @@ module _ (S : Spec) (sound : IsSound S) (p : Parts) (keys : List Key) (s : Surve
   pub table_is : TableFor (machine_in p S) S
   table_is = table_of S sound keys p.next.items p.starts.items p.line_starts.items s (keys_in p.accepts.items) p.goes_on.items accepted on
 
-  pub reached_are : (q : ℕ) → q < states p → IsReached (machine_in p S) S q
+  pub reached_are : (q : ℕ) → q < states p → IsDeadOrReached (machine_in p S) S q
   reached_are q low = reached_of S sound keys p.next.items p.starts.items p.line_starts.items s (keys_in p.accepts.items) p.goes_on.items accepted on q (omega (arith, goes, low))
 
   pub laws_are : MachineLaws (machine_in p S)

@@ -25,7 +25,7 @@ use Rattle.lexauto.specs.Keys.{Key, At}
 use Rattle.lexauto.specs.Explored.{run, Reached, key_at}
 use Rattle.lexauto.specs.WordKeys.{start_key, step_in, Surveys}
 use Rattle.lex_semantics.specs.Reading.{is_empty}
-use Rattle.lexauto_dfa.specs.Machines.{machine_with, cut_at, moving, IsReached}
+use Rattle.lexauto_dfa.specs.Machines.{machine_with, cut_at, moving, IsDeadOrReached}
 use Rattle.lexauto.specs.Facts.{accepted_by, goes_on_by, AcceptedBy, GoOnBy}
 use Rattle.lexauto_positions.proofs.FlowMeaning.{both, back, no_true}
 use Rattle.lexauto_positions.proofs.RuleMeaning.{rule_exits_is}
@@ -153,14 +153,14 @@ module _ (S : Spec) (sound : IsSound S) (keys : List Key) (next starts line_star
   }
 
   -- each state but the dead one is reached
-  reached_state : (p : ℕ) → p < length keys → IsReached M S p
+  reached_state : (p : ℕ) → p < length keys → IsDeadOrReached M S p
   unfolding M
   reached_state p lt = from (slice_get-get_or keys p [] lt) (s.automaton.only p (key_at keys p) (slice_get-get_or keys p [] lt))
     where
       same_place : (q : ℕ) (k : Key) → At keys p (key_at keys p) → k ≡ key_at keys p → At keys q k → q ≡ p
       same_place q k here e there = s.automaton.apart q p (key_at keys p) (subst (λ (l : Key). At keys q l) e there) here
 
-      from : At keys p (key_at keys p) → Reached (step_in S) s.roots (key_at keys p) → IsReached M S p
+      from : At keys p (key_at keys p) → Reached (step_in S) s.roots (key_at keys p) → IsDeadOrReached M S p
       from here (i, root, at, (w, text, e)) = elim (s.only i root at) [
         | inl dead ↦ inl (sym (same_place 0 [] here (sym (dead_run S w) ∙ ap (λ (r : Key). run (step_in S) r w) (sym dead) ∙ e) (s.automaton.starts 0 [] s.dead)))
         | inr (c, line_start, lt, is) ↦ inr (c, line_start, w, lt, text, same_place (state_after M c line_start w) (run (step_in S) (start_key S c line_start) w) here (ap (λ (r : Key). run (step_in S) r w) (sym is) ∙ e) (after_at c line_start w lt text))
@@ -227,7 +227,7 @@ module _ (S : Spec) (sound : IsSound S) (keys : List Key) (next starts line_star
         (u, more, some, i, k, f)),
   )
 
-  leads_from_reached : (p : ℕ) → IsReached M S p → (M.goes_on p ≡ true) ↔ LeadsToAccept M p
+  leads_from_reached : (p : ℕ) → IsDeadOrReached M S p → (M.goes_on p ≡ true) ↔ LeadsToAccept M p
   leads_from_reached p (inl e) = (
     λ g. no_true (sym (ap M.goes_on e ∙ dead_goes_on) ∙ g),
     λ (u, more, some, i, a). absurd (nothing_at_dead u i (subst (λ (q : ℕ). Among (M.accepts (walk M q u)) i) e a)),
@@ -308,7 +308,7 @@ table_of S sound keys next starts line_starts s accepts goes accepted on = table
 
 pub reached_of : (S : Spec) → IsSound S → (keys : List Key) (next starts line_starts : List ℕ) → Surveys S keys next starts line_starts →
     (accepts : List (List ℕ)) (goes : List Bool) → AcceptedBy S keys accepts → GoOnBy S keys goes → (p : ℕ) → p < length keys →
-    IsReached (machine_with S (λ c line_start. cond line_start (slice_index line_starts c) (slice_index starts c)) (moving next) (λ p. slice_index_or accepts p []) (λ p. slice_index_or goes p false)) S p
+    IsDeadOrReached (machine_with S (λ c line_start. cond line_start (slice_index line_starts c) (slice_index starts c)) (moving next) (λ p. slice_index_or accepts p []) (λ p. slice_index_or goes p false)) S p
 unfolding M
 reached_of S sound keys next starts line_starts s accepts goes accepted on = reached_state S sound keys next starts line_starts s accepts goes accepted on
 

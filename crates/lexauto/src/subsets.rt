@@ -10,7 +10,7 @@ ghost use Rattle.lexauto.specs.KeyPacking.{kept_in};
 ghost use Rattle.lexauto.specs.Explored.{MoreThan};
 ghost use Rattle.lexauto.specs.Facts.{AcceptedBy, GoOnBy};
 ghost use Rattle.lexauto.specs.WordKeys.{Surveys};
-ghost use Rattle.lexauto_dfa.specs.Machines.{IsReached};
+ghost use Rattle.lexauto_dfa.specs.Machines.{IsDeadOrReached};
 ghost use Rattle.lexauto_dfa.specs.Automata.{machine_of, states_of, conditions_of};
 
 use crate::error::BuildError;
@@ -79,7 +79,7 @@ pub fn build(alloc: Global, spec: &Spec, limits: Limits) -> Result<Dfa, BuildErr
     ensures table { IfOk result (λ d. TableFor (machine_of d (spec_of spec.now)) (spec_of spec.now)) }
     ensures conditions { IfOk result (λ d. conditions_of d ≡ length (conditions_in (spec_of spec.now))) }
     ensures reached { IfOk result (λ d. (p : ℕ) → p < states_of d
-        → IsReached (machine_of d (spec_of spec.now)) (spec_of spec.now) p) }
+        → IsDeadOrReached (machine_of d (spec_of spec.now)) (spec_of spec.now) p) }
     ensures laws { IfOk result (λ d. MachineLaws (machine_of d (spec_of spec.now))) }
     ensures states { IfOk result (λ d. Subsets (spec_of spec.now) (states_of d)) }
     ensures few_positions { IfOk result (λ d. all_positions (rules_in (spec_of spec.now)) ≤ limits.positions) }

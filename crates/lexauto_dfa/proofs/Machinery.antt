@@ -47,7 +47,7 @@ leads_back p S s (u, text, some, i, a) = (u, text, some, i, subst (λ (t : ℕ).
 
 -- The lists of a machine that keeps its laws, all of whose states are reached, make an automaton.
 pub automaton_of_laws : (p : Parts) (S : Spec) → length p.starts.items ≡ length S.conditions → MachineLaws (machine_in p S)
-    → ((s : ℕ) → s < states p → M.IsReached (machine_in p S) S s)
+    → ((s : ℕ) → s < states p → M.IsDeadOrReached (machine_in p S) S s)
     → 1 ≤ states p → states p ≤ 8192
     → length p.line_starts.items ≡ length p.starts.items → length p.next.items ≡ 256 * length p.goes_on.items → length p.accepts.items ≡ length p.goes_on.items
     → ((c : ℕ) → c < length p.starts.items → slice_index p.starts.items c < states p)
@@ -73,7 +73,7 @@ automaton_of_laws p S count laws reached some few lines rows lists starts_known 
   );
 }
   where
-    from : (s : ℕ) → s ≢ 0 → M.IsReached (machine_in p S) S s → IsReached p s
+    from : (s : ℕ) → s ≢ 0 → M.IsDeadOrReached (machine_in p S) S s → IsReached p s
     from s other (inl e) = absurd (other e)
     from s other (inr (c, line_start, w, low, text, e)) = (c, line_start, w, omega (arith, count, low), text, sym (walk_after p S (start p c line_start) w) ∙ e)
 

@@ -8,7 +8,7 @@ use Rattle.lex_semantics.specs.Machine.{Machine, state_after}
 use Rattle.lex_semantics.specs.MachineLaws.{StaysBelow}
 use Rattle.lexauto_dfa.specs.LeastTables as A
 use Rattle.lexauto_dfa.specs.Least.{by_turns}
-use Rattle.lexauto_dfa.specs.LeastMachines.{IsLeast, IsNumbered}
+use Rattle.lexauto_dfa.specs.LeastMachines.{IsLeastMachine, IsNumberedMachine}
 use Rattle.lexauto_dfa.proofs.ByTurns.{turns_length, turn_even, turn_odd}
 use Rattle.lexauto_dfa.proofs.MachineLists.{starts_in, rows_in, lists_of, starts_by_turns, rows_len, row_at}
 use Rattle.lexauto_dfa.proofs.OneLeast.{one_table}
@@ -106,7 +106,7 @@ module _ (M : Machine) (n : ℕ) (is : IsMachine M n) where
   dead_after [] = refl
   dead_after (b ∷ w) = ap (λ (s : ℕ). fold M.next s w) (is.dead_stays b) ∙ dead_after w
 
-  pub least : IsLeast M n → A.IsLeast (lists_of M n)
+  pub least : IsLeastMachine M n → A.IsLeast (lists_of M n)
   least l = record {
     dead = λ w text. told 0 w (is.below).dead text ∙ ap M.accepts (dead_after w) ∙ is.dead_accepts;
     reached = λ s h other. (let (c, line_start, w, low, text, e) = l.reached s h other in (
@@ -131,7 +131,7 @@ pub record AreSameMachines (M N : Machine) (m n : ℕ) : Type 0 where
   pub accepts : (s : ℕ) → s < m → M.accepts s ≡ N.accepts s
 
 module _ (M N : Machine) (m n : ℕ) (a : IsMachine M m) (b : IsMachine N n) (count : M.conditions ≡ N.conditions) where
-  pub one_machine : IsLeast M m → IsLeast N n → IsNumbered M m → IsNumbered N n
+  pub one_machine : IsLeastMachine M m → IsLeastMachine N n → IsNumberedMachine M m → IsNumberedMachine N n
       → ((c : ℕ) (line_start : Bool) (w : List ℕ) → c < M.conditions → IsText w → M.accepts (state_after M c line_start w) ≡ N.accepts (state_after N c line_start w))
       → AreSameMachines M N m n
   one_machine least_m least_n order_m order_n alike = record {

@@ -14,10 +14,10 @@ SameFuture p s q t = (w : List ℕ) → IsText w → accepts p (after p s w) ≡
 
 -- the lists' states are the least ones, and numbered in the order of their first calls
 abbrev pub IsLeast : Parts → Type 0
-IsLeast p = LeastMachines.IsLeast (bare p) (states p)
+IsLeast p = LeastMachines.IsLeastMachine (bare p) (states p)
 
 abbrev pub IsNumbered : Parts → Type 0
-IsNumbered p = LeastMachines.IsNumbered (bare p) (states p)
+IsNumbered p = LeastMachines.IsNumberedMachine (bare p) (states p)
 
 -- of each condition the start elsewhere, and then that at the start of a line
 abbrev pub by_turns : List ℕ → List ℕ → List ℕ

@@ -14,13 +14,13 @@ abbrev pub AreToldApart : Machine → ℕ → ℕ → Type 0
 AreToldApart M s t = (w : List ℕ) × IsText w × (M.accepts (fold M.next s w) ≢ M.accepts (fold M.next t w))
 
 -- of n states each but the dead one is reached, and continuations tell each two apart
-pub record IsLeast (M : Machine) (n : ℕ) : Type 0 where
+pub record IsLeastMachine (M : Machine) (n : ℕ) : Type 0 where
   pub reached : (s : ℕ) → s < n → s ≢ 0 → IsReached M s
   pub apart : (s t : ℕ) → s < n → t < n → s ≢ t → AreToldApart M s t
 
 -- The n states but the dead one are numbered from 1 in the order of their first calls. They are called by the starts,
 -- condition by condition, elsewhere and then at the start of a line, and then by the states in order of number, byte by byte.
-abbrev pub IsNumbered : Machine → ℕ → Type 0
-IsNumbered M n =
+abbrev pub IsNumberedMachine : Machine → ℕ → Type 0
+IsNumberedMachine M n =
     InOrder 0 (flat_map (λ c. M.start c false ∷ M.start c true ∷ []) (range_with_len 0 M.conditions)
     ++ flat_map (λ s. map (M.next s) (range_with_len 0 256)) (range_with_len 0 n)) (n - 1)

@@ -24,13 +24,13 @@ use Rattle.lexkit.specs.Generated.{AreBackUps}
 
 -- with the actions of a specification of so many conditions the states are the same
 module _ (p : Parts) (S : Spec) (count : conditions p ≡ length S.conditions) where
-  least_in : IsLeast p → Machines.IsLeast (machine_in p S) (states p)
+  least_in : IsLeast p → Machines.IsLeastMachine (machine_in p S) (states p)
   least_in l = record {
     reached = λ s h other. (let (c, line_start, w, low, text, e) = l.reached s h other in (c, line_start, w, omega (arith, low, count), text, e));
     apart = l.apart;
   }
 
-  numbered_in : IsNumbered p → Machines.IsNumbered (machine_in p S) (states p)
+  numbered_in : IsNumbered p → Machines.IsNumberedMachine (machine_in p S) (states p)
   numbered_in n = subst (λ k. InOrder 0 (flat_map (λ c. start p c false ∷ start p c true ∷ []) (range_with_len 0 k)
       ++ flat_map (λ s. map (next p s) (range_with_len 0 256)) (range_with_len 0 (states p))) (states p - 1)) count n
 
@@ -48,8 +48,8 @@ module _ (S : Spec) (d : Dfa) (t : Tables) (count : conditions d.parts ≡ lengt
       → IsPacked (states d.parts) (next d.parts) (table_of t.parts) → IsCanonicalFor S (table_of t.parts) (λ s. flag t.goes_on.items s) (file_of (table_of t.parts))
   canonical_of table least numbered machine packed = record {
     table_for = subst (λ M. TableFor M S) (sym machine) table;
-    least = subst (λ n. Machines.IsLeast (table_machine t) n) (sym packed.rows) (subst (λ M. Machines.IsLeast M (states d.parts)) (sym machine) (least_in d.parts S count least));
-    numbered = subst (λ n. Machines.IsNumbered (table_machine t) n) (sym packed.rows) (subst (λ M. Machines.IsNumbered M (states d.parts)) (sym machine) (numbered_in d.parts S count numbered));
+    least = subst (λ n. Machines.IsLeastMachine (table_machine t) n) (sym packed.rows) (subst (λ M. Machines.IsLeastMachine M (states d.parts)) (sym machine) (least_in d.parts S count least));
+    numbered = subst (λ n. Machines.IsNumberedMachine (table_machine t) n) (sym packed.rows) (subst (λ M. Machines.IsNumberedMachine M (states d.parts)) (sym machine) (numbered_in d.parts S count numbered));
     packed = subst (λ n. IsPacked n (step_of (table_of t.parts)) (table_of t.parts)) (sym packed.rows)
         (subst (λ go. IsPacked (states d.parts) go (table_of t.parts)) (ap (λ M. M.next) (sym machine)) packed);
     file = (t.lawful, refl);

@@ -14,7 +14,7 @@ use Rattle.lex_semantics.specs.Examples.{rule, string}
 use Rattle.lex_semantics.proofs.ExampleWords.{is_a, string_is, string_in, word_fits, fits_word}
 use Rattle.lexauto_dfa.proofs.Below.{holds}
 use Rattle.lexauto_dfa.specs.Numbering.{InOrder}
-use Rattle.lexauto_dfa.specs.LeastMachines.{AreToldApart, IsNumbered, IsReached}
+use Rattle.lexauto_dfa.specs.LeastMachines.{AreToldApart, IsNumberedMachine, IsReached}
 use Rattle.lextab_packed.specs.Table.{Table}
 use Rattle.lextab_packed.specs.Checks.{IsTable, IsRow}
 use Rattle.lextab_packed.specs.Steps.{step_of, machine_of_table}
@@ -218,7 +218,7 @@ in_order n (x ∷ xs) m holding = elim (cases_Bool (nat_le x n)) [
   ])
 ]
 
-numbered : IsNumbered M 4
+numbered : IsNumberedMachine M 4
 numbered = in_order 0 (flat_map (λ c. M.start c false ∷ M.start c true ∷ []) (range_with_len 0 M.conditions)
     ++ flat_map (λ s. map (M.next s) (range_with_len 0 256)) (range_with_len 0 4)) 3 refl
 

@@ -3,7 +3,7 @@
 use Rattle.std.specs.Prelude.{ℕ, Bool, List, length}
 use Rattle.lex_semantics.specs.Spec.{Spec}
 use Rattle.lex_semantics.specs.TableFor.{TableFor}
-use Rattle.lexauto_dfa.specs.LeastMachines.{IsLeast, IsNumbered}
+use Rattle.lexauto_dfa.specs.LeastMachines.{IsLeastMachine, IsNumberedMachine}
 use Rattle.lextab_packed.specs.Table.{Table}
 use Rattle.lextab_packed.specs.Steps.{step_of, machine_of_table}
 use Rattle.lextab.specs.Packing.{IsPacked}
@@ -13,8 +13,8 @@ use Rattle.lextab_file.specs.File.{IsFileOf}
 -- that words have, numbered in the order of the first call, and its rows are packed.
 pub record IsCanonicalFor (S : Spec) (t : Table) (goes_on : ℕ → Bool) (f : List ℕ) : Type 0 where
   pub table_for : TableFor (machine_of_table t goes_on) S
-  pub least : IsLeast (machine_of_table t goes_on) (length t.rows)
-  pub numbered : IsNumbered (machine_of_table t goes_on) (length t.rows)
+  pub least : IsLeastMachine (machine_of_table t goes_on) (length t.rows)
+  pub numbered : IsNumberedMachine (machine_of_table t goes_on) (length t.rows)
   pub packed : IsPacked (length t.rows) (step_of t) t
   pub file : IsFileOf t f
 

@@ -2,7 +2,7 @@
 use Rattle.std.proofs.Common.{◌≡◌, ◌↔◌, ◌≤◌, ℕ, Bool, List, length, take, Option, Some, None, sym, ◌∙◌, arith}
 use Rattle.std.proofs.lemmas.List.{length-take-le}
 use Rattle.lex_semantics.proofs.Texts.{is_text_take}
-use Rattle.lexlook_specs.specs.Matches.{Matches, IsInput, IsCopied, Takes}
+use Rattle.lexlook_specs.specs.Matches.{RuleMatches, IsInput, IsCopied, Takes}
 use Rattle.lexlook_specs.specs.Words.{AreTakers, AreWords, IsFirst, IsWordOf, TellsDefault}
 use Rattle.lexlook_specs.specs.declared.words.finding.ShownText.{ShownText}
 use Rattle.lexlook_specs.specs.declared.words.finding.Word.{Word}
@@ -10,13 +10,13 @@ use Rattle.lexlook_specs.specs.declared.words.finding.Word.TheVariants.{Taken, N
 use Rattle.lexlook_specs.specs.declared.words.finding.Words.{Words}
 
 -- the same texts fit the same rules, and the same rules give them up
-pub record AreAlike (m n : Matches) : Type 0 where
+pub record AreAlike (m n : RuleMatches) : Type 0 where
   pub conditions : m.conditions ≡ n.conditions
   pub count : m.count ≡ n.count
   pub fits : (c : ℕ) (line : Bool) (w : List ℕ) (i : ℕ) → IsInput m c w → m.fits c line w i ↔ n.fits c line w i
   pub gives_up : (i : ℕ) → m.gives_up i ≡ n.gives_up i
 
-module _ (m n : Matches) (a : AreAlike m n) where
+module _ (m n : RuleMatches) (a : AreAlike m n) where
   to_input : (c : ℕ) (w : List ℕ) → IsInput m c w → IsInput n c w
   to_input c w h = record { condition = (let e = a.conditions in let low = h.condition in omega (arith, e, low)); text = h.text; some = h.some }
 

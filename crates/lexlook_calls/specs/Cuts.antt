@@ -65,13 +65,13 @@ CutsOf wrote M given s t (Err OutOfMemory) = t ≡ s
 CutsOf wrote M given s t (Err (Refused e)) = ⊥
 CutsOf wrote M given s t (Err (Table e)) = ⊥
 
-abbrev pub IsCutOf : {K : Type 0} → (K → List ℕ → K → Type 0) → Options → List ℕ → K → K → Result Bool LookError → Type 0
-IsCutOf wrote options bytes s t answer = (M : Machine) × (given : Option Spec) × StandsFor options bytes M given × CutsOf wrote M given s t answer
+abbrev pub IsToldOfCuts : {K : Type 0} → (K → List ℕ → K → Type 0) → Options → List ℕ → K → K → Result Bool LookError → Type 0
+IsToldOfCuts wrote options bytes s t answer = (M : Machine) × (given : Option Spec) × StandsFor options bytes M given × CutsOf wrote M given s t answer
 
 -- What was told of a file. One that is refused leaves the sink as it was.
 abbrev pub TellsCuts : {K : Type 0} → (K → List ℕ → K → Type 0) → Options → List ℕ → K → K → Result Bool LookError → Type 0
-TellsCuts wrote options bytes s t (Ok may) = IsCutOf wrote options bytes s t (Ok may)
-TellsCuts wrote options bytes s t (Err Write) = IsCutOf wrote options bytes s t (Err Write)
+TellsCuts wrote options bytes s t (Ok may) = IsToldOfCuts wrote options bytes s t (Ok may)
+TellsCuts wrote options bytes s t (Err Write) = IsToldOfCuts wrote options bytes s t (Err Write)
 TellsCuts wrote options bytes s t (Err OutOfMemory) = t ≡ s
 TellsCuts wrote options bytes s t (Err (Refused e)) = IsRefused options bytes (Refused e) × (t ≡ s)
 TellsCuts wrote options bytes s t (Err (Table e)) = IsRefused options bytes (Table e) × (t ≡ s)

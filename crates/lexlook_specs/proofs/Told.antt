@@ -8,7 +8,7 @@ use Rattle.lexauto_dfa.specs.declared.dfa.Parts.{Parts}
 use Rattle.lexauto_reports.specs.BackWords.{Precedes, NotAfter}
 use Rattle.lexauto_reports.specs.Searching.{at, AreFound}
 use Rattle.lexauto_reports.proofs.Orders.{before_trans}
-use Rattle.lexlook_specs.specs.Matches.{Matches, IsInput, IsGivenUp, IsCopied, TakesOf, matches_in}
+use Rattle.lexlook_specs.specs.Matches.{RuleMatches, IsInput, IsGivenUp, IsCopied, TakesOf, matches_in}
 use Rattle.lexlook_specs.specs.Matches as M
 use Rattle.lexlook_specs.specs.Words.{IsFirst, IsNotLater, StartsFirst, AreTakers, TellsDefault}
 use Rattle.lexlook_specs.specs.Placing.{IsFirstStart, MeetsAfter, TakesAt, TakesBelow, takers}

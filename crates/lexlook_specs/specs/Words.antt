@@ -3,7 +3,7 @@
 use Rattle.std.specs.Prelude.{◌≡◌, ◌⊎◌, ◌↔◌, ℕ, ◌<◌, Bool, true, List, length, Option, Some, None, slice_get}
 use Rattle.lex_semantics.specs.Text.{Among, Ascending}
 use Rattle.lexauto_reports.specs.BackWords.{Precedes}
-use Rattle.lexlook_specs.specs.Matches.{Matches, IsInput, Takes, TakesOf, IsCopied}
+use Rattle.lexlook_specs.specs.Matches.{RuleMatches, IsInput, Takes, TakesOf, IsCopied}
 use Rattle.lexlook_specs.specs.declared.words.finding.ShownText.{ShownText}
 use Rattle.lexlook_specs.specs.declared.words.finding.Word.{Word}
 use Rattle.lexlook_specs.specs.declared.words.finding.Word.TheVariants.{Taken, Never}
@@ -18,28 +18,28 @@ abbrev pub IsNotLater : ShownText → ℕ → Bool → List ℕ → Type 0
 IsNotLater p c line w = Precedes p.text.items w ⊎ ((p.text.items ≡ w) × StartsFirst p.condition p.line_start c line)
 
 -- of the texts of which this holds it is the first
-pub record IsFirst (m : Matches) (P : ℕ → Bool → List ℕ → Type 0) (p : ShownText) : Type 0 where
+pub record IsFirst (m : RuleMatches) (P : ℕ → Bool → List ℕ → Type 0) (p : ShownText) : Type 0 where
   pub input : IsInput m p.condition p.text.items
   pub holds : P p.condition p.line_start p.text.items
   pub first : (c : ℕ) (line : Bool) (w : List ℕ) → IsInput m c w → P c line w → IsNotLater p c line w
 
 -- the rules that take the texts of one that takes none, ascending
-pub record AreTakers (m : Matches) (i : ℕ) (js : List ℕ) : Type 0 where
+pub record AreTakers (m : RuleMatches) (i : ℕ) (js : List ℕ) : Type 0 where
   pub none : (c : ℕ) (line : Bool) (w : List ℕ) → IsInput m c w → Takes m c line w i → ⊥
   pub ascending : Ascending js
   pub takers : (j : ℕ) → Among js j ↔ TakesOf m i j
 
 -- what is told of a rule: the first text that it takes, or by which rules its texts are taken
-abbrev pub IsWordOf : Matches → ℕ → Word → Type 0
+abbrev pub IsWordOf : RuleMatches → ℕ → Word → Type 0
 IsWordOf m i (Taken p) = IsFirst m (λ c line w. Takes m c line w i) p
 IsWordOf m i (Never js) = AreTakers m i js.items
 
 -- what is told of the default rule: the first text of which it copies a byte, which is one byte long
-abbrev pub TellsDefault : Matches → Option ShownText → Type 0
+abbrev pub TellsDefault : RuleMatches → Option ShownText → Type 0
 TellsDefault m None = (c : ℕ) (line : Bool) (w : List ℕ) → IsInput m c w → IsCopied m c line w → ⊥
 TellsDefault m (Some p) = IsFirst m (IsCopied m) p × (length p.text.items ≡ 1)
 
-pub record AreWords (m : Matches) (v : Words) : Type 0 where
+pub record AreWords (m : RuleMatches) (v : Words) : Type 0 where
   pub each : length v.rules.items ≡ m.count
   pub rules : (i : ℕ) (x : Word) → slice_get v.rules.items i ≡ Some x → IsWordOf m i x
   pub default : TellsDefault m v.default

@@ -12,7 +12,8 @@ use Rattle.lextab_packed.specs.Checks.{Sizes, IsCondition, IsCutInRange, IsTable
 use Rattle.lextab_file.specs.File.{byte, string, cut_text, statement_text, end_text, condition_text, rule_text, row_text, slot_text}
 use Rattle.lextab_file.specs.Seen.{EachFrom, IsString, MayStand, Seen, unseen, seen_after}
 use Rattle.lextab_file.specs.declared.error.ReadError.{ReadError}
-use Rattle.lextab_file.specs.Reading.{Reader, ◌>>=◌, bad, judged, only_if, both, seen_as, many, byte_at, number_at, bytes_at, within, long_at, below, positive_at, string_at, literal_at, end_from, end_at, condition_from, condition_at, whole_of, cut_number, cut_at, bars, arguments, statement_at, statements_at, rule_from, rule_at, above, between, accepted_at, none_at_0, row_from, few, row_at, slot_from, good_check, slot_at}
+use Rattle.lextab_file.specs.Reading.{FieldReader, ◌>>=◌, bad, judged, only_if, paired, seen_as, many, read_byte, read_number, read_bytes, read_long, below, read_positive, read_string, read_literal, end_from, read_end, condition_from, read_condition, whole_of, cut_number, read_cut, bars, arguments, read_statement, read_statements, rule_from, read_rule, above, between, read_accepted, none_at_0, row_from, few, read_row, slot_from, good_check, read_slot}
+use Rattle.lex_semantics.specs.ByteSets.{within}
 use Rattle.lextab_file.proofs.Forms.{IsReader, bind_ok, same_ok, reads_both, reads_judged, reads_if, reads_as, reads_like, reads_many, reads_byte, reads_bytes, reads_long, reads_short}
 use Rattle.lextab_file.proofs.Actions.{and_is, is_and, lt_is, is_lt, le_is, is_le, IsAction, action_is, is_action, InVersion}
 
@@ -30,16 +31,16 @@ below_is limit n h = grind (arith, nat_tests)
 is_below : (limit n : ℕ) → n < limit → below limit n ≡ true
 is_below limit n h = grind (arith, nat_tests)
 
-pub reads_within : (least most : ℕ) → most < 4294967296 → IsReader (to_be_bytes w32) (λ n. (least ≤ n) × (n ≤ most)) (long_at least most)
-reads_within least most h = reads_if (to_be_bytes w32) (λ n. n < 4294967296) (λ n. (least ≤ n) × (n ≤ most)) (within least most) (number_at w32) reads_long
+pub reads_within : (least most : ℕ) → most < 4294967296 → IsReader (to_be_bytes w32) (λ n. (least ≤ n) × (n ≤ most)) (read_long least most)
+reads_within least most h = reads_if (to_be_bytes w32) (λ n. n < 4294967296) (λ n. (least ≤ n) × (n ≤ most)) (within least most) (read_number w32) reads_long
     (λ n l e. within_is least most n e) (λ n l. (is_within least most n l.0 l.1, let k = l.1 in omega arith))
 
-pub reads_below : (limit : ℕ) → limit < 4294967296 → IsReader (to_be_bytes w32) (λ n. n < limit) (only_if (below limit) (number_at w32))
-reads_below limit h = reads_if (to_be_bytes w32) (λ n. n < 4294967296) (λ n. n < limit) (below limit) (number_at w32) reads_long
+pub reads_below : (limit : ℕ) → limit < 4294967296 → IsReader (to_be_bytes w32) (λ n. n < limit) (only_if (below limit) (read_number w32))
+reads_below limit h = reads_if (to_be_bytes w32) (λ n. n < 4294967296) (λ n. n < limit) (below limit) (read_number w32) reads_long
     (λ n l e. below_is limit n e) (λ n l. (is_below limit n l, omega arith))
 
-pub reads_byte_below : (limit : ℕ) → limit ≤ 256 → IsReader byte (λ n. n < limit) (only_if (below limit) byte_at)
-reads_byte_below limit h = reads_if byte (λ n. n < 256) (λ n. n < limit) (below limit) byte_at reads_byte
+pub reads_byte_below : (limit : ℕ) → limit ≤ 256 → IsReader byte (λ n. n < limit) (only_if (below limit) read_byte)
+reads_byte_below limit h = reads_if byte (λ n. n < 256) (λ n. n < limit) (below limit) read_byte reads_byte
     (λ n l e. below_is limit n e) (λ n l. (is_below limit n l, omega arith))
 
 -- ---- strings
@@ -47,26 +48,26 @@ reads_byte_below limit h = reads_if byte (λ n. n < 256) (λ n. n < limit) (belo
 abbrev counted_text : {A : Type 0} → (A → List ℕ) → ℕ × List A → List ℕ
 counted_text t p = to_be_bytes w32 p.0 ++ flat_map t p.1
 
-reads_counted : (least most : ℕ) (r : Reader ℕ) → IsReader (to_be_bytes w32) (λ n. (least ≤ n) × (n ≤ most)) r → IsReader string (IsString least most) (seen_as (λ p. p.1) (both r (λ n. bytes_at n)))
-reads_counted least most r counts = reads_like string (λ xs. ((least ≤ length xs) × (length xs ≤ most)) × ((length xs ≡ length xs) × IsText xs)) (IsString least most) (seen_as (λ p. p.1) (both r (λ n. bytes_at n)))
-    (reads_as (λ (p : ℕ × List ℕ). to_be_bytes w32 p.0 ++ p.1) (λ p. ((least ≤ p.0) × (p.0 ≤ most)) × ((length p.1 ≡ p.0) × IsText p.1)) (both r (λ n. bytes_at n)) (λ p. p.1) (λ xs. (length xs, xs))
-    (reads_both (to_be_bytes w32) (λ n. (least ≤ n) × (n ≤ most)) r (λ n xs. xs) (λ n xs. (length xs ≡ n) × IsText xs) (λ n. bytes_at n)
+reads_counted : (least most : ℕ) (r : FieldReader ℕ) → IsReader (to_be_bytes w32) (λ n. (least ≤ n) × (n ≤ most)) r → IsReader string (IsString least most) (seen_as (λ p. p.1) (paired r (λ n. read_bytes n)))
+reads_counted least most r counts = reads_like string (λ xs. ((least ≤ length xs) × (length xs ≤ most)) × ((length xs ≡ length xs) × IsText xs)) (IsString least most) (seen_as (λ p. p.1) (paired r (λ n. read_bytes n)))
+    (reads_as (λ (p : ℕ × List ℕ). to_be_bytes w32 p.0 ++ p.1) (λ p. ((least ≤ p.0) × (p.0 ≤ most)) × ((length p.1 ≡ p.0) × IsText p.1)) (paired r (λ n. read_bytes n)) (λ p. p.1) (λ xs. (length xs, xs))
+    (reads_both (to_be_bytes w32) (λ n. (least ≤ n) × (n ≤ most)) r (λ n xs. xs) (λ n xs. (length xs ≡ n) × IsText xs) (λ n. read_bytes n)
     counts (λ n l. reads_bytes n))
     (λ xs. refl) (λ p l. ap (λ (n : ℕ). (n, p.1)) l.1.0))
     (λ xs l. (l.0, l.1.1)) (λ xs l. (l.0, (refl, l.1)))
 
-pub reads_string : (least most : ℕ) → most < 4294967296 → IsReader string (IsString least most) (string_at least most)
-reads_string least most h = reads_counted least most (long_at least most) (reads_within least most h)
+pub reads_string : (least most : ℕ) → most < 4294967296 → IsReader string (IsString least most) (read_string least most)
+reads_string least most h = reads_counted least most (read_long least most) (reads_within least most h)
 
-reads_literal : (room : ℕ) (fault : ReadError) → room ≤ 4096 → IsReader string (IsString 1 room) (literal_at room fault)
-reads_literal room fault low = reads_counted 1 room (judged fault (λ n. nat_le n room) (long_at 1 4096))
-    (reads_judged (λ b. fault) (to_be_bytes w32) (λ n. (1 ≤ n) × (n ≤ 4096)) (λ n. (1 ≤ n) × (n ≤ room)) (λ n. nat_le n room) (long_at 1 4096) (reads_within 1 4096 (omega arith))
+reads_literal : (room : ℕ) (fault : ReadError) → room ≤ 4096 → IsReader string (IsString 1 room) (read_literal room fault)
+reads_literal room fault low = reads_counted 1 room (judged fault (λ n. nat_le n room) (read_long 1 4096))
+    (reads_judged (λ b. fault) (to_be_bytes w32) (λ n. (1 ≤ n) × (n ≤ 4096)) (λ n. (1 ≤ n) × (n ≤ room)) (λ n. nat_le n room) (read_long 1 4096) (reads_within 1 4096 (omega arith))
     (λ n l e. (l.0, le_is n room e)) (λ n l. (is_le n room l.1, (l.0, let k = l.1 in omega arith))))
 
 -- ---- conditions
 
-pub reads_end : IsReader end_text (λ e. IsString 0 4096 e.print × (e.status < 64)) end_at
-unfolding end_at
+pub reads_end : IsReader end_text (λ e. IsString 0 4096 e.print × (e.status < 64)) read_end
+unfolding read_end
 reads_end = reads_as
     (λ (p : List ℕ × ℕ). string p.0 ++ byte p.1) (λ p. IsString 0 4096 p.0 × (p.1 < 64)) _ end_from (λ e. (e.print, e.status))
     (reads_both string (IsString 0 4096) _ (λ n. byte) (λ n k. k < 64) _ (reads_string 0 4096 (omega arith)) (λ n l. reads_byte_below 64 (omega arith)))
@@ -75,8 +76,8 @@ reads_end = reads_as
 abbrev ConditionParts : Type 0
 ConditionParts = ℕ × (ℕ × EndAction)
 
-pub reads_condition : (z : Sizes) (i : ℕ) → z.states < 4294967296 → IsReader condition_text (IsCondition z.states i) (condition_at z.states)
-unfolding condition_at
+pub reads_condition : (z : Sizes) (i : ℕ) → z.states < 4294967296 → IsReader condition_text (IsCondition z.states i) (read_condition z.states)
+unfolding read_condition
 reads_condition z i h = reads_like condition_text (λ c. (c.start < z.states) × ((c.line_start < z.states) × (IsString 0 4096 c.end.print × (c.end.status < 64)))) (IsCondition z.states i) _
     (reads_as
     (λ (p : ConditionParts). to_be_bytes w32 p.0 ++ (to_be_bytes w32 p.1.0 ++ end_text p.1.1))
@@ -102,7 +103,7 @@ refused x e = absurd cc
 pub tag_is : (k n : ℕ) → (k == n) ≡ true → k ≡ n
 tag_is k n e = grind (arith, nat_tests)
 
-taken_as : {A B : Type 0} (f : B → A) (text : A → List ℕ) (m : A → Type 0) (t : B → List ℕ) (l : B → Type 0) (r : Reader B) → IsReader t l r
+taken_as : {A B : Type 0} (f : B → A) (text : A → List ℕ) (m : A → Type 0) (t : B → List ℕ) (l : B → Type 0) (r : FieldReader B) → IsReader t l r
     → (k tag : ℕ) → (k == tag) ≡ true → ((b : B) → l b → text (f b) ≡ tag ∷ t b) → ((b : B) → l b → m (f b))
     → (bytes : List ℕ) (x : A) (rest : List ℕ) → IsText bytes → seen_as f r bytes ≡ Ok (x, rest) → (k ∷ bytes ≡ text x ++ rest) × (IsText rest × m x)
 taken_as {A} {B} f text m t l r p k tag same told met bytes x rest fits e =
@@ -133,31 +134,31 @@ is_cut Whole h = tt
 is_cut (Head n) h = omega arith
 is_cut (Trail n) h = omega arith
 
-pub reads_cut : IsReader cut_text LowCut cut_at
-unfolding cut_at
+pub reads_cut : IsReader cut_text LowCut read_cut
+unfolding read_cut
 reads_cut = record { takes = take; again = again }
   where
-    take : (bytes : List ℕ) (x : Cut) (rest : List ℕ) → IsText bytes → (byte_at bytes >>= λ k. cut_number (bad bytes) k.0 k.1) ≡ Ok (x, rest) → (bytes ≡ cut_text x ++ rest) × (IsText rest × LowCut x)
+    take : (bytes : List ℕ) (x : Cut) (rest : List ℕ) → IsText bytes → (read_byte bytes >>= λ k. cut_number (bad bytes) k.0 k.1) ≡ Ok (x, rest) → (bytes ≡ cut_text x ++ rest) × (IsText rest × LowCut x)
     take [] x rest fits e = refused (x, rest) e
     take (k ∷ bytes) x rest fits e = elim (chosen (k == 0) _ _ _ e) [
-      | inl p ↦ taken_as whole_of cut_text LowCut (to_be_bytes w32) (λ n. n < 1) (only_if (below 1) (number_at w32)) (reads_below 1 (omega arith)) k 0 p.0
+      | inl p ↦ taken_as whole_of cut_text LowCut (to_be_bytes w32) (λ n. n < 1) (only_if (below 1) (read_number w32)) (reads_below 1 (omega arith)) k 0 p.0
           (λ n l. ap (λ (j : ℕ). 0 ∷ to_be_bytes w32 j) (let z : 0 ≡ n = omega arith in z)) (λ n l. tt) bytes x rest fits.1 p.1
       | inr q ↦ elim (chosen (k == 1) _ _ _ q.1) [
-        | inl p ↦ taken_as Head cut_text LowCut (to_be_bytes w32) (λ n. n < 65536) (only_if (below 65536) (number_at w32)) (reads_below 65536 (omega arith)) k 1 p.0 (λ n l. refl) (λ n l. l) bytes x rest fits.1 p.1
+        | inl p ↦ taken_as Head cut_text LowCut (to_be_bytes w32) (λ n. n < 65536) (only_if (below 65536) (read_number w32)) (reads_below 65536 (omega arith)) k 1 p.0 (λ n l. refl) (λ n l. l) bytes x rest fits.1 p.1
         | inr q ↦ elim (chosen (k == 2) _ _ _ q.1) [
-          | inl p ↦ taken_as Trail cut_text LowCut (to_be_bytes w32) (λ n. n < 65536) (only_if (below 65536) (number_at w32)) (reads_below 65536 (omega arith)) k 2 p.0 (λ n l. refl) (λ n l. l) bytes x rest fits.1 p.1
+          | inl p ↦ taken_as Trail cut_text LowCut (to_be_bytes w32) (λ n. n < 65536) (only_if (below 65536) (read_number w32)) (reads_below 65536 (omega arith)) k 2 p.0 (λ n l. refl) (λ n l. l) bytes x rest fits.1 p.1
           | inr q ↦ refused (x, rest) q.1
         ]
       ]
     ]
 
-    again : (x : Cut) (rest : List ℕ) → LowCut x → (byte_at (cut_text x ++ rest) >>= λ k. cut_number (bad (cut_text x ++ rest)) k.0 k.1) ≡ Ok (x, rest)
+    again : (x : Cut) (rest : List ℕ) → LowCut x → (read_byte (cut_text x ++ rest) >>= λ k. cut_number (bad (cut_text x ++ rest)) k.0 k.1) ≡ Ok (x, rest)
     again Whole rest h = ap (λ (o : Result (ℕ × List ℕ) ReadError). o >>= λ y. Ok (whole_of y.0, y.1)) ((reads_below 1 (omega arith)).again 0 rest (omega arith))
     again (Head n) rest h = ap (λ (o : Result (ℕ × List ℕ) ReadError). o >>= λ y. Ok (Head y.0, y.1)) ((reads_below 65536 (omega arith)).again n rest h)
     again (Trail n) rest h = ap (λ (o : Result (ℕ × List ℕ) ReadError). o >>= λ y. Ok (Trail y.0, y.1)) ((reads_below 65536 (omega arith)).again n rest h)
 
-reads_positive : IsReader (to_be_bytes w16) (λ n. (1 ≤ n) × (n < 65536)) positive_at
-reads_positive = reads_if (to_be_bytes w16) (λ n. n < 65536) (λ n. (1 ≤ n) × (n < 65536)) (λ n. nat_lt 0 n) (number_at w16) reads_short
+reads_positive : IsReader (to_be_bytes w16) (λ n. (1 ≤ n) × (n < 65536)) read_positive
+reads_positive = reads_if (to_be_bytes w16) (λ n. n < 65536) (λ n. (1 ≤ n) × (n < 65536)) (λ n. nat_lt 0 n) (read_number w16) reads_short
     (λ n l e. (let lt = lt_is 0 n e in omega arith, l)) (λ n l. (is_lt 0 n (let le = l.0 in omega arith), l.1))
 
 or_is : (a b : Bool) → (a || b) ≡ false → (a ≡ false) × (b ≡ false)
@@ -185,20 +186,20 @@ on : (b : Bool) → not b ≡ false → b ≡ true
 on true h = refl
 on false h = absurd cc
 
-pub reads_statement : (conditions : ℕ) (s : Seen) → conditions ≤ 256 → IsReader statement_text (MayStand conditions s) (statement_at conditions s)
-unfolding statement_at
+pub reads_statement : (conditions : ℕ) (s : Seen) → conditions ≤ 256 → IsReader statement_text (MayStand conditions s) (read_statement conditions s)
+unfolding read_statement
 reads_statement conditions s low = record { takes = take; again = again }
   where
-    literal : (fault : ReadError) → IsReader string (IsString 1 (4096 - s.literal)) (literal_at (4096 - s.literal) fault)
+    literal : (fault : ReadError) → IsReader string (IsString 1 (4096 - s.literal)) (read_literal (4096 - s.literal) fault)
     literal fault = reads_literal (4096 - s.literal) fault (omega arith)
 
-    named : IsReader byte (λ n. n < conditions) (only_if (below conditions) byte_at)
+    named : IsReader byte (λ n. n < conditions) (only_if (below conditions) read_byte)
     named = reads_byte_below conditions low
 
-    status : IsReader byte (λ n. n < 64) (only_if (below 64) byte_at)
+    status : IsReader byte (λ n. n < 64) (only_if (below 64) read_byte)
     status = reads_byte_below 64 (omega arith)
 
-    take : (bytes : List ℕ) (x : Statement) (rest : List ℕ) → IsText bytes → (byte_at bytes >>= λ k. cond (bars s k.0) (Err (bad bytes)) (arguments conditions s (bad bytes) k.0 k.1)) ≡ Ok (x, rest) → (bytes ≡ statement_text x ++ rest) × (IsText rest × MayStand conditions s x)
+    take : (bytes : List ℕ) (x : Statement) (rest : List ℕ) → IsText bytes → (read_byte bytes >>= λ k. cond (bars s k.0) (Err (bad bytes)) (arguments conditions s (bad bytes) k.0 k.1)) ≡ Ok (x, rest) → (bytes ≡ statement_text x ++ rest) × (IsText rest × MayStand conditions s x)
     take [] x rest fits e = refused (x, rest) e
     take (k ∷ bytes) x rest fits e =
         let u = unbarred (bars s k) (bad (k ∷ bytes)) (arguments conditions s (bad (k ∷ bytes)) k bytes) x rest e in
@@ -231,7 +232,7 @@ reads_statement conditions s low = record { takes = take; again = again }
           ]
         ]
 
-    again : (x : Statement) (rest : List ℕ) → MayStand conditions s x → (byte_at (statement_text x ++ rest) >>= λ k. cond (bars s k.0) (Err (bad (statement_text x ++ rest))) (arguments conditions s (bad (statement_text x ++ rest)) k.0 k.1)) ≡ Ok (x, rest)
+    again : (x : Statement) (rest : List ℕ) → MayStand conditions s x → (read_byte (statement_text x ++ rest) >>= λ k. cond (bars s k.0) (Err (bad (statement_text x ++ rest))) (arguments conditions s (bad (statement_text x ++ rest)) k.0 k.1)) ≡ Ok (x, rest)
     again Echo rest h = refl
     again (Print b) rest h = rw h.0 (ap (λ (o : Result (List ℕ × List ℕ) ReadError). o >>= λ y. Ok (Print y.0, y.1)) ((literal (bad (statement_text (Print b) ++ rest))).again b rest h.1))
     again (Begin c) rest h = ap (λ (o : Result (ℕ × List ℕ) ReadError). o >>= λ y. Ok (Begin y.0, y.1)) (named.again c rest h)
@@ -248,23 +249,23 @@ reads_statement conditions s low = record { takes = take; again = again }
 abbrev pub IsRuleBy : Sizes → Bool → ℕ → RuleOfTable → Type 0
 IsRuleBy z stack i r = IsTableRule z.conditions i r × InVersion stack r.statements
 
-pub reads_rule : (z : Sizes) (stack : Bool) (i : ℕ) → z.conditions ≤ 256 → IsReader rule_text (IsRuleBy z stack i) (rule_at z.conditions stack)
-unfolding rule_at
+pub reads_rule : (z : Sizes) (stack : Bool) (i : ℕ) → z.conditions ≤ 256 → IsReader rule_text (IsRuleBy z stack i) (read_rule z.conditions stack)
+unfolding read_rule
 reads_rule z stack i low = reads_like rule_text (λ r. LowCut r.cut × (IsAction z.conditions r.statements × InVersion stack r.statements)) (IsRuleBy z stack i) _
     (reads_as
     (λ (p : Cut × List Statement). cut_text p.0 ++ (to_be_bytes w32 (length p.1) ++ flat_map statement_text p.1))
     (λ p. LowCut p.0 × (IsAction z.conditions p.1 × InVersion stack p.1))
     _ rule_from (λ r. (r.cut, r.statements))
-    (reads_both cut_text LowCut cut_at (λ c statements. to_be_bytes w32 (length statements) ++ flat_map statement_text statements) (λ c ss. IsAction z.conditions ss × InVersion stack ss) (λ c. statements_at z.conditions stack) reads_cut (λ c l. actions))
+    (reads_both cut_text LowCut read_cut (λ c statements. to_be_bytes w32 (length statements) ++ flat_map statement_text statements) (λ c ss. IsAction z.conditions ss × InVersion stack ss) (λ c. read_statements z.conditions stack) reads_cut (λ c l. actions))
     (λ r. refl) (λ p l. refl))
     (λ r l. (record { cut = cut_is r.cut l.0; few = l.1.0.few; literals = l.1.0.literals; legal = l.1.0.legal; bytes = l.1.0.bytes }, l.1.1))
     (λ r l. (is_cut r.cut l.0.cut, (record { few = l.0.few; literals = l.0.literals; legal = l.0.legal; bytes = l.0.bytes }, l.1)))
   where
-    actions : IsReader (λ (statements : List Statement). to_be_bytes w32 (length statements) ++ flat_map statement_text statements) (λ ss. IsAction z.conditions ss × InVersion stack ss) (statements_at z.conditions stack)
-    actions = reads_like (λ (xs : List Statement). to_be_bytes w32 (length xs) ++ flat_map statement_text xs) (λ xs. ((0 ≤ length xs) × (length xs ≤ 256)) × ((length xs ≡ length xs) × EachFrom (MayStand z.conditions) seen_after (unseen stack (length xs)) xs)) (λ ss. IsAction z.conditions ss × InVersion stack ss) (statements_at z.conditions stack)
+    actions : IsReader (λ (statements : List Statement). to_be_bytes w32 (length statements) ++ flat_map statement_text statements) (λ ss. IsAction z.conditions ss × InVersion stack ss) (read_statements z.conditions stack)
+    actions = reads_like (λ (xs : List Statement). to_be_bytes w32 (length xs) ++ flat_map statement_text xs) (λ xs. ((0 ≤ length xs) × (length xs ≤ 256)) × ((length xs ≡ length xs) × EachFrom (MayStand z.conditions) seen_after (unseen stack (length xs)) xs)) (λ ss. IsAction z.conditions ss × InVersion stack ss) (read_statements z.conditions stack)
         (reads_as (counted_text statement_text) (λ p. ((0 ≤ p.0) × (p.0 ≤ 256)) × ((length p.1 ≡ p.0) × EachFrom (MayStand z.conditions) seen_after (unseen stack p.0) p.1)) _ (λ p. p.1) (λ xs. (length xs, xs))
-        (reads_both (to_be_bytes w32) (λ n. (0 ≤ n) × (n ≤ 256)) (long_at 0 256) (λ n. flat_map statement_text) (λ n xs. (length xs ≡ n) × EachFrom (MayStand z.conditions) seen_after (unseen stack n) xs) (λ n. many (statement_at z.conditions) seen_after n (unseen stack n))
-        (reads_within 0 256 (omega arith)) (λ n l. reads_many statement_text (MayStand z.conditions) (statement_at z.conditions) seen_after (λ s. reads_statement z.conditions s low) n (unseen stack n)))
+        (reads_both (to_be_bytes w32) (λ n. (0 ≤ n) × (n ≤ 256)) (read_long 0 256) (λ n. flat_map statement_text) (λ n xs. (length xs ≡ n) × EachFrom (MayStand z.conditions) seen_after (unseen stack n) xs) (λ n. many (read_statement z.conditions) seen_after n (unseen stack n))
+        (reads_within 0 256 (omega arith)) (λ n l. reads_many statement_text (MayStand z.conditions) (read_statement z.conditions) seen_after (λ s. reads_statement z.conditions s low) n (unseen stack n)))
         (λ xs. refl) (λ p l. ap (λ (n : ℕ). (n, p.1)) l.1.0))
         (λ xs l. action_is z.conditions stack xs l.0.1 l.1.1) (λ xs l. ((omega arith, l.0.few), (refl, is_action z.conditions stack xs l.0 l.1)))
 
@@ -342,8 +343,8 @@ is_row z rejects s r l =
     ((l.default_target, λ e. (l.dead e).0), ((l.base, λ e. (l.dead e).1), ((l.first_alone, λ e. ap length (l.dead e).2), ascent_climbs z.rules 0 r.rules (λ i a. omega arith) l.rules l.ascending)))
 
 -- where some rule has REJECT, the number of rules of a row is bounded by four bytes alone
-pub reads_row : (z : Sizes) (rejects : Bool) (s : ℕ) → z.states < 4294967296 → z.slots < 4294967296 → z.rules < 4294967296 → IsReader row_text (IsRow z.rules z.states z.classes z.slots rejects s) (row_at z rejects s)
-unfolding row_at
+pub reads_row : (z : Sizes) (rejects : Bool) (s : ℕ) → z.states < 4294967296 → z.slots < 4294967296 → z.rules < 4294967296 → IsReader row_text (IsRow z.rules z.states z.classes z.slots rejects s) (read_row z rejects s)
+unfolding read_row
 reads_row z rejects s h k g = reads_like row_text (λ r. AreRowParts z rejects s (r.default_target, (r.base, r.rules))) (IsRow z.rules z.states z.classes z.slots rejects s) _
     (reads_as
     (λ (p : RowParts). to_be_bytes w32 p.0 ++ (to_be_bytes w32 p.1.0 ++ (to_be_bytes w32 (length p.1.1) ++ flat_map (to_be_bytes w32) p.1.1)))
@@ -351,34 +352,34 @@ reads_row z rejects s h k g = reads_like row_text (λ r. AreRowParts z rejects s
     _ row_from (λ r. (r.default_target, (r.base, r.rules)))
     (reads_both (to_be_bytes w32) (λ n. (n < z.states) × (s ≡ 0 → n ≡ 0)) _ (λ n (p : ℕ × List ℕ). to_be_bytes w32 p.0 ++ (to_be_bytes w32 (length p.1) ++ flat_map (to_be_bytes w32) p.1))
     (λ n p. ((p.0 + z.classes ≤ z.slots) × (s ≡ 0 → p.0 ≡ 0)) × AreAccepted z rejects s p.1) _
-    (reads_if (to_be_bytes w32) (λ n. n < 4294967296) (λ n. (n < z.states) × (s ≡ 0 → n ≡ 0)) (λ n. nat_lt n z.states && none_at_0 s n) (number_at w32) reads_long
+    (reads_if (to_be_bytes w32) (λ n. n < 4294967296) (λ n. (n < z.states) × (s ≡ 0 → n ≡ 0)) (λ n. nat_lt n z.states && none_at_0 s n) (read_number w32) reads_long
     (λ n l e. let p = and_is (nat_lt n z.states) (none_at_0 s n) e in (lt_is n z.states p.0, zero_is s n p.1))
     (λ n l. (is_and (nat_lt n z.states) (none_at_0 s n) (is_lt n z.states l.0) (is_zero s n l.1), let lt = l.0 in omega arith)))
     (λ n l.
     reads_both (to_be_bytes w32) (λ n. (n + z.classes ≤ z.slots) × (s ≡ 0 → n ≡ 0)) _ (λ n rules. to_be_bytes w32 (length rules) ++ flat_map (to_be_bytes w32) rules)
     (λ n rules. AreAccepted z rejects s rules) _
-    (reads_if (to_be_bytes w32) (λ n. n < 4294967296) (λ n. (n + z.classes ≤ z.slots) × (s ≡ 0 → n ≡ 0)) (λ n. nat_le (n + z.classes) z.slots && none_at_0 s n) (number_at w32) reads_long
+    (reads_if (to_be_bytes w32) (λ n. n < 4294967296) (λ n. (n + z.classes ≤ z.slots) × (s ≡ 0 → n ≡ 0)) (λ n. nat_le (n + z.classes) z.slots && none_at_0 s n) (read_number w32) reads_long
     (λ n l e. let p = and_is (nat_le (n + z.classes) z.slots) (none_at_0 s n) e in (le_is (n + z.classes) z.slots p.0, zero_is s n p.1))
     (λ n l. (is_and (nat_le (n + z.classes) z.slots) (none_at_0 s n) (is_le (n + z.classes) z.slots l.0) (is_zero s n l.1), let lt = l.0 in omega arith)))
     (λ n l. accepted)))
     (λ r. refl) (λ p l. refl))
     (row_is z rejects s) (is_row z rejects s)
   where
-    one : (low : ℕ) → IsReader (to_be_bytes w32) (λ r. (low ≤ r) × (r < z.rules)) (accepted_at z.rules low)
-    one low = reads_if (to_be_bytes w32) (λ n. n < 4294967296) (λ r. (low ≤ r) × (r < z.rules)) (between low z.rules) (number_at w32) reads_long
+    one : (low : ℕ) → IsReader (to_be_bytes w32) (λ r. (low ≤ r) × (r < z.rules)) (read_accepted z.rules low)
+    one low = reads_if (to_be_bytes w32) (λ n. n < 4294967296) (λ r. (low ≤ r) × (r < z.rules)) (between low z.rules) (read_number w32) reads_long
         (λ n l e. let p = and_is (nat_le low n) (nat_lt n z.rules) e in (le_is low n p.0, lt_is n z.rules p.1))
         (λ n l. (is_and (nat_le low n) (nat_lt n z.rules) (is_le low n l.0) (is_lt n z.rules l.1), let lt = l.1 in omega arith))
 
     accepted : IsReader (λ (rules : List ℕ). to_be_bytes w32 (length rules) ++ flat_map (to_be_bytes w32) rules) (AreAccepted z rejects s)
-        (seen_as (λ p. p.1) (both (only_if (few rejects s) (number_at w32)) (λ n. many (accepted_at z.rules) above n 0)))
+        (seen_as (λ p. p.1) (paired (only_if (few rejects s) (read_number w32)) (λ n. many (read_accepted z.rules) above n 0)))
     accepted = reads_like (λ (xs : List ℕ). to_be_bytes w32 (length xs) ++ flat_map (to_be_bytes w32) xs)
         (λ xs. ((length xs < 4294967296) × ((rejects ≡ false → length xs ≤ 1) × (s ≡ 0 → length xs ≡ 0))) × ((length xs ≡ length xs) × Climb z.rules 0 xs))
         (AreAccepted z rejects s) _
         (reads_as (counted_text (to_be_bytes w32)) (λ p. ((p.0 < 4294967296) × ((rejects ≡ false → p.0 ≤ 1) × (s ≡ 0 → p.0 ≡ 0))) × ((length p.1 ≡ p.0) × Climb z.rules 0 p.1)) _ (λ p. p.1) (λ xs. (length xs, xs))
-        (reads_both (to_be_bytes w32) (λ n. (n < 4294967296) × ((rejects ≡ false → n ≤ 1) × (s ≡ 0 → n ≡ 0))) (only_if (few rejects s) (number_at w32)) (λ n. flat_map (to_be_bytes w32)) (λ n xs. (length xs ≡ n) × Climb z.rules 0 xs) (λ n. many (accepted_at z.rules) above n 0)
-        (reads_if (to_be_bytes w32) (λ n. n < 4294967296) (λ n. (n < 4294967296) × ((rejects ≡ false → n ≤ 1) × (s ≡ 0 → n ≡ 0))) (few rejects s) (number_at w32) reads_long
+        (reads_both (to_be_bytes w32) (λ n. (n < 4294967296) × ((rejects ≡ false → n ≤ 1) × (s ≡ 0 → n ≡ 0))) (only_if (few rejects s) (read_number w32)) (λ n. flat_map (to_be_bytes w32)) (λ n xs. (length xs ≡ n) × Climb z.rules 0 xs) (λ n. many (read_accepted z.rules) above n 0)
+        (reads_if (to_be_bytes w32) (λ n. n < 4294967296) (λ n. (n < 4294967296) × ((rejects ≡ false → n ≤ 1) × (s ≡ 0 → n ≡ 0))) (few rejects s) (read_number w32) reads_long
         (λ n l e. (l, few_is rejects s n e)) (λ n l. (is_few rejects s n l.1.0 l.1.1, l.0)))
-        (λ n l. reads_many (to_be_bytes w32) (λ low r. (low ≤ r) × (r < z.rules)) (accepted_at z.rules) above one n 0))
+        (λ n l. reads_many (to_be_bytes w32) (λ low r. (low ≤ r) × (r < z.rules)) (read_accepted z.rules) above one n 0))
         (λ xs. refl) (λ p l. ap (λ (n : ℕ). (n, p.1)) l.1.0))
         (λ xs l. (l.0.1, l.1.1)) (λ xs l. ((elim (short_climb z.rules 0 xs l.1) [ inl e ↦ omega arith | inr le ↦ omega arith ], l.0), (refl, l.1)))
 
@@ -402,13 +403,13 @@ is_check z bases i (suc c) h =
     let some : 1 ≤ suc c = omega arith in
     rw (not_zero c) (is_and (nat_lt (suc c) z.states) _ (is_lt (suc c) z.states h.check) (is_and (nat_le (get_or bases (suc c) 0) i) _ (is_le (get_or bases (suc c) 0) i (h.from some)) (is_lt i (get_or bases (suc c) 0 + z.classes) (h.to some))))
 
-pub reads_slot : (z : Sizes) (bases : List ℕ) (i : ℕ) → 1 ≤ z.states → z.states < 4294967296 → IsReader slot_text (IsSlot z.states z.classes bases i) (slot_at z bases i)
-unfolding slot_at
+pub reads_slot : (z : Sizes) (bases : List ℕ) (i : ℕ) → 1 ≤ z.states → z.states < 4294967296 → IsReader slot_text (IsSlot z.states z.classes bases i) (read_slot z bases i)
+unfolding read_slot
 reads_slot z bases i some h = reads_like slot_text (λ s. IsCheck z bases i s.check × ((s.next < z.states) × (s.check ≡ 0 → s.next ≡ 0))) (IsSlot z.states z.classes bases i) _
     (reads_as (λ (p : ℕ × ℕ). to_be_bytes w32 p.0 ++ to_be_bytes w32 p.1) (λ p. IsCheck z bases i p.0 × ((p.1 < z.states) × (p.0 ≡ 0 → p.1 ≡ 0))) _ slot_from (λ s. (s.check, s.next))
     (reads_both (to_be_bytes w32) (IsCheck z bases i) _ (λ c. to_be_bytes w32) (λ c n. (n < z.states) × (c ≡ 0 → n ≡ 0)) _
-    (reads_if (to_be_bytes w32) (λ n. n < 4294967296) (IsCheck z bases i) (good_check z bases i) (number_at w32) reads_long (λ n l e. check_is z bases i n some e) (λ n l. (is_check z bases i n l, let lt = l.check in omega arith)))
-    (λ c l. reads_if (to_be_bytes w32) (λ n. n < 4294967296) (λ n. (n < z.states) × (c ≡ 0 → n ≡ 0)) (λ n. nat_lt n z.states && none_at_0 c n) (number_at w32) reads_long
+    (reads_if (to_be_bytes w32) (λ n. n < 4294967296) (IsCheck z bases i) (good_check z bases i) (read_number w32) reads_long (λ n l e. check_is z bases i n some e) (λ n l. (is_check z bases i n l, let lt = l.check in omega arith)))
+    (λ c l. reads_if (to_be_bytes w32) (λ n. n < 4294967296) (λ n. (n < z.states) × (c ≡ 0 → n ≡ 0)) (λ n. nat_lt n z.states && none_at_0 c n) (read_number w32) reads_long
     (λ n l e. let p = and_is (nat_lt n z.states) (none_at_0 c n) e in (lt_is n z.states p.0, zero_is c n p.1))
     (λ n l. (is_and (nat_lt n z.states) (none_at_0 c n) (is_lt n z.states l.0) (is_zero c n l.1), let lt = l.0 in omega arith))))
     (λ s. refl) (λ p l. refl))

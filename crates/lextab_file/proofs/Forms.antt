@@ -13,7 +13,7 @@ use Rattle.lextab_file.specs.Seen.{EachFrom, following}
 use Rattle.lextab_file.proofs.Bytes.{byte_fits, drop_text, take_text}
 use Rattle.lextab_file.specs.declared.error.ReadError.{ReadError}
 use Rattle.lextab_file.specs.declared.error.ReadError.TheVariants.{Truncated}
-use Rattle.lextab_file.specs.Reading.{Reader, ◌>>=◌, bad, judged, only_if, both, seen_as, many, byte_at, number_at, bytes_at}
+use Rattle.lextab_file.specs.Reading.{FieldReader, ◌>>=◌, bad, judged, only_if, paired, seen_as, many, read_byte, read_number, read_bytes}
 
 pub bind_ok : {A B : Type 0} (o : Result A ReadError) (f : A → Result B ReadError) (y : B) → (o >>= f) ≡ Ok y → (x : A) × (o ≡ Ok x) × (f x ≡ Ok y)
 bind_ok (Ok x) f y e = (x, refl, e)
@@ -30,15 +30,15 @@ whole : {A : Type 0} (b : Bool) (x y : A) (d : ReadError) → cond b (Err d) (Ok
 whole true x y d e = absurd cc
 whole false x y d e = (refl, cc)
 
-pub record IsReader {A : Type 0} (text : A → List ℕ) (Legal : A → Type 0) (read : Reader A) : Type 0 where
+pub record IsReader {A : Type 0} (text : A → List ℕ) (Legal : A → Type 0) (read : FieldReader A) : Type 0 where
   pub takes : (bytes : List ℕ) (x : A) (rest : List ℕ) → IsText bytes → read bytes ≡ Ok (x, rest) → (bytes ≡ text x ++ rest) × (IsText rest × Legal x)
   pub again : (x : A) (rest : List ℕ) → Legal x → read (text x ++ rest) ≡ Ok (x, rest)
 
 -- ---- two things, one after the other
 
-pub reads_both : {A B : Type 0} (ta : A → List ℕ) (la : A → Type 0) (r : Reader A) (tb : A → B → List ℕ) (lb : A → B → Type 0) (s : A → Reader B)
+pub reads_both : {A B : Type 0} (ta : A → List ℕ) (la : A → Type 0) (r : FieldReader A) (tb : A → B → List ℕ) (lb : A → B → Type 0) (s : A → FieldReader B)
     → IsReader ta la r → ((a : A) → la a → IsReader (tb a) (lb a) (s a))
-    → IsReader (λ (p : A × B). ta p.0 ++ tb p.0 p.1) (λ (p : A × B). la p.0 × lb p.0 p.1) (both r s)
+    → IsReader (λ (p : A × B). ta p.0 ++ tb p.0 p.1) (λ (p : A × B). la p.0 × lb p.0 p.1) (paired r s)
 reads_both {A} {B} ta la r tb lb s p q = record {
   takes = λ bytes x rest fits e.
       let a = bind_ok (r bytes) (λ y. s y.0 y.1 >>= λ z. Ok ((y.0, z.0), z.1)) (x, rest) e in
@@ -48,12 +48,12 @@ reads_both {A} {B} ta la r tb lb s p q = record {
       subst (λ (y : (A × B) × List ℕ). (bytes ≡ (ta y.0.0 ++ tb y.0.0 y.0.1) ++ y.1) × (IsText y.1 × (la y.0.0 × lb y.0.0 y.0.1))) (same_ok _ _ b.2)
       (t.0 ∙ ap (λ (z : List ℕ). ta a.0.0 ++ z) u.0 ∙ sym (append_assoc (ta a.0.0) (tb a.0.0 b.0.0) b.0.1), (u.1.0, (t.1.1, u.1.1)));
   again = λ x rest h.
-      ap (both r s) (append_assoc (ta x.0) (tb x.0 x.1) rest) ∙ rw (p.again x.0 (tb x.0 x.1 ++ rest) h.0, (q x.0 h.0).again x.1 rest h.1) refl;
+      ap (paired r s) (append_assoc (ta x.0) (tb x.0 x.1) rest) ∙ rw (p.again x.0 (tb x.0 x.1 ++ rest) h.0, (q x.0 h.0).again x.1 rest h.1) refl;
 }
 
 -- ---- a thing that passes a test
 
-pub reads_judged : {A : Type 0} (fault : List ℕ → ReadError) (t : A → List ℕ) (l m : A → Type 0) (test : A → Bool) (r : Reader A)
+pub reads_judged : {A : Type 0} (fault : List ℕ → ReadError) (t : A → List ℕ) (l m : A → Type 0) (test : A → Bool) (r : FieldReader A)
     → IsReader t l r → ((x : A) → l x → test x ≡ true → m x) → ((x : A) → m x → (test x ≡ true) × l x) → IsReader t m (λ bytes. judged (fault bytes) test r bytes)
 reads_judged {A} fault t l m test r p to back = record {
   takes = λ bytes x rest fits e.
@@ -64,13 +64,13 @@ reads_judged {A} fault t l m test r p to back = record {
   again = λ x rest h. let b = back x h in rw (p.again x rest b.1, b.0) refl;
 }
 
-pub reads_if : {A : Type 0} (t : A → List ℕ) (l m : A → Type 0) (test : A → Bool) (r : Reader A)
+pub reads_if : {A : Type 0} (t : A → List ℕ) (l m : A → Type 0) (test : A → Bool) (r : FieldReader A)
     → IsReader t l r → ((x : A) → l x → test x ≡ true → m x) → ((x : A) → m x → (test x ≡ true) × l x) → IsReader t m (only_if test r)
 reads_if t l m test r p to back = reads_judged bad t l m test r p to back
 
 -- ---- a thing seen as another
 
-pub reads_as : {A B : Type 0} (t : A → List ℕ) (l : A → Type 0) (r : Reader A) (f : A → B) (g : B → A)
+pub reads_as : {A B : Type 0} (t : A → List ℕ) (l : A → Type 0) (r : FieldReader A) (f : A → B) (g : B → A)
     → IsReader t l r → ((b : B) → f (g b) ≡ b) → ((a : A) → l a → g (f a) ≡ a) → IsReader (λ b. t (g b)) (λ b. l (g b)) (seen_as f r)
 reads_as {A} {B} t l r f g p fg gf = record {
   takes = λ bytes x rest fits e.
@@ -84,7 +84,7 @@ reads_as {A} {B} t l r f g p fg gf = record {
 
 -- ---- many things
 
-pub reads_many : {A S : Type 0} (t : A → List ℕ) (l : S → A → Type 0) (r : S → Reader A) (next : S → A → S)
+pub reads_many : {A S : Type 0} (t : A → List ℕ) (l : S → A → Type 0) (r : S → FieldReader A) (next : S → A → S)
     → ((s : S) → IsReader t (l s) (r s)) → (n : ℕ) (s : S) → IsReader (flat_map t) (λ xs. (length xs ≡ n) × EachFrom l next s xs) (many r next n s)
 unfolding many
 reads_many {A} {S} t l r next p zero s = record {
@@ -116,7 +116,7 @@ reads_many {A} {S} t l r next p (suc n) s = record {
         ap (many r next (suc n) s) regrouped ∙ rw ((p s).again x (flat_map t xs ++ rest) h.1.0, (others x).again xs rest (len, h.1.1)) refl
 
 -- other words for what is met
-pub reads_like : {A : Type 0} (t : A → List ℕ) (l m : A → Type 0) (r : Reader A) → IsReader t l r → ((x : A) → l x → m x) → ((x : A) → m x → l x) → IsReader t m r
+pub reads_like : {A : Type 0} (t : A → List ℕ) (l m : A → Type 0) (r : FieldReader A) → IsReader t l r → ((x : A) → l x → m x) → ((x : A) → m x → l x) → IsReader t m r
 reads_like t l m r p to back = record {
   takes = λ bytes x rest fits e. let u = p.takes bytes x rest fits e in (u.0, (u.1.0, to x u.1.1));
   again = λ x rest h. p.again x rest (back x h);
@@ -131,21 +131,21 @@ from_each P i [] h = tt
 from_each {A} P i (x ∷ xs) h = (h.0, from_each P (i + 1) xs (subst (λ (k : ℕ). Each P k xs) (sym (add-one i)) h.1))
 
 -- many things, each by its place
-pub reads_places : {A : Type 0} (t : A → List ℕ) (l : ℕ → A → Type 0) (r : ℕ → Reader A)
+pub reads_places : {A : Type 0} (t : A → List ℕ) (l : ℕ → A → Type 0) (r : ℕ → FieldReader A)
     → ((i : ℕ) → IsReader t (l i) (r i)) → (n : ℕ) → IsReader (flat_map t) (λ xs. (length xs ≡ n) × Each l 0 xs) (many r following n 0)
 reads_places t l r p n = reads_like (flat_map t) (λ xs. (length xs ≡ n) × EachFrom l following 0 xs) (λ xs. (length xs ≡ n) × Each l 0 xs) (many r following n 0)
     (reads_many t l r following p n 0) (λ xs h. (h.0, each_from l 0 xs h.1)) (λ xs h. (h.0, from_each l 0 xs h.1))
 
 -- ---- bytes and numbers
 
-pub reads_byte : IsReader byte (λ b. b < 256) byte_at
+pub reads_byte : IsReader byte (λ b. b < 256) read_byte
 reads_byte = record { takes = takes_byte; again = λ x rest h. refl }
   where
-    takes_byte : (bytes : List ℕ) (x : ℕ) (rest : List ℕ) → IsText bytes → byte_at bytes ≡ Ok (x, rest) → (bytes ≡ byte x ++ rest) × (IsText rest × (x < 256))
+    takes_byte : (bytes : List ℕ) (x : ℕ) (rest : List ℕ) → IsText bytes → read_byte bytes ≡ Ok (x, rest) → (bytes ≡ byte x ++ rest) × (IsText rest × (x < 256))
     takes_byte [] x rest fits e = absurd cc
     takes_byte (b ∷ bytes) x rest fits e = subst (λ (y : ℕ × List ℕ). (b ∷ bytes ≡ byte y.0 ++ y.1) × (IsText y.1 × (y.0 < 256))) (same_ok (b, bytes) (x, rest) e) (refl, (fits.1, fits.0))
 
-pub reads_bytes : (n : ℕ) → IsReader (λ xs. xs) (λ xs. (length xs ≡ n) × IsText xs) (bytes_at n)
+pub reads_bytes : (n : ℕ) → IsReader (λ xs. xs) (λ xs. (length xs ≡ n) × IsText xs) (read_bytes n)
 reads_bytes n = record {
   takes = λ bytes x rest fits e.
       let g = whole (ltb (length bytes) n) (take n bytes, drop n bytes) (x, rest) Truncated e in
@@ -179,7 +179,7 @@ wide32 = record {
   below = λ bytes fits. omega (arith, byte_fits bytes fits 0, byte_fits bytes fits 1, byte_fits bytes fits 2, byte_fits bytes fits 3);
 }
 
-reads_number : (w : Width) (limit : ℕ) → IsWide w limit → IsReader (to_be_bytes w) (λ n. n < limit) (number_at w)
+reads_number : (w : Width) (limit : ℕ) → IsWide w limit → IsReader (to_be_bytes w) (λ n. n < limit) (read_number w)
 reads_number w limit wide = record {
   takes = λ bytes n rest fits e.
       let g = whole (ltb (length bytes) (byte_len w)) (from_be_bytes w (take (byte_len w) bytes), drop (byte_len w) bytes) (n, rest) Truncated e in
@@ -194,8 +194,8 @@ reads_number w limit wide = record {
       rw (long, take_at (to_be_bytes w n) rest (byte_len w) len, drop_at (to_be_bytes w n) rest (byte_len w) len, wide.again n lt) refl;
 }
 
-pub reads_long : IsReader (to_be_bytes w32) (λ n. n < 4294967296) (number_at w32)
+pub reads_long : IsReader (to_be_bytes w32) (λ n. n < 4294967296) (read_number w32)
 reads_long = reads_number w32 4294967296 wide32
 
-pub reads_short : IsReader (to_be_bytes w16) (λ n. n < 65536) (number_at w16)
+pub reads_short : IsReader (to_be_bytes w16) (λ n. n < 65536) (read_number w16)
 reads_short = reads_number w16 65536 wide16

@@ -3,7 +3,7 @@ use Rattle.std.proofs.Common.{◌≡◌, ℕ, suc, ◌-◌, ◌+◌, ◌≤◌, 
 use Rattle.std.proofs.lemmas.List.{append-nil}
 use Rattle.lextab_file.specs.declared.error.ReadError.{ReadError}
 use Rattle.lextab_file.specs.Views.{Fails}
-use Rattle.lextab_file.specs.Reading.{Reader, ◌>>=◌, many}
+use Rattle.lextab_file.specs.Reading.{FieldReader, ◌>>=◌, many}
 
 -- what was read before, and what is still read
 abbrev pub with_front : {A : Type 0} → List A → Result (List A × List ℕ) ReadError → Result (List A × List ℕ) ReadError
@@ -13,7 +13,7 @@ regroup : {A : Type 0} (front : List A) (x : A) (read : Result (List A × List �
 regroup {A} front x (Ok y) = ap (λ (xs : List A). Ok (xs, y.1)) (simp append_assoc)
 regroup front x (Err e) = refl
 
-module _ {A S : Type 0} (r : S → Reader A) (next : S → A → S) where
+module _ {A S : Type 0} (r : S → FieldReader A) (next : S → A → S) where
   pub goes_on : (front : List A) (count i : ℕ) (s : S) (bytes : List ℕ) (x : A) (after : List ℕ) (total : Result (List A × List ℕ) ReadError) → i < count → r s bytes ≡ Ok (x, after)
       → with_front front (many r next (count - i) s bytes) ≡ total → with_front (front ++ x ∷ []) (many r next (count - (i + 1)) (next s x) after) ≡ total
   unfolding many

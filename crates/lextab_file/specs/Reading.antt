@@ -1,6 +1,7 @@
 -- Reading a table from its bytes, from left to right: a value and the bytes after it, or the fault of the first field that is not as it must be.
 use Rattle.std.specs.Prelude.{ℕ, zero, suc, ◌+◌, ◌-◌, Bool, true, false, not, ◌&&◌, ◌||◌, cond, if◌then◌else◌, nat_lt, nat_le, ◌==◌, List, [], ◌∷◌, length, take, drop, Result, Ok, Err, slice_index}
 use Rattle.std.specs.Int.{Width, w16, w32, byte_len, from_be_bytes}
+use Rattle.lex_semantics.specs.ByteSets.{within}
 use Rattle.lex_semantics.specs.Spec.{Statement, Echo, Print, Begin, More, Less, Reject, End, Push, Pop, EndAction, Cut, Whole, Head, Trail}
 use Rattle.lextab_packed.specs.Table.{ConditionOfTable, RuleOfTable, Row, Slot, Table}
 use Rattle.lextab_packed.specs.Checks.{Sizes, some_rule_rejects, bases_of}
@@ -10,8 +11,8 @@ use Rattle.lextab_file.specs.declared.error.ReadError.{ReadError}
 use Rattle.lextab_file.specs.declared.error.ReadError.TheVariants.{BadMagic, BadVersion, Truncated, BadField}
 use Rattle.lex_semantics.specs.Limits.{max_conditions, max_rules, max_states, max_classes, max_slots, max_literal_bytes, max_status, max_fixed_length, max_statements}
 
-abbrev pub Reader : Type 0 → Type 0
-Reader A = List ℕ → Result (A × List ℕ) ReadError
+abbrev pub FieldReader : Type 0 → Type 0
+FieldReader A = List ℕ → Result (A × List ℕ) ReadError
 
 infixl 10 ◌>>=◌
 abbrev pub ◌>>=◌ : {A B : Type 0} → Result A ReadError → (A → Result B ReadError) → Result B ReadError
@@ -25,52 +26,49 @@ bad bytes = BadField (length bytes)
 -- ---- ways to read
 
 -- a value that passes the test, or else this fault
-abbrev pub judged : {A : Type 0} → ReadError → (A → Bool) → Reader A → Reader A
+abbrev pub judged : {A : Type 0} → ReadError → (A → Bool) → FieldReader A → FieldReader A
 judged fault test r bytes = r bytes >>= λ x. if test x.0 then Ok x else Err fault
 
 -- a field that passes the test
-abbrev pub only_if : {A : Type 0} → (A → Bool) → Reader A → Reader A
+abbrev pub only_if : {A : Type 0} → (A → Bool) → FieldReader A → FieldReader A
 only_if test r bytes = judged (bad bytes) test r bytes
 
-abbrev pub both : {A B : Type 0} → Reader A → (A → Reader B) → Reader (A × B)
-both r s bytes = r bytes >>= λ x. s x.0 x.1 >>= λ y. Ok ((x.0, y.0), y.1)
+abbrev pub paired : {A B : Type 0} → FieldReader A → (A → FieldReader B) → FieldReader (A × B)
+paired r s bytes = r bytes >>= λ x. s x.0 x.1 >>= λ y. Ok ((x.0, y.0), y.1)
 
-abbrev pub seen_as : {A B : Type 0} → (A → B) → Reader A → Reader B
+abbrev pub seen_as : {A B : Type 0} → (A → B) → FieldReader A → FieldReader B
 seen_as f r bytes = r bytes >>= λ x. Ok (f x.0, x.1)
 
 -- so many, each at the state that those before it left
-unfoldable pub many : {A S : Type 0} → (S → Reader A) → (S → A → S) → ℕ → S → Reader (List A)
+unfoldable pub many : {A S : Type 0} → (S → FieldReader A) → (S → A → S) → ℕ → S → FieldReader (List A)
 many r next zero s bytes = Ok ([], bytes)
 many r next (suc n) s bytes = r s bytes >>= λ x. many r next n (next s x.0) x.1 >>= λ xs. Ok (x.0 ∷ xs.0, xs.1)
 
 -- ---- fields
 
-abbrev pub byte_at : Reader ℕ
-byte_at [] = Err Truncated
-byte_at (b ∷ bytes) = Ok (b, bytes)
+abbrev pub read_byte : FieldReader ℕ
+read_byte [] = Err Truncated
+read_byte (b ∷ bytes) = Ok (b, bytes)
 
-abbrev pub number_at : Width → Reader ℕ
-number_at w bytes = if nat_lt (length bytes) (byte_len w) then Err Truncated else Ok (from_be_bytes w (take (byte_len w) bytes), drop (byte_len w) bytes)
+abbrev pub read_number : Width → FieldReader ℕ
+read_number w bytes = if nat_lt (length bytes) (byte_len w) then Err Truncated else Ok (from_be_bytes w (take (byte_len w) bytes), drop (byte_len w) bytes)
 
-abbrev pub bytes_at : ℕ → Reader (List ℕ)
-bytes_at n bytes = if nat_lt (length bytes) n then Err Truncated else Ok (take n bytes, drop n bytes)
-
-abbrev pub within : ℕ → ℕ → ℕ → Bool
-within least most n = nat_le least n && nat_le n most
+abbrev pub read_bytes : ℕ → FieldReader (List ℕ)
+read_bytes n bytes = if nat_lt (length bytes) n then Err Truncated else Ok (take n bytes, drop n bytes)
 
 -- a number of four bytes within bounds
-abbrev pub long_at : ℕ → ℕ → Reader ℕ
-long_at least most = only_if (within least most) (number_at w32)
+abbrev pub read_long : ℕ → ℕ → FieldReader ℕ
+read_long least most = only_if (within least most) (read_number w32)
 
 abbrev pub below : ℕ → ℕ → Bool
 below limit n = nat_lt n limit
 
-abbrev pub string_at : ℕ → ℕ → Reader (List ℕ)
-string_at least most = seen_as (λ p. p.1) (both (long_at least most) (λ n. bytes_at n))
+abbrev pub read_string : ℕ → ℕ → FieldReader (List ℕ)
+read_string least most = seen_as (λ p. p.1) (paired (read_long least most) (λ n. read_bytes n))
 
 -- a number of two bytes that is not 0
-abbrev pub positive_at : Reader ℕ
-positive_at = only_if (λ n. nat_lt 0 n) (number_at w16)
+abbrev pub read_positive : FieldReader ℕ
+read_positive = only_if (λ n. nat_lt 0 n) (read_number w16)
 
 -- ---- the header
 
@@ -80,22 +78,22 @@ is_magic xs = slice_index xs 0 == 76 && (slice_index xs 1 == 69 && (slice_index 
 abbrev pub sizes_from : ℕ × (ℕ × (ℕ × (ℕ × ℕ))) → Sizes
 sizes_from p = record { conditions = p.0; rules = p.1.0; states = p.1.1.0; classes = p.1.1.1.0; slots = p.1.1.1.1 }
 
-unfoldable pub sizes_at : Reader Sizes
-sizes_at = seen_as sizes_from (both (long_at 1 max_conditions) (λ c. both (long_at 0 max_rules) (λ r. both (long_at 1 max_states) (λ n. both (long_at 1 max_classes) (λ k. long_at k max_slots)))))
+unfoldable pub read_sizes : FieldReader Sizes
+read_sizes = seen_as sizes_from (paired (read_long 1 max_conditions) (λ c. paired (read_long 0 max_rules) (λ r. paired (read_long 1 max_states) (λ n. paired (read_long 1 max_classes) (λ k. read_long k max_slots)))))
 
 -- ---- conditions
 
 abbrev pub end_from : List ℕ × ℕ → EndAction
 end_from p = record { print = p.0; status = p.1 }
 
-unfoldable pub end_at : Reader EndAction
-end_at = seen_as end_from (both (string_at 0 max_literal_bytes) (λ p. only_if (below (max_status + 1)) byte_at))
+unfoldable pub read_end : FieldReader EndAction
+read_end = seen_as end_from (paired (read_string 0 max_literal_bytes) (λ p. only_if (below (max_status + 1)) read_byte))
 
 abbrev pub condition_from : ℕ × (ℕ × EndAction) → ConditionOfTable
 condition_from p = record { start = p.0; line_start = p.1.0; end = p.1.1 }
 
-unfoldable pub condition_at : ℕ → Reader ConditionOfTable
-condition_at states = seen_as condition_from (both (only_if (below states) (number_at w32)) (λ s. both (only_if (below states) (number_at w32)) (λ l. end_at)))
+unfoldable pub read_condition : ℕ → FieldReader ConditionOfTable
+read_condition states = seen_as condition_from (paired (only_if (below states) (read_number w32)) (λ s. paired (only_if (below states) (read_number w32)) (λ l. read_end)))
 
 -- ---- rules
 
@@ -103,15 +101,15 @@ abbrev pub whole_of : ℕ → Cut
 whole_of n = Whole
 
 -- the number of a cut with this tag, where this is the fault of a tag that is not known
-abbrev pub cut_number : ReadError → ℕ → Reader Cut
+abbrev pub cut_number : ReadError → ℕ → FieldReader Cut
 cut_number fault k bytes =
-    if k == 0 then seen_as whole_of (only_if (below 1) (number_at w32)) bytes
-    else if k == 1 then seen_as Head (only_if (below (max_fixed_length + 1)) (number_at w32)) bytes
-    else if k == 2 then seen_as Trail (only_if (below (max_fixed_length + 1)) (number_at w32)) bytes
+    if k == 0 then seen_as whole_of (only_if (below 1) (read_number w32)) bytes
+    else if k == 1 then seen_as Head (only_if (below (max_fixed_length + 1)) (read_number w32)) bytes
+    else if k == 2 then seen_as Trail (only_if (below (max_fixed_length + 1)) (read_number w32)) bytes
     else Err fault
 
-unfoldable pub cut_at : Reader Cut
-cut_at bytes = byte_at bytes >>= λ k. cut_number (bad bytes) k.0 k.1
+unfoldable pub read_cut : FieldReader Cut
+read_cut bytes = read_byte bytes >>= λ k. cut_number (bad bytes) k.0 k.1
 
 -- a statement with this tag may not stand there
 abbrev pub bars : Seen → ℕ → Bool
@@ -126,40 +124,40 @@ bars s k =
     else false
 
 -- a literal; one that is longer than this room is told by this fault
-abbrev pub literal_at : ℕ → ReadError → Reader (List ℕ)
-literal_at room fault = seen_as (λ p. p.1) (both (judged fault (λ n. nat_le n room) (long_at 1 max_literal_bytes)) (λ n. bytes_at n))
+abbrev pub read_literal : ℕ → ReadError → FieldReader (List ℕ)
+read_literal room fault = seen_as (λ p. p.1) (paired (judged fault (λ n. nat_le n room) (read_long 1 max_literal_bytes)) (λ n. read_bytes n))
 
 -- a statement with this tag, without it, where this is the fault of the tag
-abbrev pub arguments : ℕ → Seen → ReadError → ℕ → Reader Statement
+abbrev pub arguments : ℕ → Seen → ReadError → ℕ → FieldReader Statement
 arguments conditions s fault k bytes =
     if k == 0 then Ok (Echo, bytes)
-    else if k == 1 then seen_as Print (literal_at (max_literal_bytes - s.literal) fault) bytes
-    else if k == 2 then seen_as Begin (only_if (below conditions) byte_at) bytes
+    else if k == 1 then seen_as Print (read_literal (max_literal_bytes - s.literal) fault) bytes
+    else if k == 2 then seen_as Begin (only_if (below conditions) read_byte) bytes
     else if k == 3 then Ok (More, bytes)
-    else if k == 4 then seen_as Less positive_at bytes
+    else if k == 4 then seen_as Less read_positive bytes
     else if k == 5 then Ok (Reject, bytes)
-    else if k == 6 then seen_as End (only_if (below (max_status + 1)) byte_at) bytes
-    else if k == 7 then seen_as Push (only_if (below conditions) byte_at) bytes
+    else if k == 6 then seen_as End (only_if (below (max_status + 1)) read_byte) bytes
+    else if k == 7 then seen_as Push (only_if (below conditions) read_byte) bytes
     else if k == 8 then Ok (Pop, bytes)
     else Err fault
 
-unfoldable pub statement_at : ℕ → Seen → Reader Statement
-statement_at conditions s bytes = byte_at bytes >>= λ k. if bars s k.0 then Err (bad bytes) else arguments conditions s (bad bytes) k.0 k.1
+unfoldable pub read_statement : ℕ → Seen → FieldReader Statement
+read_statement conditions s bytes = read_byte bytes >>= λ k. if bars s k.0 then Err (bad bytes) else arguments conditions s (bad bytes) k.0 k.1
 
 -- a count, and so many
-abbrev pub statements_at : ℕ → Bool → Reader (List Statement)
-statements_at conditions stack = seen_as (λ p. p.1) (both (long_at 0 max_statements) (λ n. many (statement_at conditions) seen_after n (unseen stack n)))
+abbrev pub read_statements : ℕ → Bool → FieldReader (List Statement)
+read_statements conditions stack = seen_as (λ p. p.1) (paired (read_long 0 max_statements) (λ n. many (read_statement conditions) seen_after n (unseen stack n)))
 
 abbrev pub rule_from : Cut × List Statement → RuleOfTable
 rule_from p = record { cut = p.0; statements = p.1 }
 
-unfoldable pub rule_at : ℕ → Bool → Reader RuleOfTable
-rule_at conditions stack = seen_as rule_from (both cut_at (λ c. statements_at conditions stack))
+unfoldable pub read_rule : ℕ → Bool → FieldReader RuleOfTable
+read_rule conditions stack = seen_as rule_from (paired read_cut (λ c. read_statements conditions stack))
 
 -- ---- classes
 
-abbrev pub class_at : ℕ → ℕ → Reader ℕ
-class_at classes i = only_if (below classes) byte_at
+abbrev pub read_class : ℕ → ℕ → FieldReader ℕ
+read_class classes i = only_if (below classes) read_byte
 
 -- ---- states
 
@@ -169,8 +167,8 @@ above low r = r + 1
 abbrev pub between : ℕ → ℕ → ℕ → Bool
 between low count r = nat_le low r && nat_lt r count
 
-abbrev pub accepted_at : ℕ → ℕ → Reader ℕ
-accepted_at count low = only_if (between low count) (number_at w32)
+abbrev pub read_accepted : ℕ → ℕ → FieldReader ℕ
+read_accepted count low = only_if (between low count) (read_number w32)
 
 -- 0 where the state is 0
 abbrev pub none_at_0 : ℕ → ℕ → Bool
@@ -182,10 +180,10 @@ row_from p = record { default_target = p.0; base = p.1.0; rules = p.1.1 }
 abbrev pub few : Bool → ℕ → ℕ → Bool
 few rejects s n = cond rejects true (nat_le n 1) && none_at_0 s n
 
-unfoldable pub row_at : Sizes → Bool → ℕ → Reader Row
-row_at z rejects s = seen_as row_from (both (only_if (λ n. nat_lt n z.states && none_at_0 s n) (number_at w32)) (λ d.
-    both (only_if (λ n. nat_le (n + z.classes) z.slots && none_at_0 s n) (number_at w32)) (λ b.
-    seen_as (λ p. p.1) (both (only_if (few rejects s) (number_at w32)) (λ n. many (accepted_at z.rules) above n 0)))))
+unfoldable pub read_row : Sizes → Bool → ℕ → FieldReader Row
+read_row z rejects s = seen_as row_from (paired (only_if (λ n. nat_lt n z.states && none_at_0 s n) (read_number w32)) (λ d.
+    paired (only_if (λ n. nat_le (n + z.classes) z.slots && none_at_0 s n) (read_number w32)) (λ b.
+    seen_as (λ p. p.1) (paired (only_if (few rejects s) (read_number w32)) (λ n. many (read_accepted z.rules) above n 0)))))
 
 -- ---- slots
 
@@ -195,8 +193,8 @@ slot_from p = record { check = p.0; next = p.1 }
 abbrev pub good_check : Sizes → List ℕ → ℕ → ℕ → Bool
 good_check z bases i check = cond (check == 0) true (nat_lt check z.states && (nat_le (slice_index bases check) i && nat_lt i (slice_index bases check + z.classes)))
 
-unfoldable pub slot_at : Sizes → List ℕ → ℕ → Reader Slot
-slot_at z bases i = seen_as slot_from (both (only_if (good_check z bases i) (number_at w32)) (λ check. only_if (λ n. nat_lt n z.states && none_at_0 check n) (number_at w32)))
+unfoldable pub read_slot : Sizes → List ℕ → ℕ → FieldReader Slot
+read_slot z bases i = seen_as slot_from (paired (only_if (good_check z bases i) (read_number w32)) (λ check. only_if (λ n. nat_lt n z.states && none_at_0 check n) (read_number w32)))
 
 -- ---- the whole
 
@@ -204,20 +202,20 @@ abbrev pub Body : Type 0
 Body = List ConditionOfTable × (List RuleOfTable × (List ℕ × (List Row × List Slot)))
 
 -- the parts after the sizes, by the version, where this is the fault of a version that the rules do not need
-abbrev pub body_at : ℕ → ReadError → Sizes → Reader Body
-body_at v fault z =
-    both (many (λ i. condition_at z.states) following z.conditions 0) (λ cs.
-    both (judged fault (λ rs. version_of rs == v) (many (λ i. rule_at z.conditions (v == 2)) following z.rules 0)) (λ rs.
-    both (many (class_at z.classes) following 256 0) (λ ks.
-    both (many (row_at z (some_rule_rejects rs)) following z.states 0) (λ rows.
-    many (slot_at z (bases_of rows)) following z.slots 0))))
+abbrev pub read_body : ℕ → ReadError → Sizes → FieldReader Body
+read_body v fault z =
+    paired (many (λ i. read_condition z.states) following z.conditions 0) (λ cs.
+    paired (judged fault (λ rs. version_of rs == v) (many (λ i. read_rule z.conditions (v == 2)) following z.rules 0)) (λ rs.
+    paired (many (read_class z.classes) following 256 0) (λ ks.
+    paired (many (read_row z (some_rule_rejects rs)) following z.states 0) (λ rows.
+    many (read_slot z (bases_of rows)) following z.slots 0))))
 
 -- the version, and what stands after it
-abbrev pub versioned_at : Reader (ℕ × (Sizes × Body))
-versioned_at bytes = both (judged BadVersion (λ v. v == 1 || v == 2) (number_at w16)) (λ v. both sizes_at (λ z. body_at v (bad bytes) z)) bytes
+abbrev pub read_versioned : FieldReader (ℕ × (Sizes × Body))
+read_versioned bytes = paired (judged BadVersion (λ v. v == 1 || v == 2) (read_number w16)) (λ v. paired read_sizes (λ z. read_body v (bad bytes) z)) bytes
 
 abbrev pub table_from : List ℕ × (ℕ × (Sizes × Body)) → Table
 table_from p = record { conditions = p.1.1.1.0; rules = p.1.1.1.1.0; classes = p.1.1.0.classes; class_of = p.1.1.1.1.1.0; rows = p.1.1.1.1.1.1.0; slots = p.1.1.1.1.1.1.1 }
 
-unfoldable pub table_at : Reader Table
-table_at = seen_as table_from (both (judged BadMagic is_magic (bytes_at 6)) (λ m. versioned_at))
+unfoldable pub read_table : FieldReader Table
+read_table = seen_as table_from (paired (judged BadMagic is_magic (read_bytes 6)) (λ m. read_versioned))

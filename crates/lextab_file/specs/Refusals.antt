@@ -1,7 +1,7 @@
 -- Which refusal it is, and how bytes are refused.
 use Rattle.std.specs.Prelude.{ℕ, ◌-◌, Bool, true, false, List, [], ◌∷◌, length, Option, Some, None, Result, Ok, Err}
 use Rattle.lextab_packed.specs.Table.{Table}
-use Rattle.lextab_file.specs.Reading.{table_at}
+use Rattle.lextab_file.specs.Reading.{read_table}
 use Rattle.lextab_file.specs.declared.error.ReadError.{ReadError}
 use Rattle.lextab_file.specs.declared.error.ReadError.TheVariants as reads
 use Rattle.lextab_file.specs.declared.error.TableError.{TableError}
@@ -41,4 +41,4 @@ refusal_in len (Err fault) = Some (in_file len fault)
 
 -- how bytes are refused: for the first field from the left that is not as it must be, or for what stands after a whole table
 abbrev pub refusal_of : List ℕ → Option TableError
-refusal_of bytes = refusal_in (length bytes) (table_at bytes)
+refusal_of bytes = refusal_in (length bytes) (read_table bytes)

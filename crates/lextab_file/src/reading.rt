@@ -4,7 +4,7 @@ ghost use Rattle.lextab_packed.specs.Table.{Table};
 ghost use Rattle.lextab_packed.specs.Checks.{IsTable};
 ghost use Rattle.lextab_packed.specs.Views.{table_of};
 ghost use Rattle.lextab_file.specs.File.{file_of, IsFileOf};
-ghost use Rattle.lextab_file.specs.Reading.{table_at};
+ghost use Rattle.lextab_file.specs.Reading.{read_table};
 ghost use Rattle.lextab_file.specs.Refusals.{is_out_of_memory, is_trailing, refusal_of};
 ghost use Rattle.lextab_file.specs.Views.{Gives};
 
@@ -27,9 +27,9 @@ use std::alloc::Global;
 
 /// The parts of the table at the front of the bytes, and the bytes after it. The first field from the left that is not
 /// as it must be is reported.
-#[tactic(auto, unfolding(crate::specs::Reading::table_at))]
+#[tactic(auto, unfolding(crate::specs::Reading::read_table))]
 fn table(alloc: Global, bytes: &[u8]) -> Result<(TableParts, &[u8]), ReadError>
-    ensures { Gives (λ x. (table_of x.0, x.1.now)) result (table_at bytes.now) }
+    ensures { Gives (λ x. (table_of x.0, x.1.now)) result (read_table bytes.now) }
 {
     let (_, after_magic) = magic(bytes)?;
     let (version, rest) = version(after_magic)?;

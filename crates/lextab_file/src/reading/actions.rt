@@ -4,8 +4,8 @@ ghost use Rattle.lex_machine.specs.Literals.{literal_bytes};
 ghost use Rattle.lex_machine.specs.Views.{statement_of, cut_of};
 ghost use Rattle.lextab_packed.specs.Views.{rule_of};
 ghost use Rattle.lextab_file.specs.Seen.{following, unseen, seen_after};
-ghost use Rattle.lextab_file.specs.Reading.{many, literal_at, cut_at, bars, arguments};
-ghost use Rattle.lextab_file.specs.Reading.{statement_at, statements_at, rule_at};
+ghost use Rattle.lextab_file.specs.Reading.{many, read_literal, read_cut, bars, arguments};
+ghost use Rattle.lextab_file.specs.Reading.{read_statement, read_statements, read_rule};
 ghost use Rattle.lextab_file.specs.Tags.{statement_byte};
 ghost use Rattle.lextab_file.specs.Views.{Gives, seen_of};
 ghost use Rattle.lex_semantics.specs.Limits.{max_literal_bytes};
@@ -75,9 +75,9 @@ impl Before {
 }
 
 /// How much of a match of a rule is the text: a tag and a number.
-#[tactic(auto, unfolding(crate::specs::Reading::cut_at))]
+#[tactic(auto, unfolding(crate::specs::Reading::read_cut))]
 fn rule_cut(bytes: &[u8]) -> Result<(Cut, &[u8]), ReadError>
-    ensures gives { Gives (λ x. (cut_of x.0, x.1.now)) result (cut_at bytes.now) }
+    ensures gives { Gives (λ x. (cut_of x.0, x.1.now)) result (read_cut bytes.now) }
 {
     let (code, rest) = byte(bytes)?;
     match CutTag::of(code) {
@@ -106,7 +106,7 @@ fn literal(
     left: usize,
 ) -> Result<(Vec<u8>, &[u8]), ReadError>
     requires { room ≤ max_literal_bytes }
-    ensures gives { Gives (λ x. (x.0.items, x.1.now)) result (literal_at room (ReadError.BadField left) bytes.now) }
+    ensures gives { Gives (λ x. (x.0.items, x.1.now)) result (read_literal room (ReadError.BadField left) bytes.now) }
     ensures length { IfOk result (λ x. length x.0.items ≤ room) }
 {
     let (count, rest) = long(bytes)?;
@@ -164,7 +164,7 @@ fn arguments(
 }
 
 /// A statement, by its tag, judged by what stands before it in its action.
-#[tactic(auto, unfolding(crate::specs::Reading::statement_at))]
+#[tactic(auto, unfolding(crate::specs::Reading::read_statement))]
 fn statement(
     alloc: Global,
     bytes: &[u8],
@@ -173,7 +173,7 @@ fn statement(
 ) -> Result<(Statement, &[u8]), ReadError>
     requires { before.literal ≤ max_literal_bytes }
     ensures gives { Gives (λ x. (statement_of x.0, x.1.now)) result
-        (statement_at conditions (seen_of before) bytes.now) }
+        (read_statement conditions (seen_of before) bytes.now) }
     ensures literal { IfOk result (λ x. before.literal + literal_bytes (statement_of x.0) ≤ max_literal_bytes) }
 {
     let left = bytes.len();
@@ -193,7 +193,7 @@ fn statements(
     stack: bool,
 ) -> Result<(Vec<Statement>, &[u8]), ReadError>
     ensures { Gives (λ x. (map statement_of x.0.items, x.1.now)) result
-        (many (statement_at conditions) seen_after count (unseen stack count) bytes.now) }
+        (many (read_statement conditions) seen_after count (unseen stack count) bytes.now) }
 {
     let mut read = Vec::new(alloc);
     let mut rest = bytes;
@@ -215,14 +215,14 @@ fn statements(
 }
 
 /// A rule: its cut, the number of its statements, and these.
-#[tactic(auto, unfolding(crate::specs::Reading::rule_at))]
+#[tactic(auto, unfolding(crate::specs::Reading::read_rule))]
 fn rule(
     alloc: Global,
     bytes: &[u8],
     conditions: u32,
     stack: bool,
 ) -> Result<(TableRule, &[u8]), ReadError>
-    ensures gives { Gives (λ x. (rule_of x.0, x.1.now)) result (rule_at conditions stack bytes.now) }
+    ensures gives { Gives (λ x. (rule_of x.0, x.1.now)) result (read_rule conditions stack bytes.now) }
 {
     let (cut, rest) = rule_cut(bytes)?;
     let (count, rest) = long_within(rest, 0, MAX_STATEMENTS as u32)?;
@@ -239,7 +239,7 @@ pub fn rules(
     stack: bool,
 ) -> Result<(Vec<TableRule>, &[u8]), ReadError>
     ensures { Gives (λ x. (map rule_of x.0.items, x.1.now)) result
-        (many (λ i. rule_at conditions stack) following count 0 bytes.now) }
+        (many (λ i. read_rule conditions stack) following count 0 bytes.now) }
 {
     let mut read = Vec::new(alloc);
     let mut rest = bytes;

@@ -1,7 +1,7 @@
 //! Reads fields: each function gives the value at the front of the bytes, and the bytes after it.
 ghost use Rattle.std.specs.Prelude.{◌≡◌, ◌≤◌, ◌<◌, IfOk, length};
 ghost use Rattle.std.specs.Int.{w16, w32};
-ghost use Rattle.lextab_file.specs.Reading.{only_if, below, byte_at, number_at, bytes_at, long_at, positive_at};
+ghost use Rattle.lextab_file.specs.Reading.{only_if, below, read_byte, read_number, read_bytes, read_long, read_positive};
 ghost use Rattle.lextab_file.specs.Views.{Gives};
 
 use crate::error::ReadError;
@@ -9,7 +9,7 @@ use std::alloc::Global;
 
 /// One byte.
 pub fn byte(bytes: &[u8]) -> Result<(u8, &[u8]), ReadError>
-    ensures gives { Gives (λ x. (x.0, x.1.now)) result (byte_at bytes.now) }
+    ensures gives { Gives (λ x. (x.0, x.1.now)) result (read_byte bytes.now) }
 {
     match bytes {
         [] => Err(ReadError::Truncated),
@@ -19,7 +19,7 @@ pub fn byte(bytes: &[u8]) -> Result<(u8, &[u8]), ReadError>
 
 /// A byte below the limit.
 pub fn byte_below(bytes: &[u8], limit: u32) -> Result<(u8, &[u8]), ReadError>
-    ensures gives { Gives (λ x. (x.0, x.1.now)) result (only_if (below limit) byte_at bytes.now) }
+    ensures gives { Gives (λ x. (x.0, x.1.now)) result (only_if (below limit) read_byte bytes.now) }
 {
     let (number, rest) = byte(bytes)?;
     if u32::from(number) >= limit {
@@ -30,7 +30,7 @@ pub fn byte_below(bytes: &[u8], limit: u32) -> Result<(u8, &[u8]), ReadError>
 
 /// A number of two bytes.
 pub fn short(bytes: &[u8]) -> Result<(u16, &[u8]), ReadError>
-    ensures gives { Gives (λ x. (x.0, x.1.now)) result (number_at w16 bytes.now) }
+    ensures gives { Gives (λ x. (x.0, x.1.now)) result (read_number w16 bytes.now) }
 {
     if bytes.len() < 2 {
         return Err(ReadError::Truncated);
@@ -42,7 +42,7 @@ pub fn short(bytes: &[u8]) -> Result<(u16, &[u8]), ReadError>
 
 /// A number of two bytes that is not 0.
 pub fn positive(bytes: &[u8]) -> Result<(u16, &[u8]), ReadError>
-    ensures gives { Gives (λ x. (x.0, x.1.now)) result (positive_at bytes.now) }
+    ensures gives { Gives (λ x. (x.0, x.1.now)) result (read_positive bytes.now) }
 {
     let (number, rest) = short(bytes)?;
     if number == 0 {
@@ -53,7 +53,7 @@ pub fn positive(bytes: &[u8]) -> Result<(u16, &[u8]), ReadError>
 
 /// A number of four bytes.
 pub fn long(bytes: &[u8]) -> Result<(u32, &[u8]), ReadError>
-    ensures gives { Gives (λ x. (x.0, x.1.now)) result (number_at w32 bytes.now) }
+    ensures gives { Gives (λ x. (x.0, x.1.now)) result (read_number w32 bytes.now) }
 {
     if bytes.len() < 4 {
         return Err(ReadError::Truncated);
@@ -65,7 +65,7 @@ pub fn long(bytes: &[u8]) -> Result<(u32, &[u8]), ReadError>
 
 /// A number of four bytes within these bounds.
 pub fn long_within(bytes: &[u8], least: u32, most: u32) -> Result<(u32, &[u8]), ReadError>
-    ensures gives { Gives (λ x. (x.0, x.1.now)) result (long_at least most bytes.now) }
+    ensures gives { Gives (λ x. (x.0, x.1.now)) result (read_long least most bytes.now) }
     ensures within { IfOk result (λ x. (least ≤ x.0) × (x.0 ≤ most)) }
 {
     let (number, rest) = long(bytes)?;
@@ -77,7 +77,7 @@ pub fn long_within(bytes: &[u8], least: u32, most: u32) -> Result<(u32, &[u8]), 
 
 /// A number of four bytes below the limit.
 pub fn long_below(bytes: &[u8], limit: u32) -> Result<(u32, &[u8]), ReadError>
-    ensures gives { Gives (λ x. (x.0, x.1.now)) result (only_if (below limit) (number_at w32) bytes.now) }
+    ensures gives { Gives (λ x. (x.0, x.1.now)) result (only_if (below limit) (read_number w32) bytes.now) }
     ensures low { IfOk result (λ x. x.0 < limit) }
 {
     let (number, rest) = long(bytes)?;
@@ -89,7 +89,7 @@ pub fn long_below(bytes: &[u8], limit: u32) -> Result<(u32, &[u8]), ReadError>
 
 /// The next `count` bytes.
 pub fn text(alloc: Global, bytes: &[u8], count: u32) -> Result<(Vec<u8>, &[u8]), ReadError>
-    ensures gives { Gives (λ x. (x.0.items, x.1.now)) result (bytes_at count bytes.now) }
+    ensures gives { Gives (λ x. (x.0.items, x.1.now)) result (read_bytes count bytes.now) }
     ensures length { IfOk result (λ x. length x.0.items ≡ count) }
 {
     let count = count as usize;

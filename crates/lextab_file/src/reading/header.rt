@@ -1,7 +1,7 @@
 //! Reads the header: the magic bytes, the version, and how many there are of each kind.
 ghost use Rattle.std.specs.Prelude.{◌≡◌, ◌≤◌, ◌==◌, ◌||◌, ◌⊎◌, false, IfOk, IfErr};
 ghost use Rattle.std.specs.Int.{w16};
-ghost use Rattle.lextab_file.specs.Reading.{judged, number_at, bytes_at, is_magic, sizes_at};
+ghost use Rattle.lextab_file.specs.Reading.{judged, read_number, read_bytes, is_magic, read_sizes};
 ghost use Rattle.lextab_file.specs.Views.{Gives, sizes_in, is_memory};
 ghost use Rattle.lex_semantics.specs.Limits.{max_classes};
 
@@ -26,7 +26,7 @@ pub struct Counts {
 
 /// The six magic bytes that a table file begins with.
 pub fn magic(bytes: &[u8]) -> Result<(&[u8], &[u8]), ReadError>
-    ensures gives { Gives (λ x. (x.0.now, x.1.now)) result (judged ReadError.BadMagic is_magic (bytes_at 6) bytes.now) }
+    ensures gives { Gives (λ x. (x.0.now, x.1.now)) result (judged ReadError.BadMagic is_magic (read_bytes 6) bytes.now) }
     ensures no_memory { IfErr result (λ e. is_memory e ≡ false) }
 {
     if bytes.len() < 6 {
@@ -47,7 +47,7 @@ pub fn magic(bytes: &[u8]) -> Result<(&[u8], &[u8]), ReadError>
 
 /// The version of the format: 1, or 2 where statements of the stack may stand.
 pub fn version(bytes: &[u8]) -> Result<(u16, &[u8]), ReadError>
-    ensures gives { Gives (λ x. (x.0, x.1.now)) result (judged ReadError.BadVersion (λ v. v == 1 || v == 2) (number_at w16) bytes.now) }
+    ensures gives { Gives (λ x. (x.0, x.1.now)) result (judged ReadError.BadVersion (λ v. v == 1 || v == 2) (read_number w16) bytes.now) }
     ensures known { IfOk result (λ x. (x.0 ≡ 1) ⊎ (x.0 ≡ 2)) }
 {
     let (version, rest) = short(bytes)?;
@@ -58,9 +58,9 @@ pub fn version(bytes: &[u8]) -> Result<(u16, &[u8]), ReadError>
 }
 
 /// How many there are of each kind, each within its limits.
-#[tactic(auto, unfolding(crate::specs::Reading::sizes_at))]
+#[tactic(auto, unfolding(crate::specs::Reading::read_sizes))]
 pub fn sizes(bytes: &[u8]) -> Result<(Counts, &[u8]), ReadError>
-    ensures gives { Gives (λ x. (sizes_in x.0, x.1.now)) result (sizes_at bytes.now) }
+    ensures gives { Gives (λ x. (sizes_in x.0, x.1.now)) result (read_sizes bytes.now) }
     ensures classes { IfOk result (λ x. x.0.classes ≤ max_classes) }
 {
     let (conditions, rest) = long_within(bytes, 1, MAX_CONDITIONS as u32)?;

@@ -4,7 +4,7 @@ ghost use Rattle.std.specs.Int.{w32};
 ghost use Rattle.lextab_packed.specs.Checks.{bases_of};
 ghost use Rattle.lextab_packed.specs.Views.{row_of, slots_of};
 ghost use Rattle.lextab_file.specs.Seen.{following};
-ghost use Rattle.lextab_file.specs.Reading.{many, only_if, number_at, good_check, none_at_0, slot_at, slot_from};
+ghost use Rattle.lextab_file.specs.Reading.{many, only_if, read_number, good_check, none_at_0, read_slot, slot_from};
 ghost use Rattle.lextab_file.specs.Views.{Gives, sizes_in};
 
 use super::fields::long;
@@ -31,7 +31,7 @@ fn check_of<'a>(
 ) -> Result<(u32, &'a [u8]), ReadError>
     requires { length rows.now ≡ counts.states }
     ensures { Gives (λ x. (x.0, x.1.now)) result
-        (only_if (good_check (sizes_in counts) (bases_of (map row_of rows.now)) place) (number_at w32) bytes.now) }
+        (only_if (good_check (sizes_in counts) (bases_of (map row_of rows.now)) place) (read_number w32) bytes.now) }
 {
     let (check, rest) = long(bytes)?;
     if check == 0 {
@@ -50,7 +50,7 @@ fn check_of<'a>(
 /// The target in a slot for this state.
 fn next_of(bytes: &[u8], states: u32, check: u32) -> Result<(u32, &[u8]), ReadError>
     ensures { Gives (λ x. (x.0, x.1.now)) result
-        (only_if (λ n. nat_lt n states && none_at_0 check n) (number_at w32) bytes.now) }
+        (only_if (λ n. nat_lt n states && none_at_0 check n) (read_number w32) bytes.now) }
 {
     let (next, rest) = long(bytes)?;
     if next >= states || (check == 0 && next != 0) {
@@ -60,7 +60,7 @@ fn next_of(bytes: &[u8], states: u32, check: u32) -> Result<(u32, &[u8]), ReadEr
 }
 
 /// A slot: the state that has it, and the target that stands there.
-#[tactic(auto, unfolding(crate::specs::Reading::slot_at))]
+#[tactic(auto, unfolding(crate::specs::Reading::read_slot))]
 fn slot<'a>(
     bytes: &'a [u8],
     counts: Counts,
@@ -69,7 +69,7 @@ fn slot<'a>(
 ) -> Result<((u32, u32), &'a [u8]), ReadError>
     requires { length rows.now ≡ counts.states }
     ensures gives { Gives (λ x. (slot_from (x.0.0, x.0.1), x.1.now)) result
-        (slot_at (sizes_in counts) (bases_of (map row_of rows.now)) place bytes.now) }
+        (read_slot (sizes_in counts) (bases_of (map row_of rows.now)) place bytes.now) }
 {
     let (check, rest) = check_of(bytes, counts, rows, place)?;
     let (next, rest) = next_of(rest, counts.states, check)?;
@@ -85,7 +85,7 @@ pub fn slots<'a>(
 ) -> Result<((Vec<u32>, Vec<u32>), &'a [u8]), ReadError>
     requires { length rows.now ≡ counts.states }
     ensures { Gives (λ x. (slots_of x.0.0.items x.0.1.items, x.1.now)) result
-        (many (slot_at (sizes_in counts) (bases_of (map row_of rows.now))) following counts.slots 0 bytes.now) }
+        (many (read_slot (sizes_in counts) (bases_of (map row_of rows.now))) following counts.slots 0 bytes.now) }
 {
     let mut checks = Vec::new(alloc);
     let mut nexts = Vec::new(alloc);

@@ -3,8 +3,8 @@ ghost use Rattle.std.specs.Prelude.{◌≡◌, ◌≤◌, ◌<◌, ◌+◌, ◌&
 ghost use Rattle.std.specs.Int.{w32};
 ghost use Rattle.lextab_packed.specs.Views.{row_of};
 ghost use Rattle.lextab_file.specs.Seen.{following};
-ghost use Rattle.lextab_file.specs.Reading.{many, class_at, accepted_at, above};
-ghost use Rattle.lextab_file.specs.Reading.{row_at, only_if, none_at_0, few, number_at};
+ghost use Rattle.lextab_file.specs.Reading.{many, read_class, read_accepted, above};
+ghost use Rattle.lextab_file.specs.Reading.{read_row, only_if, none_at_0, few, read_number};
 ghost use Rattle.lextab_file.specs.Views.{Gives, sizes_in};
 ghost use Rattle.lex_semantics.specs.Limits.{max_classes};
 
@@ -16,7 +16,7 @@ use std::alloc::Global;
 
 /// The class of each of the 256 bytes.
 pub fn class_map(alloc: Global, bytes: &[u8], classes: u32) -> Result<(Vec<u8>, &[u8]), ReadError>
-    ensures { Gives (λ x. (x.0.items, x.1.now)) result (many (class_at classes) following 256 0 bytes.now) }
+    ensures { Gives (λ x. (x.0.items, x.1.now)) result (many (read_class classes) following 256 0 bytes.now) }
 {
     let mut read = Vec::new(alloc);
     let mut rest = bytes;
@@ -30,7 +30,7 @@ pub fn class_map(alloc: Global, bytes: &[u8], classes: u32) -> Result<(Vec<u8>, 
 
 /// The number of a rule, from `low` on.
 fn accepted_one(bytes: &[u8], rules: u32, low: u32) -> Result<(u32, &[u8]), ReadError>
-    ensures gives { Gives (λ x. (x.0, x.1.now)) result (accepted_at rules low bytes.now) }
+    ensures gives { Gives (λ x. (x.0, x.1.now)) result (read_accepted rules low bytes.now) }
     ensures low { IfOk result (λ x. x.0 < rules) }
 {
     let (number, rest) = long(bytes)?;
@@ -47,7 +47,7 @@ fn accepted(
     count: u32,
     rules: u32,
 ) -> Result<(Vec<u32>, &[u8]), ReadError>
-    ensures { Gives (λ x. (x.0.items, x.1.now)) result (many (accepted_at rules) above count 0 bytes.now) }
+    ensures { Gives (λ x. (x.0.items, x.1.now)) result (many (read_accepted rules) above count 0 bytes.now) }
 {
     let mut read = Vec::new(alloc);
     let mut rest = bytes;
@@ -64,7 +64,7 @@ fn accepted(
 /// The state that a row turns to where no slot is its own.
 fn default_of(bytes: &[u8], states: u32, state: u32) -> Result<(u32, &[u8]), ReadError>
     ensures gives { Gives (λ x. (x.0, x.1.now)) result
-        (only_if (λ n. nat_lt n states && none_at_0 state n) (number_at w32) bytes.now) }
+        (only_if (λ n. nat_lt n states && none_at_0 state n) (read_number w32) bytes.now) }
 {
     let (default_target, rest) = long(bytes)?;
     if default_target >= states || (state == 0 && default_target != 0) {
@@ -76,7 +76,7 @@ fn default_of(bytes: &[u8], states: u32, state: u32) -> Result<(u32, &[u8]), Rea
 /// Where the slots of a row begin.
 fn base_of(bytes: &[u8], counts: Counts, state: u32) -> Result<(u32, &[u8]), ReadError>
     ensures gives { Gives (λ x. (x.0, x.1.now)) result
-        (only_if (λ n. nat_le (n + counts.classes) counts.slots && none_at_0 state n) (number_at w32) bytes.now) }
+        (only_if (λ n. nat_le (n + counts.classes) counts.slots && none_at_0 state n) (read_number w32) bytes.now) }
 {
     let (base, rest) = long(bytes)?;
     if u64::from(base) + u64::from(counts.classes) > u64::from(counts.slots)
@@ -89,7 +89,7 @@ fn base_of(bytes: &[u8], counts: Counts, state: u32) -> Result<(u32, &[u8]), Rea
 
 /// How many rules a row accepts.
 fn count_of(bytes: &[u8], rejects: bool, state: u32) -> Result<(u32, &[u8]), ReadError>
-    ensures gives { Gives (λ x. (x.0, x.1.now)) result (only_if (few rejects state) (number_at w32) bytes.now) }
+    ensures gives { Gives (λ x. (x.0, x.1.now)) result (only_if (few rejects state) (read_number w32) bytes.now) }
 {
     let (count, rest) = long(bytes)?;
     if (!rejects && count > 1) || (state == 0 && count != 0) {
@@ -99,7 +99,7 @@ fn count_of(bytes: &[u8], rejects: bool, state: u32) -> Result<(u32, &[u8]), Rea
 }
 
 /// A state: its default, its base, and the rules that it accepts.
-#[tactic(auto, unfolding(crate::specs::Reading::row_at))]
+#[tactic(auto, unfolding(crate::specs::Reading::read_row))]
 fn row(
     alloc: Global,
     bytes: &[u8],
@@ -108,7 +108,7 @@ fn row(
     state: u32,
 ) -> Result<(Row, &[u8]), ReadError>
     requires low { counts.classes ≤ max_classes }
-    ensures gives { Gives (λ x. (row_of x.0, x.1.now)) result (row_at (sizes_in counts) rejects state bytes.now) }
+    ensures gives { Gives (λ x. (row_of x.0, x.1.now)) result (read_row (sizes_in counts) rejects state bytes.now) }
 {
     let (default_target, rest) = default_of(bytes, counts.states, state)?;
     let (base, rest) = base_of(rest, counts, state)?;
@@ -134,7 +134,7 @@ pub fn states(
     requires { counts.classes ≤ max_classes }
     ensures len { IfOk result (λ x. length x.0.items ≡ counts.states) }
     ensures gives { Gives (λ x. (map row_of x.0.items, x.1.now)) result
-        (many (row_at (sizes_in counts) rejects) following counts.states 0 bytes.now) }
+        (many (read_row (sizes_in counts) rejects) following counts.states 0 bytes.now) }
 {
     let mut read = Vec::new(alloc);
     let mut rest = bytes;

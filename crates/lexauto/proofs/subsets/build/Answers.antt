@@ -5,7 +5,7 @@ use Rattle.lex_semantics.specs.TableFor.{TableFor}
 use Rattle.lex_semantics.specs.MachineLaws.{MachineLaws}
 use Rattle.lexauto_dfa.specs.declared.dfa.Parts.{Parts}
 use Rattle.lexauto_dfa.specs.Parts.{conditions, states}
-use Rattle.lexauto_dfa.specs.Machines.{IsReached}
+use Rattle.lexauto_dfa.specs.Machines.{IsDeadOrReached}
 use Rattle.lexauto_dfa.specs.Automata.{machine_in}
 use Rattle.lexspec.specs.declared.spec.Spec.{Spec}
 use Rattle.lexspec.specs.Views.{spec_of}
@@ -87,7 +87,7 @@ returns-clause-reached c =
     let size = kept_length found.keys.items in
     let goes = c.in_ok-found.ensures.len ∙ sym size in
     let lists = c.in_ok-found.ensures.accepts_len ∙ sym size in
-    subst (λ (p : Parts). (q : ℕ) → q < states p → IsReached (machine_in p (spec_of c.args.spec.now)) (spec_of c.args.spec.now) q) (sym c.new-automaton.ensures)
+    subst (λ (p : Parts). (q : ℕ) → q < states p → IsDeadOrReached (machine_in p (spec_of c.args.spec.now)) (spec_of c.args.spec.now) q) (sym c.new-automaton.ensures)
     (reached_are (spec_of c.args.spec.now) (spec_is_sound (spec_of c.args.spec.now) c.args.spec.now.sound)
     (record { starts = found.starts; line_starts = found.line_starts; next = found.next; accepts = found.accepts; goes_on = found.goes_on })
     keys s accepted on lists goes)

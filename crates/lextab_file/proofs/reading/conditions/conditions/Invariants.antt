@@ -1,9 +1,9 @@
 use Rattle.std.proofs.Common.{◌≡◌, ◌-◌, map}
 use Rattle.lextab_packed.specs.Views.{condition_of}
 use Rattle.lextab_file.specs.Seen.{following}
-use Rattle.lextab_file.specs.Reading.{many, condition_at}
+use Rattle.lextab_file.specs.Reading.{many, read_condition}
 use Rattle.lextab_file.proofs.Loops.{with_front}
 use Rattle.lextab_file.proofs.reading.conditions.conditions.Given as goal
 
 abbrev pub invariant-loop-i : goal.invariant-loop-i
-invariant-loop-i l = with_front (map condition_of l.read.items) (many (λ i. condition_at l.states) following (l.count - l.i) l.i l.rest) ≡ many (λ i. condition_at l.states) following l.count 0 l.bytes
+invariant-loop-i l = with_front (map condition_of l.read.items) (many (λ i. read_condition l.states) following (l.count - l.i) l.i l.rest) ≡ many (λ i. read_condition l.states) following l.count 0 l.bytes

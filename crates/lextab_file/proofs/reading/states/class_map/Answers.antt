@@ -1,5 +1,5 @@
 use Rattle.lextab_file.specs.Seen.{following}
-use Rattle.lextab_file.specs.Reading.{many, class_at}
+use Rattle.lextab_file.specs.Reading.{many, read_class}
 use Rattle.std.proofs.lemmas.Result.{err_from_is_err_and}
 use Rattle.lextab_file.proofs.Loops.{goes_on, ends, is_done}
 use Rattle.lextab_file.proofs.reading.states.class_map.Goals as goal
@@ -7,11 +7,11 @@ use Rattle.lextab_file.proofs.reading.states.class_map.Goals as goal
 pub returns-in_err-one : goal.returns-in_err-one
 returns-in_err-one c =
     let p = err_from_is_err_and c.from_residual.result c.from_residual.ensures.1 in
-    rw (p.1, p.2) (ends (class_at c.args.classes) following c.in_err-one.field-0.0 c.loop-i.read.items 256 c.loop-i.i c.loop-i.i c.loop-i.rest.now (many (class_at c.args.classes) following 256 0 c.args.bytes.now) c.loop-i-test.true c.in_err-one.ensures.gives c.loop-i.invariant)
+    rw (p.1, p.2) (ends (read_class c.args.classes) following c.in_err-one.field-0.0 c.loop-i.read.items 256 c.loop-i.i c.loop-i.i c.loop-i.rest.now (many (read_class c.args.classes) following 256 0 c.args.bytes.now) c.loop-i-test.true c.in_err-one.ensures.gives c.loop-i.invariant)
 
 pub loop-i-preserved : goal.loop-i-preserved
 loop-i-preserved c =
-    rw c.in_ok-push.ensures.items (goes_on (class_at c.args.classes) following c.loop-i.read.items 256 c.loop-i.i c.loop-i.i c.loop-i.rest.now c.in_ok-one.one c.in_ok-one.after.now (many (class_at c.args.classes) following 256 0 c.args.bytes.now) c.loop-i-test.true c.in_ok-one.ensures.gives c.loop-i.invariant)
+    rw c.in_ok-push.ensures.items (goes_on (read_class c.args.classes) following c.loop-i.read.items 256 c.loop-i.i c.loop-i.i c.loop-i.rest.now c.in_ok-one.one c.in_ok-one.after.now (many (read_class c.args.classes) following 256 0 c.args.bytes.now) c.loop-i-test.true c.in_ok-one.ensures.gives c.loop-i.invariant)
 
 pub returns : goal.returns
-returns c = is_done (class_at c.args.classes) following c.loop-i.read.items 256 c.loop-i.i c.loop-i.i c.loop-i.rest.now (many (class_at c.args.classes) following 256 0 c.args.bytes.now) c.loop-i-test.false c.loop-i.invariant
+returns c = is_done (read_class c.args.classes) following c.loop-i.read.items 256 c.loop-i.i c.loop-i.i c.loop-i.rest.now (many (read_class c.args.classes) following 256 0 c.args.bytes.now) c.loop-i-test.false c.loop-i.invariant
