@@ -3,32 +3,32 @@ use Rattle.std.proofs.Common.{IfSome, ◌≡◌, ℕ, zero, suc, ◌+◌, ◌-�
 use Rattle.std.specs.Prelude.{slice_get, take}
 use Rattle.std.proofs.Math.Nat.{mul-le-mul_right}
 use Rattle.lex_semantics.specs.Text.{IsText, Among, Ascending}
-use Rattle.lex_semantics.specs.Tree.{Tree, Trees, Empty, Set, Cat, Alt, Star, Repeat, no_trees, tree, Passes}
-use Rattle.lex_semantics.specs.Positions.{copies, positions, positions_of, Cell, Readings, Reads, ReadsEach, ReadsSome}
+use Rattle.lex_semantics.specs.Tree.{Tree, Trees, Empty, Set, Cat, Alt, Star, Repeat, no_trees, tree, Iterates}
+use Rattle.lex_semantics.specs.Positions.{copies, positions, positions_of, MarkedByte, Readings, Reads, ReadsEach, ReadsSome}
 use Rattle.lex_semantics.specs.Spec.{Spec, Rule}
-use Rattle.lex_semantics.specs.Subsets.{positions_of_trail, positions_of_rule, all_positions, base_of, ReadsTrail, ReadsRule, ReadsActive, IsLast, IsActive, ListsSet, Distinct, AreStarts, AreLasts, Subsets}
+use Rattle.lex_semantics.specs.Subsets.{positions_of_trail, positions_of_rule, all_positions, base_of, ReadsTrail, ReadsRule, ReadsActive, IsLast, IsActive, ListsSet, Distinct, AreStarts, AreLasts, HasSubsets}
 use Rattle.lex_semantics.proofs.Fronts.{among_left, among_right}
 
 -- each position is below a number
-Below : ℕ → List Cell → Type 0
+Below : ℕ → List MarkedByte → Type 0
 Below hi [] = Unit {0}
 Below hi (c ∷ rs) = (c.1 < hi) × Below hi rs
 
-below_append : (hi : ℕ) (us vs : List Cell) → Below hi us → Below hi vs → Below hi (us ++ vs)
+below_append : (hi : ℕ) (us vs : List MarkedByte) → Below hi us → Below hi vs → Below hi (us ++ vs)
 unfolding Below
 below_append hi [] vs h k = k
 below_append hi (c ∷ us) vs h k = (h.0, below_append hi us vs h.1 k)
 
-below_more : (low hi : ℕ) (rs : List Cell) → low ≤ hi → Below low rs → Below hi rs
+below_more : (low hi : ℕ) (rs : List MarkedByte) → low ≤ hi → Below low rs → Below hi rs
 unfolding Below
 below_more low hi [] le h = tt
 below_more low hi (c ∷ rs) le h = (omega (arith, le, h.0), below_more low hi rs le h.1)
 
-below_none : (hi : ℕ) (rs : List Cell) → rs ≡ [] → Below hi rs
+below_none : (hi : ℕ) (rs : List MarkedByte) → rs ≡ [] → Below hi rs
 unfolding Below
 below_none hi rs e = subst (Below hi) (sym e) tt
 
-passes_below : (R : ℕ → Readings) (hi : ℕ) → ((j : ℕ) (us : List Cell) → R j us → Below hi us) → (k j : ℕ) (rs : List Cell) → Passes R j k rs → Below hi rs
+passes_below : (R : ℕ → Readings) (hi : ℕ) → ((j : ℕ) (us : List MarkedByte) → R j us → Below hi us) → (k j : ℕ) (rs : List MarkedByte) → Iterates R j k rs → Below hi rs
 passes_below R hi each zero j rs e = below_none hi rs e
 passes_below R hi each (suc k) j rs (us, vs, e, here, rest) = subst (Below hi) (sym e) (below_append hi us vs (each j us here) (passes_below R hi each k (suc j) vs rest))
 
@@ -38,13 +38,13 @@ copy_fits base j c p some =
     let more : (min j (c - 1) + 1) * p ≤ c * p = mul-le-mul_right p small in
     omega (arith, more)
 
-no_passes : (R : ℕ → Readings) (hi k : ℕ) (rs : List Cell) → k ≡ 0 → Passes R 0 k rs → Below hi rs
+no_passes : (R : ℕ → Readings) (hi k : ℕ) (rs : List MarkedByte) → k ≡ 0 → Iterates R 0 k rs → Below hi rs
 no_passes R hi zero rs e h = below_none hi rs h
 no_passes R hi (suc k) rs e h = absurd (omega (arith, e))
 
-repeat_below : (t : Tree) (m : ℕ) (n : Option ℕ) (base k c : ℕ) → copies m n ≡ c → (rs : List Cell) → IfSome n (λ n. k ≤ n)
-    → ((j : ℕ) (us : List Cell) → Reads t (base + min j (copies m n - 1) * positions t) us → Below (base + min j (copies m n - 1) * positions t + positions t) us)
-    → Passes (λ j. Reads t (base + min j (copies m n - 1) * positions t)) 0 k rs → Below (base + copies m n * positions t) rs
+repeat_below : (t : Tree) (m : ℕ) (n : Option ℕ) (base k c : ℕ) → copies m n ≡ c → (rs : List MarkedByte) → IfSome n (λ n. k ≤ n)
+    → ((j : ℕ) (us : List MarkedByte) → Reads t (base + min j (copies m n - 1) * positions t) us → Below (base + min j (copies m n - 1) * positions t + positions t) us)
+    → Iterates (λ j. Reads t (base + min j (copies m n - 1) * positions t)) 0 k rs → Below (base + copies m n * positions t) rs
 repeat_below t m None base k c e rs high each passes =
     passes_below (λ j. Reads t (base + min j (copies m None - 1) * positions t)) (base + copies m None * positions t)
     (λ j us h. below_more (base + min j (copies m None - 1) * positions t + positions t) (base + copies m None * positions t) us (copy_fits base j (copies m None) (positions t) (omega arith)) (each j us h)) k 0 rs passes
@@ -57,7 +57,7 @@ repeat_below t m (Some n) base k (suc c) e rs high each passes =
 mutual
   unfolding Below
 
-  tree_below : (t : Tree) (base : ℕ) (rs : List Cell) → Reads t base rs → Below (base + positions t) rs
+  tree_below : (t : Tree) (base : ℕ) (rs : List MarkedByte) → Reads t base rs → Below (base + positions t) rs
   tree_below Empty base rs e = below_none (base + 0) rs e
   tree_below (Set s) base rs (b, e, is) = subst (Below (base + 1)) (sym e) (omega arith, tt)
   tree_below (Cat ts) base rs h = each_below ts base rs h
@@ -66,23 +66,23 @@ mutual
   tree_below (Repeat t m n) base rs (k, low, high, passes) =
       repeat_below t m n base k (copies m n) refl rs high (λ j us h. tree_below t (base + min j (copies m n - 1) * positions t) us h) passes
 
-  each_below : (ts : Trees) (base : ℕ) (rs : List Cell) → ReadsEach ts base rs → Below (base + positions_of ts) rs
+  each_below : (ts : Trees) (base : ℕ) (rs : List MarkedByte) → ReadsEach ts base rs → Below (base + positions_of ts) rs
   each_below no_trees base rs e = below_none (base + 0) rs e
   each_below (tree t ts) base rs (us, vs, e, here, rest) =
       subst (Below (base + (positions t + positions_of ts))) (sym e)
       (below_append (base + (positions t + positions_of ts)) us vs (below_more (base + positions t) (base + (positions t + positions_of ts)) us (omega arith) (tree_below t base us here))
       (below_more (base + positions t + positions_of ts) (base + (positions t + positions_of ts)) vs (omega arith) (each_below ts (base + positions t) vs rest)))
 
-  some_below : (ts : Trees) (base : ℕ) (rs : List Cell) → ReadsSome ts base rs → Below (base + positions_of ts) rs
+  some_below : (ts : Trees) (base : ℕ) (rs : List MarkedByte) → ReadsSome ts base rs → Below (base + positions_of ts) rs
   some_below no_trees base rs h = absurd h
   some_below (tree t ts) base rs (inl h) = below_more (base + positions t) (base + (positions t + positions_of ts)) rs (omega arith) (tree_below t base rs h)
   some_below (tree t ts) base rs (inr h) = below_more (base + positions t + positions_of ts) (base + (positions t + positions_of ts)) rs (omega arith) (some_below ts (base + positions t) rs h)
 
-trail_below : (t : Option Tree) (base : ℕ) (rs : List Cell) → ReadsTrail t base rs → Below (base + positions_of_trail t) rs
+trail_below : (t : Option Tree) (base : ℕ) (rs : List MarkedByte) → ReadsTrail t base rs → Below (base + positions_of_trail t) rs
 trail_below None base rs e = below_none (base + 0) rs e
 trail_below (Some t) base rs h = tree_below t base rs h
 
-rule_below : (r : Rule) (base : ℕ) (rs : List Cell) → ReadsRule r base rs → Below (base + positions_of_rule r) rs
+rule_below : (r : Rule) (base : ℕ) (rs : List MarkedByte) → ReadsRule r base rs → Below (base + positions_of_rule r) rs
 rule_below r base rs (us, vs, e, here, rest) =
     subst (Below (base + positions_of_rule r)) (sym e)
     (below_append (base + positions_of_rule r) us vs (below_more (base + positions r.head) (base + positions_of_rule r) us (omega arith) (tree_below r.head base us here.0))
@@ -109,14 +109,14 @@ base_from (r ∷ rules) base (suc i) = let later = base_from rules (base + posit
 pub base_is : (rules : List Rule) (i : ℕ) → base_of rules 0 i ≡ all_positions (take i rules)
 base_is rules i = let from = base_from rules 0 i in omega (arith, from)
 
-active_below : (S : Spec) (c : ℕ) (line_start : Bool) (rs : List Cell) → ReadsActive S c line_start rs → Below (all_positions S.rules) rs
+active_below : (S : Spec) (c : ℕ) (line_start : Bool) (rs : List MarkedByte) → ReadsActive S c line_start rs → Below (all_positions S.rules) rs
 active_below S c line_start rs (i, r, at, on, reads) =
     let fits : base_of S.rules 0 i + positions_of_rule r ≤ 0 + all_positions S.rules = base_fits S.rules 0 i r at in
     let base = all_positions (take i S.rules) in
     let begins : base_of S.rules 0 i ≡ base = base_is S.rules i in
     below_more (base + positions_of_rule r) (all_positions S.rules) rs (omega (arith, fits, begins)) (rule_below r base rs reads)
 
-ends_below : (hi p b : ℕ) (rs zs : List Cell) → Below hi (rs ++ (b, p) ∷ zs) → p < hi
+ends_below : (hi p b : ℕ) (rs zs : List MarkedByte) → Below hi (rs ++ (b, p) ∷ zs) → p < hi
 unfolding Below
 ends_below hi p b [] zs k = k.0
 ends_below hi p b (c ∷ rs) zs k = ends_below hi p b rs zs k.1
@@ -224,7 +224,7 @@ never_no_lasts S none =
     }))
 
 -- A specification never has no count of subsets.
-pub never_no_count : (S : Spec) → ((n : ℕ) → Subsets S n → ⊥) → ⊥
+pub never_no_count : (S : Spec) → ((n : ℕ) → HasSubsets S n → ⊥) → ⊥
 never_no_count S none =
     never_no_starts S (λ starts are. never_no_lasts S (λ lasts have.
     none (1 + length starts + length lasts) (record { starts = starts; lasts = lasts; are_starts = are; are_lasts = have; total = refl })))

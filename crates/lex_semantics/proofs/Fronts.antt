@@ -5,7 +5,7 @@ use Rattle.std.proofs.lemmas.List.{append_assoc, length-append}
 use Rattle.std.proofs.lemmas.Bool.{ltb-true, lt-ltb, leb-true, le-leb, cond-true, and_parts, and_from}
 use Rattle.lex_semantics.proofs.WordReadings.{Joined, to_joined, of_joined}
 use Rattle.lex_semantics.specs.Text.{Among}
-use Rattle.lex_semantics.specs.Tree.{Tree, Trees, Empty, Set, Cat, Alt, Star, Repeat, no_trees, tree, In, InEach, InSome, Passes}
+use Rattle.lex_semantics.specs.Tree.{Tree, Trees, Empty, Set, Cat, Alt, Star, Repeat, no_trees, tree, In, InEach, InSome, Iterates}
 use Rattle.lex_semantics.specs.Plain.{Fronts, byte_front, times, up_to, shorter, rounds, any_times, repeated, fronts, fronts_each, fronts_some}
 use Rattle.lex_semantics.specs.ByteSets.{ByteSet, has}
 
@@ -171,10 +171,10 @@ joined_apart P (suc m) j w h =
 
 -- the words of a repetition
 abbrev pub Times : (List ℕ → Type 0) → ℕ → Option ℕ → List ℕ → Type 0
-Times P m n w = (k : ℕ) × (m ≤ k) × IfSome n (λ n. k ≤ n) × Passes (λ i. P) 0 k w
+Times P m n w = (k : ℕ) × (m ≤ k) × IfSome n (λ n. k ≤ n) × Iterates (λ i. P) 0 k w
 
 module _ (f : Fronts) (P : List ℕ → Type 0) (are : AreFronts f P) where
-  any_times_are : AreFronts (any_times f) (λ w. (k : ℕ) × Passes (λ i. P) 0 k w)
+  any_times_are : AreFronts (any_times f) (λ w. (k : ℕ) × Iterates (λ i. P) 0 k w)
   any_times_are = record {
     sound = λ w v h. (let r = rounds_sound f P are (length w) w v h in (r.1.0, r.1.1, (r.0, of_joined P 0 r.0 r.1.0 r.1.2)));
     complete = λ w v h. rounds_complete f P are h.2.0 (length w) w v (omega arith) (h.0, h.1, to_joined P 0 h.2.0 h.0 h.2.1);

@@ -4,7 +4,7 @@ use Rattle.std.specs.Prelude.{not, ◌&&◌}
 use Rattle.std.specs.List.{list_all}
 use Rattle.std.proofs.lemmas.Bool.{and_parts}
 use Rattle.lex_semantics.specs.Spec.{Statement, Echo, Print, Begin, More, Less, Reject, End, Push, Pop}
-use Rattle.lex_semantics.specs.Literals.{before, normal}
+use Rattle.lex_semantics.specs.Literals.{prepend, normal}
 use Rattle.lex_semantics.specs.Legal.{in_range, all_in_range, ends_action, ends_last, is_literal, are_joined}
 
 no_true : {A : Type 0} → false ≡ true → A
@@ -27,7 +27,7 @@ joined_tail : (s : Statement) (ss : List Statement) → are_joined (s ∷ ss) �
 joined_tail s [] h = refl
 joined_tail s (t ∷ ss) h = (and_parts (not (is_literal s && is_literal t)) (are_joined (t ∷ ss)) h).1
 
-joined_before : (s : Statement) (ss : List Statement) → are_joined ss ≡ true → are_joined (before s ss) ≡ true
+joined_before : (s : Statement) (ss : List Statement) → are_joined ss ≡ true → are_joined (prepend s ss) ≡ true
 joined_before (Print []) ss h = h
 joined_before (Print (b ∷ bs)) [] h = refl
 joined_before (Print (b ∷ bs)) (Print more ∷ []) h = refl
@@ -50,7 +50,7 @@ normal_joined (s ∷ ss) = joined_before s (normal ss) (normal_joined ss)
 pub joined_of_normal : (ss : List Statement) → normal ss ≡ ss → are_joined ss ≡ true
 joined_of_normal ss e = subst (λ z. are_joined z ≡ true) e (normal_joined ss)
 
-before_is : (n : ℕ) (s : Statement) (ss : List Statement) → in_range n s ≡ true → are_joined (s ∷ ss) ≡ true → before s ss ≡ s ∷ ss
+before_is : (n : ℕ) (s : Statement) (ss : List Statement) → in_range n s ≡ true → are_joined (s ∷ ss) ≡ true → prepend s ss ≡ s ∷ ss
 before_is n (Print []) ss h k = no_true h
 before_is n (Print (b ∷ bs)) [] h k = refl
 before_is n (Print (b ∷ bs)) (Print more ∷ ss) h k = no_true k
@@ -61,4 +61,4 @@ pub normal_of_joined : (n : ℕ) (ss : List Statement) → all_in_range n ss ≡
 normal_of_joined n [] h k = refl
 normal_of_joined n (s ∷ ss) h k =
     let both = and_parts (in_range n s) (all_in_range n ss) h in
-    ap (before s) (normal_of_joined n ss both.1 (joined_tail s ss k)) ∙ before_is n s ss both.0 k
+    ap (prepend s) (normal_of_joined n ss both.1 (joined_tail s ss k)) ∙ before_is n s ss both.0 k

@@ -1,22 +1,22 @@
 -- A word is in the language of a tree exactly if it has a reading.
 use Rattle.std.proofs.Common.{◌≡◌, ℕ, zero, suc, ◌+◌, ◌-◌, ◌*◌, min, List, [], ◌∷◌, ◌++◌, inl, inr, ◌↔◌, refl, sym, ap, ◌∙◌, subst}
-use Rattle.lex_semantics.specs.Tree.{Tree, Trees, Empty, Set, Cat, Alt, Star, Repeat, no_trees, tree, In, InEach, InSome, Passes}
-use Rattle.lex_semantics.specs.Positions.{copies, positions, Cell, Readings, bytes_of, Reads, ReadsEach, ReadsSome, ReadsWord, Matches}
+use Rattle.lex_semantics.specs.Tree.{Tree, Trees, Empty, Set, Cat, Alt, Star, Repeat, no_trees, tree, In, InEach, InSome, Iterates}
+use Rattle.lex_semantics.specs.Positions.{copies, positions, MarkedByte, Readings, bytes_of, Reads, ReadsEach, ReadsSome, ReadsWord, Matches}
 
-pub bytes_join : (us vs : List Cell) → bytes_of (us ++ vs) ≡ bytes_of us ++ bytes_of vs
+pub bytes_join : (us vs : List MarkedByte) → bytes_of (us ++ vs) ≡ bytes_of us ++ bytes_of vs
 bytes_join [] vs = refl
 bytes_join (c ∷ us) vs = ap (λ w. c.0 ∷ w) (bytes_join us vs)
 
 -- what passes read is the joining of as many words
-from_passes : (P : List ℕ → Type 0) (R : ℕ → Readings) → ((j : ℕ) (us : List Cell) → R j us → P (bytes_of us)) →
-    (k j : ℕ) (rs : List Cell) → Passes R j k rs → Passes (λ i. P) j k (bytes_of rs)
+from_passes : (P : List ℕ → Type 0) (R : ℕ → Readings) → ((j : ℕ) (us : List MarkedByte) → R j us → P (bytes_of us)) →
+    (k j : ℕ) (rs : List MarkedByte) → Iterates R j k rs → Iterates (λ i. P) j k (bytes_of rs)
 from_passes P R f zero j rs e = ap bytes_of e
 from_passes P R f (suc k) j rs (us, vs, e, here, rest) =
     (bytes_of us, bytes_of vs, ap bytes_of e ∙ bytes_join us vs, f j us here, from_passes P R f k (suc j) vs rest)
 
 -- a joining of words can be read in as many passes
 to_passes : (P : List ℕ → Type 0) (R : ℕ → Readings) → ((j : ℕ) (w : List ℕ) → P w → ReadsWord (R j) w) →
-    (k j : ℕ) (w : List ℕ) → Passes (λ i. P) j k w → ReadsWord (Passes R j k) w
+    (k j : ℕ) (w : List ℕ) → Iterates (λ i. P) j k w → ReadsWord (Iterates R j k) w
 to_passes P R f zero j w e = ([], sym e, refl)
 to_passes P R f (suc k) j w (u, v, e, here, rest) =
     let (us, is_u, read) = f j u here in
@@ -28,16 +28,16 @@ abbrev pub Joined : (List ℕ → Type 0) → ℕ → List ℕ → Type 0
 Joined P zero w = w ≡ []
 Joined P (suc k) w = (u v : List ℕ) × (w ≡ u ++ v) × P u × Joined P k v
 
-pub to_joined : (P : List ℕ → Type 0) (j k : ℕ) (w : List ℕ) → Passes (λ i. P) j k w → Joined P k w
+pub to_joined : (P : List ℕ → Type 0) (j k : ℕ) (w : List ℕ) → Iterates (λ i. P) j k w → Joined P k w
 to_joined P j zero w e = e
 to_joined P j (suc k) w (u, v, e, here, rest) = (u, v, e, here, to_joined P (suc j) k v rest)
 
-pub of_joined : (P : List ℕ → Type 0) (j k : ℕ) (w : List ℕ) → Joined P k w → Passes (λ i. P) j k w
+pub of_joined : (P : List ℕ → Type 0) (j k : ℕ) (w : List ℕ) → Joined P k w → Iterates (λ i. P) j k w
 of_joined P j zero w e = e
 of_joined P j (suc k) w (u, v, e, here, rest) = (u, v, e, here, of_joined P (suc j) k v rest)
 
 mutual
-  word_of : (t : Tree) (base : ℕ) (rs : List Cell) → Reads t base rs → In t (bytes_of rs)
+  word_of : (t : Tree) (base : ℕ) (rs : List MarkedByte) → Reads t base rs → In t (bytes_of rs)
   word_of Empty base rs e = ap bytes_of e
   word_of (Set s) base rs (b, e, is) = (b, ap bytes_of e, is)
   word_of (Cat ts) base rs h = word_of_each ts base rs h
@@ -46,12 +46,12 @@ mutual
   word_of (Repeat t m n) base rs (k, least, most, passes) =
       (k, least, most, from_passes (In t) (λ j. Reads t (base + min j (copies m n - 1) * positions t)) (λ j us h. word_of t (base + min j (copies m n - 1) * positions t) us h) k 0 rs passes)
 
-  word_of_each : (ts : Trees) (base : ℕ) (rs : List Cell) → ReadsEach ts base rs → InEach ts (bytes_of rs)
+  word_of_each : (ts : Trees) (base : ℕ) (rs : List MarkedByte) → ReadsEach ts base rs → InEach ts (bytes_of rs)
   word_of_each no_trees base rs e = ap bytes_of e
   word_of_each (tree t ts) base rs (us, vs, e, here, rest) =
       (bytes_of us, bytes_of vs, ap bytes_of e ∙ bytes_join us vs, word_of t base us here, word_of_each ts (base + positions t) vs rest)
 
-  word_of_some : (ts : Trees) (base : ℕ) (rs : List Cell) → ReadsSome ts base rs → InSome ts (bytes_of rs)
+  word_of_some : (ts : Trees) (base : ℕ) (rs : List MarkedByte) → ReadsSome ts base rs → InSome ts (bytes_of rs)
   word_of_some no_trees base rs h = h
   word_of_some (tree t ts) base rs (inl h) = inl (word_of t base rs h)
   word_of_some (tree t ts) base rs (inr h) = inr (word_of_some ts (base + positions t) rs h)

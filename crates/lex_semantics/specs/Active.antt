@@ -6,16 +6,16 @@ use Rattle.std.specs.Option.{option_map_or}
 use Rattle.lex_semantics.specs.Spec.{Spec, Rule, Condition}
 
 -- whether a number is in the list
-abbrev pub lists : List ℕ → ℕ → Bool
-lists cs c = list_any (λ d. d == c) cs
+abbrev pub contains : List ℕ → ℕ → Bool
+contains cs c = list_any (λ d. d == c) cs
 
 -- A rule with a list is active in just the conditions there, and one without in the inclusive ones. (POSIX, start
 -- conditions.) With `^` it is so only at the start of a line.
 abbrev pub active : Spec → ℕ → Bool → Rule → Bool
 active S c line_start r =
-    option_map_or (λ l. lists l c) r.conditions (option_map_or (λ k. not k.exclusive) (slice_get S.conditions c) false)
+    option_map_or (λ l. contains l c) r.conditions (option_map_or (λ k. not k.exclusive) (slice_get S.conditions c) false)
     && (not r.anchored || line_start)
 
 -- A name that the code has for the first part of this.
 abbrev pub serves : Option (List ℕ) → ℕ → Option Condition → Bool
-serves list c k = option_map_or (λ cs. lists cs c) list (option_map_or (λ k. not k.exclusive) k false)
+serves list c k = option_map_or (λ cs. contains cs c) list (option_map_or (λ k. not k.exclusive) k false)

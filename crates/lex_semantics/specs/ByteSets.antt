@@ -54,8 +54,8 @@ is_blank b = b == 9 || b == 32
 unfoldable pub is_xdigit : ℕ → Bool
 is_xdigit b = is_digit b || within 65 70 b || within 97 102 b
 
-abbrev pub is_word : List ℕ → List ℕ → Bool
-is_word name word = pointwise nat_eq name word
+abbrev pub same_bytes : List ℕ → List ℕ → Bool
+same_bytes name word = pointwise nat_eq name word
 
 -- each class: its name, and which bytes are in it
 abbrev pub classes : List (List ℕ × (ℕ → Bool))
@@ -76,7 +76,7 @@ classes =
 
 -- the class of a name, where there is one
 unfoldable pub named_set : List ℕ → Option ByteSet
-named_set name = option_map set_of (lookup (is_word name) classes)
+named_set name = option_map set_of (lookup (same_bytes name) classes)
 
 -- 1 for true, and 0 for false
 abbrev pub bit_of : Bool → ℕ

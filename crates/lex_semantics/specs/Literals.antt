@@ -9,11 +9,11 @@ literal_of (Print bs) = bs
 literal_of _ = []
 
 -- a statement before others in normal form: an empty literal is dropped, and one before another is joined with it
-abbrev pub before : Statement → List Statement → List Statement
-before (Print []) ss = ss
-before (Print (b ∷ bs)) (Print more ∷ ss) = Print (b ∷ bs ++ more) ∷ ss
-before s ss = s ∷ ss
+abbrev pub prepend : Statement → List Statement → List Statement
+prepend (Print []) ss = ss
+prepend (Print (b ∷ bs)) (Print more ∷ ss) = Print (b ∷ bs ++ more) ∷ ss
+prepend s ss = s ∷ ss
 
 abbrev pub normal : List Statement → List Statement
 normal [] = []
-normal (s ∷ ss) = before s (normal ss)
+normal (s ∷ ss) = prepend s (normal ss)

@@ -2,7 +2,7 @@
 -- (POSIX, lex, Definitions in lex: names and blanks; numbers as in C.)
 use Rattle.std.specs.Prelude.{◌≡◌, ℕ, suc, ◌+◌, ◌*◌, ◌%◌, Bool, ◌||◌, ◌==◌, if◌then◌else◌, List, [], ◌∷◌, length, fold, Option, Some, option_and_then, nat_eq}
 use Rattle.std.specs.List.{starts_with}
-use Rattle.lex_semantics.specs.ByteSets.{is_word, is_alpha, is_alnum, is_blank, is_digit}
+use Rattle.lex_semantics.specs.ByteSets.{same_bytes, is_alpha, is_alnum, is_blank, is_digit}
 
 -- one step after another, where each may refuse
 infixl 10 ◌>>=◌
@@ -13,12 +13,12 @@ abbrev pub Reader : Type 0 → Type 0
 Reader A = List ℕ → Option (A × List ℕ)
 
 -- The text is these items, one after another, up to a rest that is done.
-abbrev pub IsCut : {A : Type 0} → Reader A → (List ℕ → Type 0) → List ℕ → List A → Type 0
-IsCut item_at Done text [] = Done text
-IsCut item_at Done text (x ∷ xs) = (rest : List ℕ) × (item_at text ≡ Some (x, rest)) × IsCut item_at Done rest xs
+abbrev pub IsReadAs : {A : Type 0} → Reader A → (List ℕ → Type 0) → List ℕ → List A → Type 0
+IsReadAs item_at Done text [] = Done text
+IsReadAs item_at Done text (x ∷ xs) = (rest : List ℕ) × (item_at text ≡ Some (x, rest)) × IsReadAs item_at Done rest xs
 
 abbrev pub is_empty : List ℕ → Bool
-is_empty t = is_word t []
+is_empty t = same_bytes t []
 
 abbrev pub begins : List ℕ → List ℕ → Bool
 begins word t = starts_with nat_eq t word

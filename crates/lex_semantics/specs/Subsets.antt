@@ -4,7 +4,7 @@ use Rattle.std.specs.Prelude.{◌≡◌, ◌≢◌, ℕ, zero, suc, ◌+◌, ◌
 use Rattle.std.specs.Option.{option_map_or}
 use Rattle.lex_semantics.specs.Text.{IsText, Among, Pairwise}
 use Rattle.lex_semantics.specs.Tree.{Tree}
-use Rattle.lex_semantics.specs.Positions.{positions, Cell, Reads}
+use Rattle.lex_semantics.specs.Positions.{positions, MarkedByte, Reads}
 use Rattle.lex_semantics.specs.Spec.{Spec, Rule}
 use Rattle.lex_semantics.specs.Active.{active}
 
@@ -14,20 +14,20 @@ all_positions [] = 0
 all_positions (r ∷ rs) = positions r.head + option_map_or positions r.trail 0 + all_positions rs
 
 -- a word of the head that is not empty, and then a word of the trail, where there is one
-abbrev pub ReadsRule : Rule → ℕ → List Cell → Type 0
+abbrev pub ReadsRule : Rule → ℕ → List MarkedByte → Type 0
 ReadsRule r base rs =
-    (us vs : List Cell) × (rs ≡ us ++ vs) × (Reads r.head base us × (us ≢ []))
+    (us vs : List MarkedByte) × (rs ≡ us ++ vs) × (Reads r.head base us × (us ≢ []))
     × MatchOption r.trail (vs ≡ []) (λ t. Reads t (base + positions r.head) vs)
 
 -- a reading of an active rule, whose positions come after those of the rules before it
-abbrev pub ReadsActive : Spec → ℕ → Bool → List Cell → Type 0
+abbrev pub ReadsActive : Spec → ℕ → Bool → List MarkedByte → Type 0
 ReadsActive S c line_start rs =
     (i : ℕ) × (r : Rule) × (slice_get S.rules i ≡ Some r) × (active S c line_start r ≡ true)
     × ReadsRule r (all_positions (take i S.rules)) rs
 
 -- some reading begins with the word, and reads its last byte at p
-abbrev pub IsLast : (List Cell → Type 0) → List ℕ → ℕ → Type 0
-IsLast R w p = (rs zs : List Cell) × (b : ℕ) × (map (λ c. c.0) rs ++ b ∷ [] ≡ w) × R (rs ++ (b, p) ∷ zs)
+abbrev pub IsLast : (List MarkedByte → Type 0) → List ℕ → ℕ → Type 0
+IsLast R w p = (rs zs : List MarkedByte) × (b : ℕ) × (map (λ c. c.0) rs ++ b ∷ [] ≡ w) × R (rs ++ (b, p) ∷ zs)
 
 -- the list has each member of the set and nothing else, in order
 abbrev pub ListsSet : List ℕ → (ℕ → Type 0) → Type 0
@@ -40,7 +40,7 @@ pub record AreAll (Kind : List ℕ → Type 0) (ls : List (List ℕ)) : Type 0 w
 
 -- How many states there are before minimising: the dead one, one for each set of active rules, and one for each set of
 -- last positions of a word that is not empty. The empty sets are left out.
-pub record Subsets (S : Spec) (n : ℕ) : Type 0 where
+pub record HasSubsets (S : Spec) (n : ℕ) : Type 0 where
   pub starts : List (List ℕ)
   pub lasts : List (List ℕ)
   pub are_starts : AreAll (λ l. (c : ℕ) × (line_start : Bool) × (c < length S.conditions) × ListsSet l (λ i.
@@ -63,7 +63,7 @@ base_of (r ∷ rs) base (suc i) = base_of rs (base + positions_of_rule r) i
 abbrev pub positions_of_trail : Option Tree → ℕ
 positions_of_trail trail = option_map_or positions trail 0
 
-abbrev pub ReadsTrail : Option Tree → ℕ → List Cell → Type 0
+abbrev pub ReadsTrail : Option Tree → ℕ → List MarkedByte → Type 0
 ReadsTrail trail base rs = MatchOption trail (rs ≡ []) (λ t. Reads t base rs)
 
 abbrev pub Distinct : List (List ℕ) → Type 0

@@ -27,9 +27,9 @@ trees [] = no_trees
 trees (t ∷ ts) = tree t (trees ts)
 
 -- the joining of k lists: of P j, then of P (j + 1), and so on
-abbrev pub Passes : {X : Type 0} → (ℕ → List X → Type 0) → ℕ → ℕ → List X → Type 0
-Passes P j zero w = w ≡ []
-Passes {X} P j (suc k) w = (u v : List X) × (w ≡ u ++ v) × P j u × Passes P (suc j) k v
+abbrev pub Iterates : {X : Type 0} → (ℕ → List X → Type 0) → ℕ → ℕ → List X → Type 0
+Iterates P j zero w = w ≡ []
+Iterates {X} P j (suc k) w = (u v : List X) × (w ≡ u ++ v) × P j u × Iterates P (suc j) k v
 
 -- a word of the tree's language
 abbrev mutual
@@ -38,8 +38,8 @@ abbrev mutual
   In (Set s) w = (b : ℕ) × (w ≡ b ∷ []) × IsIn s b
   In (Cat ts) w = InEach ts w
   In (Alt ts) w = InSome ts w
-  In (Star t) w = (k : ℕ) × Passes (λ j. In t) 0 k w
-  In (Repeat t m n) w = (k : ℕ) × (m ≤ k) × IfSome n (λ n. k ≤ n) × Passes (λ j. In t) 0 k w
+  In (Star t) w = (k : ℕ) × Iterates (λ j. In t) 0 k w
+  In (Repeat t m n) w = (k : ℕ) × (m ≤ k) × IfSome n (λ n. k ≤ n) × Iterates (λ j. In t) 0 k w
 
   -- the joining of words of the trees, in order
   pub InEach : Trees → List ℕ → Type 0

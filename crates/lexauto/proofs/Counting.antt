@@ -6,7 +6,7 @@ use Rattle.std.proofs.lemmas.Option.{slice_get_within}
 use Rattle.lex_semantics.specs.Text.{IsText, Among, listed}
 use Rattle.lex_semantics.specs.Spec.{Spec, Rule}
 use Rattle.lex_semantics.specs.Sound.{IsSound}
-use Rattle.lex_semantics.specs.Subsets.{IsLast, ReadsActive, IsActive, ListsSet, Distinct, AreStarts, AreLasts, Subsets}
+use Rattle.lex_semantics.specs.Subsets.{IsLast, ReadsActive, IsActive, ListsSet, Distinct, AreStarts, AreLasts, HasSubsets}
 use Rattle.lex_semantics.proofs.Fronts.{among_left, among_right}
 use Rattle.lexauto_positions.specs.RuleAutomaton.{is_on, is_active}
 use Rattle.lexauto.specs.Sets.{tagged}
@@ -268,7 +268,7 @@ module _ (S : Spec) where
       );
     }
 
-    pub counted : Subsets S (length keys)
+    pub counted : HasSubsets S (length keys)
     counted = record {
       starts = starts_list keys;
       lasts = lasts_list keys;
@@ -312,7 +312,7 @@ among_map f (x ∷ ls) l (inl e) = inl (ap f e)
 among_map f (x ∷ ls) l (inr h) = inr (among_map f ls l h)
 
 -- more keys than a limit, and so more subsets
-pub too_many_subsets : (S : Spec) (limit n : ℕ) → MoreThan limit (Shape S) → Subsets S n → limit < n
+pub too_many_subsets : (S : Spec) (limit n : ℕ) → MoreThan limit (Shape S) → HasSubsets S n → limit < n
 too_many_subsets S limit n (ks, many, apart, shapes) s =
     let C = [] ∷ (map (λ l. 0 ∷ l) s.starts ++ map (λ l. 1 ∷ l) s.lasts) in
     let size : length C ≡ 1 + (length s.starts + length s.lasts) =
@@ -360,7 +360,7 @@ module _ (S : Spec) where
   lasts_inside : (ls ms : List (List ℕ)) → AreLasts S ls → AreLasts S ms → length ls ≤ length ms
   lasts_inside ls ms a b = no_more_of ls ms a.distinct (λ l h. (b.listed l).1 ((a.listed l).0 h))
 
-  pub counts_agree : (m n : ℕ) → Subsets S m → Subsets S n → m ≡ n
+  pub counts_agree : (m n : ℕ) → HasSubsets S m → HasSubsets S n → m ≡ n
   counts_agree m n s t =
       let a = starts_inside s.starts t.starts s.are_starts t.are_starts in
       let b = starts_inside t.starts s.starts t.are_starts s.are_starts in

@@ -4,7 +4,7 @@ use Rattle.std.proofs.Common.{rules, inl, inr, refl, ap, sym, ◌∙◌, arith}
 use Rattle.std.proofs.lemmas.Bool.{cases_Bool, ltb-true}
 use Rattle.std.proofs.Math.Path.{fun_ext}
 use Rattle.lex_semantics.specs.Text.{Among, listed}
-use Rattle.lex_semantics.specs.Active.{lists}
+use Rattle.lex_semantics.specs.Active.{contains}
 use Rattle.lex_semantics.specs.Spec.{Rule}
 use Rattle.lex_semantics.specs.Subsets.{all_positions}
 use Rattle.lexauto_positions.specs.Cursors.{Increases}
@@ -16,7 +16,7 @@ use Rattle.lexauto_positions.proofs.Numbers.{lists_is, listed_is}
 use Rattle.lexauto_positions.proofs.Quiet.{not_true}
 
 pub marked_is : (n : ℕ) (xs : List ℕ) (x : ℕ) → (marked n xs x ≡ true) ↔ ((x < n) × Among xs x)
-marked_is n xs x = both (and_is (nat_lt x n) (lists xs x)) ((λ h. (ltb-true x n h.0, (lists_is xs x).0 h.1)), (λ h. (lt_test x n h.0, (lists_is xs x).1 h.1)))
+marked_is n xs x = both (and_is (nat_lt x n) (contains xs x)) ((λ h. (ltb-true x n h.0, (lists_is xs x).0 h.1)), (λ h. (lt_test x n h.0, (lists_is xs x).1 h.1)))
   where
     lt_test : (a b : ℕ) → a < b → nat_lt a b ≡ true
     lt_test a b h = search rules
@@ -47,8 +47,8 @@ none_marked n i xs e = from (nat_lt i n) ∙ ap (λ (ys : List ℕ). marked n ys
     from false = refl
 
 -- numbers that are all less than n are those of them that are
-pub all_marked : (n : ℕ) (l : List ℕ) → ((j : ℕ) → j < length l → slice_index l j < n) → (i : ℕ) → lists l i ≡ marked n l i
-all_marked n l h i = elim (cases_Bool (lists l i)) [
+pub all_marked : (n : ℕ) (l : List ℕ) → ((j : ℕ) → j < length l → slice_index l j < n) → (i : ℕ) → contains l i ≡ marked n l i
+all_marked n l h i = elim (cases_Bool (contains l i)) [
   | inl y ↦ (let a = (lists_is l i).0 y in let r = among_at l i a in let low = h r.0 r.1 in let e = r.2 in
       y ∙ sym ((marked_is n l i).1 (omega (arith, low, e), a)))
   | inr f ↦ f ∙ sym (not_true (marked n l i) (λ m. no_true (sym f ∙ (lists_is l i).1 ((marked_is n l i).0 m).1)))
@@ -62,14 +62,14 @@ below_last n l inc last j low = elim (let d : (j ≡ length l - 1) ⊎ (j < leng
 ]
 
 -- the numbers with a flag, listed
-pub listed_flags : (n : ℕ) (f : ℕ → Bool) → ((i : ℕ) → f i ≡ true → i < n) → (i : ℕ) → lists (listed f 0 n) i ≡ f i
+pub listed_flags : (n : ℕ) (f : ℕ → Bool) → ((i : ℕ) → f i ≡ true → i < n) → (i : ℕ) → contains (listed f 0 n) i ≡ f i
 listed_flags n f low i = elim (cases_Bool (f i)) [
   | inl y ↦ (lists_is (listed f 0 n) i).1 ((listed_is f n i).1 (low i y, y)) ∙ sym y
-  | inr e ↦ not_true (lists (listed f 0 n) i) (λ h. no_true (sym e ∙ ((listed_is f n i).0 ((lists_is (listed f 0 n) i).0 h)).1)) ∙ sym e
+  | inr e ↦ not_true (contains (listed f 0 n) i) (λ h. no_true (sym e ∙ ((listed_is f n i).0 ((lists_is (listed f 0 n) i).0 h)).1)) ∙ sym e
 ]
 
 -- those that are marked are less than n
-pub below_marked : (n : ℕ) (l xs : List ℕ) → ((i : ℕ) → lists l i ≡ marked n xs i) → (j : ℕ) → j < length l → slice_index l j < n
+pub below_marked : (n : ℕ) (l xs : List ℕ) → ((i : ℕ) → contains l i ≡ marked n xs i) → (j : ℕ) → j < length l → slice_index l j < n
 below_marked n l xs h j low = ((marked_is n xs (slice_index l j)).0 (sym (h (slice_index l j)) ∙ (lists_is l (slice_index l j)).1 (at_among l j low))).0
 
 -- the rules that are left, whose positions are listed

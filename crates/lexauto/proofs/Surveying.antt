@@ -4,7 +4,7 @@ use Rattle.std.proofs.Common.{sym, subst, arith}
 use Rattle.std.proofs.lemmas.Option.{slice_get_within, slice_get-get_or}
 use Rattle.lex_semantics.specs.Spec.{Spec}
 use Rattle.lex_semantics.specs.Sound.{IsSound}
-use Rattle.lex_semantics.specs.Subsets.{Subsets, all_positions}
+use Rattle.lex_semantics.specs.Subsets.{HasSubsets, all_positions}
 use Rattle.lexauto.specs.Moving.{followers_in, reading_in}
 use Rattle.lexauto.specs.Keys.{Key, At}
 use Rattle.lexauto.specs.Explored.{IsAutomaton, MoreThan, Reached, key_at, step_by}
@@ -29,11 +29,11 @@ module _ (S : Spec) (keys : List Key) (next starts line_starts : List ℕ) (s : 
       slice_get_within keys (slice_index next i) _ (subst (λ (j : ℕ). At keys (slice_index next j) (step_in S (key_at keys (i / 256)) (i % 256))) same at)
 
 module _ (S : Spec) (limit n : ℕ) where
-  pub more_roots_than : MoreThan limit (IsRoot S) → Subsets S n → limit < n
+  pub more_roots_than : MoreThan limit (IsRoot S) → HasSubsets S n → limit < n
   more_roots_than (ks, many, apart, roots) s = too_many_subsets S limit n (ks, many, apart, λ i k a. root_shape S k (roots i k a)) s
 
   pub more_keys_than : IsSound S → (count : ℕ) → all_positions S.rules ≡ count → (roots : List Key) → ((i : ℕ) (k : Key) → At roots i k → IsRoot S k)
-      → MoreThan limit (Reached (step_by (followers_in S.rules count) (reading_in S.rules)) roots) → Subsets S n → limit < n
+      → MoreThan limit (Reached (step_by (followers_in S.rules count) (reading_in S.rules)) roots) → HasSubsets S n → limit < n
   more_keys_than sound count same roots only more s =
       let (ks, many, apart, reached) = subst (λ (m : ℕ). MoreThan limit (Reached (step_by (followers_in S.rules m) (reading_in S.rules)) roots)) (sym same) more in
       too_many_subsets S limit n (ks, many, apart, λ i k a. reached_shape S sound roots only k (reached i k a)) s

@@ -6,7 +6,7 @@ use Rattle.std.proofs.Math.Path.{fun_ext}
 use Rattle.std.proofs.lemmas.List.{append_assoc}
 use Rattle.std.proofs.lemmas.Option.{slice_get_within}
 use Rattle.lex_semantics.specs.Text.{IsText, Among, Ascending, listed}
-use Rattle.lex_semantics.specs.Positions.{Cell}
+use Rattle.lex_semantics.specs.Positions.{MarkedByte}
 use Rattle.lex_semantics.specs.Spec.{Spec, Rule}
 use Rattle.lex_semantics.specs.Rules.{Live}
 use Rattle.lex_semantics.specs.Sound.{IsSound}
@@ -40,7 +40,7 @@ none_first on off i base (r ∷ rules) q h = elim h [
     gate false x out f = f
 
 -- a letter of an active rule is one of all rules
-letter_every : (on : ℕ → Bool) (i base : ℕ) (rules : List Rule) (e : Cell) → (active_quad on i base rules).letter e → (active_quad every i base rules).letter e
+letter_every : (on : ℕ → Bool) (i base : ℕ) (rules : List Rule) (e : MarkedByte) → (active_quad on i base rules).letter e → (active_quad every i base rules).letter e
 letter_every on i base [] e h = h
 letter_every on i base (r ∷ rules) e h = elim h [
   | inl f ↦ inl (gate (on i) (rule_quad r base) f)

@@ -1,14 +1,14 @@
 -- Sets of rules and positions as lists, and the keys of states. A key's first number says what kind of state it is for.
 -- (This project's.)
 use Rattle.std.specs.Prelude.{ℕ, zero, suc, ◌&&◌, Bool, List, [], ◌∷◌, nat_lt}
-use Rattle.lex_semantics.specs.Active.{lists}
+use Rattle.lex_semantics.specs.Active.{contains}
 use Rattle.lexauto.specs.Keys.{Key}
 use Rattle.lexauto.specs.declared.sets.KeyKind.{KeyKind}
 use Rattle.lexauto.specs.declared.sets.KeyKind.TheVariants.{ActiveRules, LastPositions}
 
 -- the number is in the list, and below n
 abbrev pub marked : ℕ → List ℕ → ℕ → Bool
-marked n xs i = nat_lt i n && lists xs i
+marked n xs i = nat_lt i n && contains xs i
 
 -- the number that a key of this kind begins with
 abbrev pub number_of : KeyKind → ℕ

@@ -6,7 +6,7 @@ ghost use Rattle.lex_semantics.specs.Reports.{HasFit};
 ghost use Rattle.lex_semantics.specs.Sound.{IsSound};
 ghost use Rattle.lex_semantics.specs.Text.{IsText, Among};
 ghost use Rattle.lex_semantics.specs.TableFor.{TableFor};
-ghost use Rattle.lex_semantics.specs.Subsets.{all_positions, Subsets};
+ghost use Rattle.lex_semantics.specs.Subsets.{all_positions, HasSubsets};
 ghost use Rattle.lexauto_dfa.specs.Machines.{machine_with, moving};
 ghost use Rattle.lexauto_positions.specs.RuleFlow.{rules_left};
 ghost use Rattle.lexauto.specs.Sets.{marked, lasts_in};
@@ -39,5 +39,5 @@ pub fn tables_of_keys()
 
 /// There is at most one count of subsets.
 pub fn one_count()
-    ensures { (S : Spec) (m n : ℕ) → Subsets S m → Subsets S n → m ≡ n }
+    ensures { (S : Spec) (m n : ℕ) → HasSubsets S m → HasSubsets S n → m ≡ n }
 {}

@@ -2,7 +2,7 @@
 ghost use Rattle.std.specs.Prelude.{◌≡◌, ◌<◌, ◌≤◌, ◌^◌, ◌∷◌, ℕ, true, length, slice_index, IfOk};
 ghost use Rattle.std.specs.List.{filter};
 ghost use Rattle.lex_semantics.specs.Text.{flag, listed};
-ghost use Rattle.lex_semantics.specs.Active.{lists};
+ghost use Rattle.lex_semantics.specs.Active.{contains};
 ghost use Rattle.lexauto_positions.specs.Cursors.{Increases};
 ghost use Rattle.lexauto.specs.Sets.{marked, number_of, tagged, starts_in, lasts_in};
 
@@ -110,7 +110,7 @@ pub(crate) fn in_order(
     requires few { count < 2 ^ 32 }
     requires order { ascends ≡ true → Increases numbers.now }
     ensures increases { IfOk result (λ v. Increases v.items) }
-    ensures same { IfOk result (λ v. (i : ℕ) → lists v.items i ≡ marked count numbers.now i) }
+    ensures same { IfOk result (λ v. (i : ℕ) → contains v.items i ≡ marked count numbers.now i) }
 {
     if is_in_order(count, numbers, ascends) {
         return Vec::from_slice(alloc, numbers);

@@ -1,7 +1,7 @@
 //! Where matches start: the active rules of each condition, at the start of a line or not.
 ghost use Rattle.std.specs.Prelude.{◌≡◌, ◌<◌, ◌≤◌, ◌&&◌, ◌||◌, [], ◌∷◌, not, ℕ, false, true, length, slice_get};
 ghost use Rattle.std.specs.Prelude.{slice_index, option_map, List, IfOk, OnOk, IsErrOf};
-ghost use Rattle.lex_semantics.specs.Active.{lists, serves, active};
+ghost use Rattle.lex_semantics.specs.Active.{contains, serves, active};
 ghost use Rattle.lexspec_actions.specs.Views.{condition_of};
 ghost use Rattle.lexspec.specs.Views.{spec_of, conditions_in};
 ghost use Rattle.lexauto.specs.Keys.{Key, At, Finds};
@@ -16,8 +16,8 @@ use std::alloc::{AllocError, Global};
 use std::collections::BTreeMap;
 
 /// Whether a number is in the list.
-fn lists(numbers: &[u8], number: usize) -> bool
-    ensures { result ≡ lists numbers.now number }
+fn contains(numbers: &[u8], number: usize) -> bool
+    ensures { result ≡ contains numbers.now number }
 {
     for other in numbers {
         if usize::from(*other) == number {
@@ -35,7 +35,7 @@ fn is_active(condition: &Condition, number: usize, line_start: bool, rule: &Rule
 {
     let serves = match &rule.conditions {
         None => !condition.exclusive,
-        Some(numbers) => lists(numbers, number),
+        Some(numbers) => contains(numbers, number),
     };
     serves && (!rule.anchored || line_start)
 }

@@ -1,7 +1,7 @@
 //! The automaton of a specification, by subset construction.
 ghost use Rattle.std.specs.Prelude.{◌≡◌, ◌<◌, ◌≤◌, ◌^◌, ℕ, length, IfOk, IsErrOf};
 ghost use Rattle.lex_semantics.specs.Limits.{max_states, max_positions};
-ghost use Rattle.lex_semantics.specs.Subsets.{all_positions, Subsets};
+ghost use Rattle.lex_semantics.specs.Subsets.{all_positions, HasSubsets};
 ghost use Rattle.lex_semantics.specs.TableFor.{TableFor};
 ghost use Rattle.lex_semantics.specs.MachineLaws.{MachineLaws};
 ghost use Rattle.lexspec.specs.Views.{spec_of, rules_in, conditions_in};
@@ -53,7 +53,7 @@ fn explore_spec(alloc: Global, moves: &RuleMoves, limit: u32) -> Result<Survey, 
     ensures len { IfOk result (λ s. length s.goes_on.items ≡ length s.keys.items) }
     ensures goes_on { IfOk result (λ s. GoOnBy (spec_of moves.now.spec.now) (kept_in s.keys.items) s.goes_on.items) }
     ensures too_many { IsErrOf result ExploreError.TooMany → (n : ℕ)
-        → Subsets (spec_of moves.now.spec.now) n → limit < n }
+        → HasSubsets (spec_of moves.now.spec.now) n → limit < n }
 {
     let mut table = dead_root(alloc, limit)?;
     let starts = add_starts(alloc, moves.spec, false, &mut table, limit)?;
@@ -81,7 +81,7 @@ pub fn build(alloc: Global, spec: &Spec, limits: Limits) -> Result<Dfa, BuildErr
     ensures reached { IfOk result (λ d. (p : ℕ) → p < states_of d
         → IsDeadOrReached (machine_of d (spec_of spec.now)) (spec_of spec.now) p) }
     ensures laws { IfOk result (λ d. MachineLaws (machine_of d (spec_of spec.now))) }
-    ensures states { IfOk result (λ d. Subsets (spec_of spec.now) (states_of d)) }
+    ensures states { IfOk result (λ d. HasSubsets (spec_of spec.now) (states_of d)) }
     ensures few_positions { IfOk result (λ d. all_positions (rules_in (spec_of spec.now)) ≤ limits.positions) }
     ensures few_states { IfOk result (λ d. states_of d ≤ limits.states) }
     ensures too_many_positions { IsErrOf result BuildError.TooManyPositions
@@ -89,7 +89,7 @@ pub fn build(alloc: Global, spec: &Spec, limits: Limits) -> Result<Dfa, BuildErr
     ensures refused { limits.positions < all_positions (rules_in (spec_of spec.now))
         → IsErrOf result BuildError.TooManyPositions }
     ensures too_many_states { IsErrOf result BuildError.TooManyStates → (n : ℕ)
-        → Subsets (spec_of spec.now) n → limits.states < n }
+        → HasSubsets (spec_of spec.now) n → limits.states < n }
 {
     let count = match count_positions(spec.rules(), limits.positions) {
         Some(count) => count as usize,

@@ -2,7 +2,7 @@
 use Rattle.std.specs.Prelude.{◌≡◌, ◌≢◌, ◌↔◌, ℕ, suc, ◌+◌, ◌<◌, ◌≤◌, Bool, true, false, IsTrue, ◌⊎◌, List, [], ◌∷◌, ◌++◌, Option, Some, None}
 use Rattle.std.proofs.Common.{inl, inr, refl, arith}
 use Rattle.lex_semantics.specs.Tree.{Tree}
-use Rattle.lex_semantics.specs.Positions.{Cell, Readings, positions, Reads}
+use Rattle.lex_semantics.specs.Positions.{MarkedByte, Readings, positions, Reads}
 use Rattle.lex_semantics.specs.Shapes.{IsSoundTree}
 use Rattle.lex_semantics.specs.Subsets.{IsLast, positions_of_rule, positions_of_trail, all_positions, ReadsTrail, ReadsRule}
 use Rattle.lex_semantics.specs.Spec.{Rule}
@@ -20,11 +20,11 @@ nonempty_is x L a b d = record {
   complete = back;
 }
   where
-    to : (rs : List Cell) → Whole (nonempty x) rs → L rs × (rs ≢ [])
+    to : (rs : List MarkedByte) → Whole (nonempty x) rs → L rs × (rs ≢ [])
     to [] w = absurd w
     to (c ∷ rs) w = (d.sound (c ∷ rs) (w.0, w.1, from_more (nonempty x) x (λ p h. h) (λ p q h. h) (λ e h. h) c rs w.2), λ e. absurd cc)
 
-    back : (rs : List Cell) → L rs × (rs ≢ []) → Whole (nonempty x) rs
+    back : (rs : List MarkedByte) → L rs × (rs ≢ []) → Whole (nonempty x) rs
     back [] h = absurd (h.1 refl)
     back (c ∷ rs) h = let w = d.complete (c ∷ rs) h.0 in (w.0, w.1, from_more x (nonempty x) (λ p h. h) (λ p q h. h) (λ e h. h) c rs w.2)
 
@@ -140,11 +140,11 @@ shared_follow on i base (r ∷ rules) p q o f =
           ])
     ]
 
-gated_letter : (on : Bool) (x : Quad) (c : Cell) → Occurs (gated on x) c.1 → x.letter c → (gated on x).letter c
+gated_letter : (on : Bool) (x : Quad) (c : MarkedByte) → Occurs (gated on x) c.1 → x.letter c → (gated on x).letter c
 gated_letter true x c o f = f
 gated_letter false x c o f = elim o [ inl g ↦ absurd g | inr g ↦ absurd g.1 ]
 
-pub shared_letter : (on : ℕ → Bool) (i base : ℕ) (rules : List Rule) (e : Cell) → Occurs (active_quad on i base rules) e.1
+pub shared_letter : (on : ℕ → Bool) (i base : ℕ) (rules : List Rule) (e : MarkedByte) → Occurs (active_quad on i base rules) e.1
     → (active_quad every i base rules).letter e → (active_quad on i base rules).letter e
 shared_letter on i base [] e o f = absurd f
 shared_letter on i base (r ∷ rules) e o f =
@@ -170,7 +170,7 @@ gated_up : (on : Bool) (x : Quad) (p q : ℕ) → (gated on x).follow p q → x.
 gated_up true x p q f = f
 gated_up false x p q f = absurd f
 
-gated_letter_up : (on : Bool) (x : Quad) (c : Cell) → (gated on x).letter c → x.letter c
+gated_letter_up : (on : Bool) (x : Quad) (c : MarkedByte) → (gated on x).letter c → x.letter c
 gated_letter_up true x c f = f
 gated_letter_up false x c f = absurd f
 
@@ -178,7 +178,7 @@ follow_up : (on : ℕ → Bool) (i base : ℕ) (rules : List Rule) (p q : ℕ) �
 follow_up on i base [] p q f = absurd f
 follow_up on i base (r ∷ rules) p q f = elim f [ inl g ↦ inl (gated_up (on i) (rule_quad r base) p q g) | inr g ↦ inr (follow_up on (suc i) (base + positions_of_rule r) rules p q g) ]
 
-letter_up : (on : ℕ → Bool) (i base : ℕ) (rules : List Rule) (c : Cell) → (active_quad on i base rules).letter c → (active_quad every i base rules).letter c
+letter_up : (on : ℕ → Bool) (i base : ℕ) (rules : List Rule) (c : MarkedByte) → (active_quad on i base rules).letter c → (active_quad every i base rules).letter c
 letter_up on i base [] c f = absurd f
 letter_up on i base (r ∷ rules) c f = elim f [ inl g ↦ inl (gated_letter_up (on i) (rule_quad r base) c g) | inr g ↦ inr (letter_up on (suc i) (base + positions_of_rule r) rules c g) ]
 

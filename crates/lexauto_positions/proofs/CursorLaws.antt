@@ -1,7 +1,7 @@
 -- How a walk goes on in a list of positions.
 use Rattle.std.proofs.Common.{◌≡◌, ℕ, zero, suc, ◌+◌, ◌<◌, ◌≤◌, ◌⊎◌, ◌||◌, false, List, [], ◌∷◌, ◌++◌, length, inl, inr, refl, sym, ap, ◌∙◌, arith}
 use Rattle.std.specs.Prelude.{slice_index}
-use Rattle.lex_semantics.specs.Active.{lists}
+use Rattle.lex_semantics.specs.Active.{contains}
 use Rattle.lex_semantics.specs.Text.{Among, Ascending}
 use Rattle.lex_semantics.specs.Tree.{Tree}
 use Rattle.lex_semantics.specs.Positions.{positions}
@@ -53,8 +53,8 @@ module _ (l : List ℕ) (at base : ℕ) (c : IsCursor l at base) where
       above = above;
     }
 
-    pub none_before : (p : ℕ) → base ≤ p → p < hi → lists l p ≡ false
-    none_before p f g = not_true (lists l p) (λ h.
+    pub none_before : (p : ℕ) → base ≤ p → p < hi → contains l p ≡ false
+    none_before p f g = not_true (contains l p) (λ h.
         let r = among_at l p ((lists_is l p).0 h) in
         elim (let d : (r.0 < at) ⊎ (at ≤ r.0) = grind arith in d) [
           | inl b ↦ (let m = c.below r.0 b in let e = r.2 in omega (arith, m, e, f))
@@ -62,11 +62,11 @@ module _ (l : List ℕ) (at base : ℕ) (c : IsCursor l at base) where
         ])
 
   module _ (t : Tree) (quiet : (length l ≤ at) ⊎ (base + positions t ≤ slice_index l at)) where
-    pub quiet_left : exits t (lists l) base false ≡ false
-    quiet_left = quiet_exits (lists l) t base (none_before (base + positions t) (omega arith) quiet)
+    pub quiet_left : exits t (contains l) base false ≡ false
+    quiet_left = quiet_exits (contains l) t base (none_before (base + positions t) (omega arith) quiet)
 
-    pub quiet_next : (q : ℕ) → enters t (lists l) q base false ≡ false
-    quiet_next = quiet_enters (lists l) t base (none_before (base + positions t) (omega arith) quiet)
+    pub quiet_next : (q : ℕ) → enters t (contains l) q base false ≡ false
+    quiet_next = quiet_enters (contains l) t base (none_before (base + positions t) (omega arith) quiet)
 
   module _ (lt : at < length l) (hit : slice_index l at < base + 1) where
     here : slice_index l at ≡ base
@@ -118,9 +118,9 @@ turned p q = elim (cases_Bool (p == q)) [
   | inr n ↦ n ∙ sym (not_true (q == p) (λ h. let same : q ≡ p = eqb-true q p h in no_true (sym n ∙ eq-eqb p q (sym same))))
 ]
 
-pub lists_more : (l : List ℕ) (b q : ℕ) → lists (l ++ b ∷ []) q ≡ (lists l q || (q == b))
+pub lists_more : (l : List ℕ) (b q : ℕ) → contains (l ++ b ∷ []) q ≡ (contains l q || (q == b))
 lists_more [] b q = or_false (b == q) ∙ turned b q
-lists_more (x ∷ l) b q = ap (λ k. (x == q) || k) (lists_more l b q) ∙ sym (or_assoc (x == q) (lists l q) (q == b))
+lists_more (x ∷ l) b q = ap (λ k. (x == q) || k) (lists_more l b q) ∙ sym (or_assoc (x == q) (contains l q) (q == b))
 
 pub front_none : IsFront [] 0
 front_none = record { ascending = tt; below = λ j a. absurd a }

@@ -2,19 +2,19 @@
 use Rattle.std.specs.Prelude.{◌≡◌, ℕ, zero, suc, ◌+◌, ◌-◌, ◌*◌, ◌<◌, ◌≤◌, min, max, ◌⊎◌, List, [], ◌∷◌, ◌++◌, Option, Some, None}
 use Rattle.std.proofs.Common.{IfSome, inl, inr, refl, ap, sym, subst, arith}
 use Rattle.lex_semantics.specs.ByteSets.{ByteSet, IsIn}
-use Rattle.lex_semantics.specs.Tree.{Tree, Trees, Empty, Set, Cat, Alt, Star, Repeat, no_trees, tree, Passes}
-use Rattle.lex_semantics.specs.Positions.{Cell, Readings, copies, positions, positions_of, Reads, ReadsEach, ReadsSome}
+use Rattle.lex_semantics.specs.Tree.{Tree, Trees, Empty, Set, Cat, Alt, Star, Repeat, no_trees, tree, Iterates}
+use Rattle.lex_semantics.specs.Positions.{MarkedByte, Readings, copies, positions, positions_of, Reads, ReadsEach, ReadsSome}
 use Rattle.lexauto_positions.specs.PositionAutomaton.{Quad, fail, skip, leaf, cat, alt, plus, opt, times, chain, repeated, quad, quad_all, quad_one, Whole}
 use Rattle.lexauto_positions.proofs.Parts.{Within, cut, join, choose, chosen_left, chosen_right, cut_plus, in_star, in_some, opt_more, opt_less}
 
 -- the automaton reads just these readings, by positions from lo up to hi
 pub record Describes (x : Quad) (L : Readings) (lo hi : ℕ) : Type 0 where
   pub within : Within x lo hi
-  pub sound : (rs : List Cell) → Whole x rs → L rs
-  pub complete : (rs : List Cell) → L rs → Whole x rs
+  pub sound : (rs : List MarkedByte) → Whole x rs → L rs
+  pub complete : (rs : List MarkedByte) → L rs → Whole x rs
 
 abbrev pub Joined : Readings → Readings → Readings
-Joined L M rs = (us vs : List Cell) × (rs ≡ us ++ vs) × L us × M vs
+Joined L M rs = (us vs : List MarkedByte) × (rs ≡ us ++ vs) × L us × M vs
 
 pub wider : (x : Quad) (a b c d : ℕ) → Within x b c → a ≤ b → c ≤ d → Within x a d
 wider x a b c d w h k = record {
@@ -61,7 +61,7 @@ within_plus x a b u = record {
 within_opt : (x : Quad) (a b : ℕ) → Within x a b → Within (opt x) a b
 within_opt x a b u = record { first = u.first; last = u.last; follow = u.follow; letter = u.letter }
 
-within_none : (x : Quad) (a : ℕ) → ((p : ℕ) → x.first p → ⊥) → ((p : ℕ) → x.last p → ⊥) → ((p q : ℕ) → x.follow p q → ⊥) → ((e : Cell) → x.letter e → ⊥) → Within x a a
+within_none : (x : Quad) (a : ℕ) → ((p : ℕ) → x.first p → ⊥) → ((p : ℕ) → x.last p → ⊥) → ((p q : ℕ) → x.follow p q → ⊥) → ((e : MarkedByte) → x.letter e → ⊥) → Within x a a
 within_none x a f l g t = record {
   first = λ p h. absurd (f p h);
   last = λ p h. absurd (l p h);
@@ -94,7 +94,7 @@ leaf_is s a = record {
   complete = λ rs r. rw r.1 (refl, (refl, r.2), refl);
 }
   where
-    leaf_sound : (s : ByteSet) (a : ℕ) (rs : List Cell) → Whole (leaf s a) rs → (b : ℕ) × (rs ≡ (b, a) ∷ []) × IsIn s b
+    leaf_sound : (s : ByteSet) (a : ℕ) (rs : List MarkedByte) → Whole (leaf s a) rs → (b : ℕ) × (rs ≡ (b, a) ∷ []) × IsIn s b
     leaf_sound s a [] w = absurd w
     leaf_sound s a (e ∷ []) w = (e.0, ap (λ p. (e.0, p) ∷ []) w.0, (w.1).1)
     leaf_sound s a (e ∷ d ∷ rs) w = absurd (w.2).0
@@ -113,7 +113,7 @@ alt_is x y L M a b c h k u v = record {
   complete = λ rs r. elim r [ inl l ↦ chosen_left x y rs (u.complete rs l) | inr r ↦ chosen_right x y rs (v.complete rs r) ];
 }
 
-star_is : (x : Quad) (L : ℕ → Readings) (lo hi : ℕ) → Describes x (L 0) lo hi → ((i : ℕ) → L 0 ≡ L i) → Describes (opt (plus x)) (λ rs. (k : ℕ) × Passes L 0 k rs) lo hi
+star_is : (x : Quad) (L : ℕ → Readings) (lo hi : ℕ) → Describes x (L 0) lo hi → ((i : ℕ) → L 0 ≡ L i) → Describes (opt (plus x)) (λ rs. (k : ℕ) × Iterates L 0 k rs) lo hi
 star_is x L lo hi d same = record {
   within = within_opt (plus x) lo hi (within_plus x lo hi d.within);
   sound = λ rs w. elim (opt_less (plus x) rs w) [
@@ -124,7 +124,7 @@ star_is x L lo hi d same = record {
 }
 
 -- what P describes, said otherwise
-pub restate : (x : Quad) (L M : Readings) (a b c d : ℕ) → a ≡ c → b ≡ d → ((rs : List Cell) → L rs → M rs) → ((rs : List Cell) → M rs → L rs) → Describes x L a b → Describes x M c d
+pub restate : (x : Quad) (L M : Readings) (a b c d : ℕ) → a ≡ c → b ≡ d → ((rs : List MarkedByte) → L rs → M rs) → ((rs : List MarkedByte) → M rs → L rs) → Describes x L a b → Describes x M c d
 restate x L M a b c d e f to back r = record {
   within = wider x c a b d r.within (omega arith) (omega arith);
   sound = λ rs w. to rs (r.sound rs w);
@@ -133,21 +133,21 @@ restate x L M a b c d e f to back r = record {
 
 module _ (x : ℕ → Quad) (L : ℕ → Readings) (base s : ℕ) where
   abbrev Counted : ℕ → ℕ → ℕ → Readings
-  Counted j m n rs = (k : ℕ) × (m ≤ k) × (k ≤ n) × Passes L j k rs
+  Counted j m n rs = (k : ℕ) × (m ≤ k) × (k ≤ n) × Iterates L j k rs
 
   abbrev Copy : ℕ → Type 0
   Copy i = Describes (x i) (L i) (base + i * s) (base + suc i * s)
 
   -- a first pass, or none where none is needed
-  begin_zero : (n j : ℕ) → Describes (cat (x j) (times x (suc j) zero n)) (Joined (L j) (Counted (suc j) zero n)) (base + j * s) (base + (suc j + n) * s) → (rs : List Cell) (k : ℕ) → k ≤ suc n → Passes L j k rs → Whole (opt (cat (x j) (times x (suc j) zero n))) rs
+  begin_zero : (n j : ℕ) → Describes (cat (x j) (times x (suc j) zero n)) (Joined (L j) (Counted (suc j) zero n)) (base + j * s) (base + (suc j + n) * s) → (rs : List MarkedByte) (k : ℕ) → k ≤ suc n → Iterates L j k rs → Whole (opt (cat (x j) (times x (suc j) zero n))) rs
   begin_zero n j both rs zero h p = rw p tt
   begin_zero n j both rs (suc k) h p = opt_more (cat (x j) (times x (suc j) zero n)) rs (both.complete rs (p.0, p.1, p.2, p.3, (k, omega arith, omega arith, p.4)))
 
-  begin_more : (m n j : ℕ) → Describes (cat (x j) (times x (suc j) m n)) (Joined (L j) (Counted (suc j) m n)) (base + j * s) (base + (suc j + n) * s) → (rs : List Cell) (k : ℕ) → suc m ≤ k → k ≤ suc n → Passes L j k rs → Whole (cat (x j) (times x (suc j) m n)) rs
+  begin_more : (m n j : ℕ) → Describes (cat (x j) (times x (suc j) m n)) (Joined (L j) (Counted (suc j) m n)) (base + j * s) (base + (suc j + n) * s) → (rs : List MarkedByte) (k : ℕ) → suc m ≤ k → k ≤ suc n → Iterates L j k rs → Whole (cat (x j) (times x (suc j) m n)) rs
   begin_more m n j both rs zero g h p = absurd (omega arith)
   begin_more m n j both rs (suc k) g h p = both.complete rs (p.0, p.1, p.2, p.3, (k, omega arith, omega arith, p.4))
 
-  none_left : (j k : ℕ) → k ≤ 0 → (rs : List Cell) → Passes L j k rs → rs ≡ []
+  none_left : (j k : ℕ) → k ≤ 0 → (rs : List MarkedByte) → Iterates L j k rs → rs ≡ []
   none_left j zero h rs p = p
   none_left j (suc k) h rs p = absurd (omega arith)
 
@@ -183,14 +183,14 @@ module _ (x : ℕ → Quad) (L : ℕ → Readings) (base s : ℕ) where
       }
 
   abbrev AtLeast : ℕ → ℕ → Readings
-  AtLeast j m rs = (k : ℕ) × (m ≤ k) × Passes L j k rs
+  AtLeast j m rs = (k : ℕ) × (m ≤ k) × Iterates L j k rs
 
-  begin_chain : (m j : ℕ) → Describes (cat (x j) (chain x (suc j) m)) (Joined (L j) (AtLeast (suc j) (suc m))) (base + j * s) (base + (suc j + suc m) * s) → (rs : List Cell) (k : ℕ) → suc (suc m) ≤ k → Passes L j k rs → Whole (cat (x j) (chain x (suc j) m)) rs
+  begin_chain : (m j : ℕ) → Describes (cat (x j) (chain x (suc j) m)) (Joined (L j) (AtLeast (suc j) (suc m))) (base + j * s) (base + (suc j + suc m) * s) → (rs : List MarkedByte) (k : ℕ) → suc (suc m) ≤ k → Iterates L j k rs → Whole (cat (x j) (chain x (suc j) m)) rs
   begin_chain m j both rs zero g p = absurd (omega arith)
   begin_chain m j both rs (suc k) g p = both.complete rs (p.0, p.1, p.2, p.3, (k, omega arith, p.4))
 
   module _ (final : ℕ) (same : (i k : ℕ) → final ≤ i → final ≤ k → L i ≡ L k) where
-    some_passes : (j : ℕ) → final ≤ j → Describes (x j) (L j) (base + j * s) (base + suc j * s) → (rs : List Cell) (k : ℕ) → 1 ≤ k → Passes L j k rs → Whole (plus (x j)) rs
+    some_passes : (j : ℕ) → final ≤ j → Describes (x j) (L j) (base + j * s) (base + suc j * s) → (rs : List MarkedByte) (k : ℕ) → 1 ≤ k → Iterates L j k rs → Whole (plus (x j)) rs
     some_passes j e d rs zero h p = absurd (omega arith)
     some_passes j e d rs (suc k) h p = in_some (x j) L j (λ i up rs l. d.complete rs (subst (λ (M : Readings). M rs) (same i j (omega arith) e) l)) k j (omega arith) rs p
 
@@ -225,19 +225,19 @@ module _ (D : ℕ → Quad) (R : ℕ → Readings) (base s : ℕ) (each : (b : �
   lasting : (m i k : ℕ) → m ≤ i → m ≤ k → Lasting m i ≡ Lasting m k
   lasting m i k h g = ap (λ k. R (base + k * s)) (let e : min i (max (suc m) 1 - 1) ≡ min k (max (suc m) 1 - 1) = omega arith in e)
 
-  repeated_is : (m : ℕ) (n : Option ℕ) → Describes (repeated (λ j. D (base + j * s)) m n) (λ rs. (k : ℕ) × (m ≤ k) × IfSome n (λ n. k ≤ n) × Passes (λ j. R (base + min j (copies m n - 1) * s)) 0 k rs) base (base + copies m n * s)
+  repeated_is : (m : ℕ) (n : Option ℕ) → Describes (repeated (λ j. D (base + j * s)) m n) (λ rs. (k : ℕ) × (m ≤ k) × IfSome n (λ n. k ≤ n) × Iterates (λ j. R (base + min j (copies m n - 1) * s)) 0 k rs) base (base + copies m n * s)
   repeated_is m (Some n) =
       restate (times (λ j. D (base + j * s)) 0 m n) (Counted (λ j. D (base + j * s)) (λ j. R (base + min j (n - 1) * s)) base s 0 m n)
-      (λ rs. (k : ℕ) × (m ≤ k) × (k ≤ n) × Passes (λ j. R (base + min j (n - 1) * s)) 0 k rs) (base + 0 * s) (base + (0 + n) * s) base (base + n * s) (omega arith) (omega arith) (λ rs r. r) (λ rs r. r)
+      (λ rs. (k : ℕ) × (m ≤ k) × (k ≤ n) × Iterates (λ j. R (base + min j (n - 1) * s)) 0 k rs) (base + 0 * s) (base + (0 + n) * s) base (base + n * s) (omega arith) (omega arith) (λ rs r. r) (λ rs r. r)
       (times_is (λ j. D (base + j * s)) (λ j. R (base + min j (n - 1) * s)) base s m n 0 (λ i a b. copy_is i (min i (n - 1)) (omega arith)))
   repeated_is zero None =
-      restate (opt (plus (D (base + 0 * s)))) (λ rs. (k : ℕ) × Passes (λ j. R (base + min j 0 * s)) 0 k rs)
-      (λ rs. (k : ℕ) × (0 ≤ k) × Unit {0} × Passes (λ j. R (base + min j 0 * s)) 0 k rs) (base + 0 * s) (base + suc 0 * s) base (base + 1 * s) (omega arith) (omega arith)
+      restate (opt (plus (D (base + 0 * s)))) (λ rs. (k : ℕ) × Iterates (λ j. R (base + min j 0 * s)) 0 k rs)
+      (λ rs. (k : ℕ) × (0 ≤ k) × Unit {0} × Iterates (λ j. R (base + min j 0 * s)) 0 k rs) (base + 0 * s) (base + suc 0 * s) base (base + 1 * s) (omega arith) (omega arith)
       (λ rs r. (r.0, omega arith, tt, r.1)) (λ rs r. (r.0, r.3))
       (star_is (D (base + 0 * s)) (λ j. R (base + min j 0 * s)) (base + 0 * s) (base + suc 0 * s) (copy_is 0 (min 0 0) (omega arith)) (λ i. ap (λ k. R (base + k * s)) (let e : min 0 0 ≡ min i 0 = omega arith in e)))
   repeated_is (suc m) None =
       restate (chain (λ j. D (base + j * s)) 0 m) (AtLeast (λ j. D (base + j * s)) (Lasting m) base s 0 (suc m))
-      (λ rs. (k : ℕ) × (suc m ≤ k) × Unit {0} × Passes (Lasting m) 0 k rs) (base + 0 * s) (base + (0 + suc m) * s) base (base + max (suc m) 1 * s) (omega arith) (let e : max (suc m) 1 ≡ suc m = omega arith in rw e (omega arith))
+      (λ rs. (k : ℕ) × (suc m ≤ k) × Unit {0} × Iterates (Lasting m) 0 k rs) (base + 0 * s) (base + (0 + suc m) * s) base (base + max (suc m) 1 * s) (omega arith) (let e : max (suc m) 1 ≡ suc m = omega arith in rw e (omega arith))
       (λ rs r. (r.0, r.1, tt, r.2)) (λ rs r. (r.0, r.1, r.3))
       (chain_is (λ j. D (base + j * s)) (Lasting m) base s m (lasting m) m 0 (omega arith) (λ i a b. copy_is i (min i (max (suc m) 1 - 1)) (omega arith)))
 

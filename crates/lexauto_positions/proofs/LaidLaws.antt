@@ -1,6 +1,6 @@
 -- Rules that are laid out are walked like those that they were.
 use Rattle.std.proofs.Common.{◌≡◌, ℕ, suc, ◌+◌, ◌||◌, Bool, List, [], ◌∷◌, ◌++◌, map, cond, false, Option, Some, None, refl, sym, ap, ◌∙◌}
-use Rattle.lex_semantics.specs.Active.{lists}
+use Rattle.lex_semantics.specs.Active.{contains}
 use Rattle.lex_semantics.specs.Text.{listed}
 use Rattle.lex_semantics.specs.Tree.{Tree}
 use Rattle.lex_semantics.specs.Positions.{positions}
@@ -15,7 +15,7 @@ use Rattle.lexauto_positions.specs.declared.rules.LaidRule.{LaidRule}
 use Rattle.lexauto_positions.proofs.Numbers.{same_list, listed_is, listed_ascends, lists_is}
 
 -- what is listed so far is what is listed in all
-pub front_listed : (l : List ℕ) (n : ℕ) (f : ℕ → Bool) → IsFront l n → ((q : ℕ) → lists l q ≡ f q) → l ≡ listed f 0 n
+pub front_listed : (l : List ℕ) (n : ℕ) (f : ℕ → Bool) → IsFront l n → ((q : ℕ) → contains l q ≡ f q) → l ≡ listed f 0 n
 front_listed l n f h e = same_list l (listed f 0 n) h.ascending (listed_ascends f 0 n) (λ x. (
   λ a. (listed_is f n x).1 (h.below x a, sym (e x) ∙ (lists_is l x).1 a),
   λ a. (lists_is l x).0 (e x ∙ ((listed_is f n x).0 a).1),

@@ -3,8 +3,8 @@ use Rattle.std.specs.Prelude.{◌≢◌, ◌↔◌, slice_get, take, IsTrue}
 use Rattle.std.proofs.Common.{◌≡◌, ℕ, zero, suc, ◌+◌, ◌≤◌, Bool, true, List, [], ◌∷◌, ◌++◌, length, inl, inr, Option, Some, None, IfSome, refl, sym, ◌∙◌, ap, subst, arith}
 use Rattle.lex_semantics.proofs.Splits.{split_of, of_split}
 use Rattle.lex_semantics.specs.Text.{IsText}
-use Rattle.lex_semantics.specs.Tree.{Tree, Trees, Empty, Set, Cat, Alt, Star, Repeat, no_trees, tree, Passes, In, InEach, InSome}
-use Rattle.lex_semantics.specs.Positions.{Cell, positions, bytes_of, ReadsWord}
+use Rattle.lex_semantics.specs.Tree.{Tree, Trees, Empty, Set, Cat, Alt, Star, Repeat, no_trees, tree, Iterates, In, InEach, InSome}
+use Rattle.lex_semantics.specs.Positions.{MarkedByte, positions, bytes_of, ReadsWord}
 use Rattle.lex_semantics.specs.Spec.{Spec, Rule}
 use Rattle.lex_semantics.specs.Active.{active}
 use Rattle.lex_semantics.specs.Fits.{InTrail, Fits}
@@ -22,7 +22,7 @@ use Rattle.lexauto_positions.proofs.LastPositions.{GoesOn}
 
 -- words are texts
 
-joined_text : (P : List ℕ → Type 0) → ((w : List ℕ) → P w → IsText w) → (j k : ℕ) (w : List ℕ) → Passes (λ i. P) j k w → IsText w
+joined_text : (P : List ℕ → Type 0) → ((w : List ℕ) → P w → IsText w) → (j k : ℕ) (w : List ℕ) → Iterates (λ i. P) j k w → IsText w
 joined_text P f j zero w e = subst IsText (sym e) tt
 joined_text P f j (suc k) w (u, v, e, here, rest) = subst IsText (sym e) (is_text_append u v (f u here) (joined_text P f (suc j) k v rest))
 
@@ -52,18 +52,18 @@ trail_read : (t : Option Tree) (base : ℕ) (v : List ℕ) → InTrail t v → R
 trail_read None base v e = ([], sym e, refl)
 trail_read (Some t) base v h = (word_readings t base v).0 h
 
-read_trail : (t : Option Tree) (base : ℕ) (vs : List Cell) → ReadsTrail t base vs → InTrail t (bytes_of vs)
+read_trail : (t : Option Tree) (base : ℕ) (vs : List MarkedByte) → ReadsTrail t base vs → InTrail t (bytes_of vs)
 read_trail None base vs e = ap bytes_of e
 read_trail (Some t) base vs h = (word_readings t base (bytes_of vs)).1 (vs, refl, h)
 
-not_nil : (us : List Cell) → 1 ≤ length (bytes_of us) → us ≢ []
+not_nil : (us : List MarkedByte) → 1 ≤ length (bytes_of us) → us ≢ []
 not_nil [] h e = omega (arith, h)
 not_nil (c ∷ us) h e = absurd (no e)
   where
     no : c ∷ us ≡ [] → ⊥
     no p = cc
 
-some_bytes : (us : List Cell) → us ≢ [] → 1 ≤ length (bytes_of us)
+some_bytes : (us : List MarkedByte) → us ≢ [] → 1 ≤ length (bytes_of us)
 some_bytes [] h = absurd (h refl)
 some_bytes (c ∷ us) h = omega arith
 
@@ -123,7 +123,7 @@ live_goes_on S c line_start w = (
 
 -- the readings of active rules, rule by rule
 
-to_some : (on : ℕ → Bool) (i base : ℕ) (rules : List Rule) (rs : List Cell) (j : ℕ) (r : Rule) → slice_get rules j ≡ Some r → on (i + j) ≡ true → ReadsRule r (base_of rules base j) rs →
+to_some : (on : ℕ → Bool) (i base : ℕ) (rules : List Rule) (rs : List MarkedByte) (j : ℕ) (r : Rule) → slice_get rules j ≡ Some r → on (i + j) ≡ true → ReadsRule r (base_of rules base j) rs →
     ReadsSomeRule on i base rules rs
 to_some on i base [] rs j r at is reads = absurd (no at)
   where
@@ -137,7 +137,7 @@ to_some on i base (q ∷ rules) rs (suc j) r at is reads =
     let e : i + suc j ≡ suc i + j = omega arith in
     inr (to_some on (suc i) (base + positions_of_rule q) rules rs j r at (subst (λ z. on z ≡ true) e is) reads)
 
-from_some : (on : ℕ → Bool) (i base : ℕ) (rules : List Rule) (rs : List Cell) → ReadsSomeRule on i base rules rs →
+from_some : (on : ℕ → Bool) (i base : ℕ) (rules : List Rule) (rs : List MarkedByte) → ReadsSomeRule on i base rules rs →
     (j : ℕ) × (r : Rule) × (slice_get rules j ≡ Some r) × (on (i + j) ≡ true) × ReadsRule r (base_of rules base j) rs
 from_some on i base [] rs h = absurd h
 from_some on i base (q ∷ rules) rs (inl h) = let e : i ≡ i + 0 = omega arith in (0, q, refl, subst (λ z. on z ≡ true) e h.0, h.1)
@@ -146,7 +146,7 @@ from_some on i base (q ∷ rules) rs (inr h) =
     let e : suc i + j ≡ i + suc j = omega arith in
     (suc j, r, at, subst (λ z. on z ≡ true) e is, reads)
 
-pub active_some : (S : Spec) (c : ℕ) (line_start : Bool) (rs : List Cell) → ReadsActive S c line_start rs ↔ ReadsSomeRule (λ i. is_on S c line_start (slice_get S.rules i)) 0 0 S.rules rs
+pub active_some : (S : Spec) (c : ℕ) (line_start : Bool) (rs : List MarkedByte) → ReadsActive S c line_start rs ↔ ReadsSomeRule (λ i. is_on S c line_start (slice_get S.rules i)) 0 0 S.rules rs
 active_some S c line_start rs = (
   λ (i, r, at, on, reads). (let e : 0 + i ≡ i = omega arith in
       to_some (λ i. is_on S c line_start (slice_get S.rules i)) 0 0 S.rules rs i r at (subst (λ z. is_on S c line_start (slice_get S.rules z) ≡ true) (sym e) (ap (is_on S c line_start) at ∙ on)) (subst (λ b. ReadsRule r b rs) (sym (base_is S.rules i)) reads)),

@@ -1,7 +1,7 @@
 -- How the last positions of a specification move, over the position automata of its rules.
 use Rattle.std.specs.Prelude.{◌≢◌, ◌↔◌}
 use Rattle.std.proofs.Common.{ℕ, ◌+◌, Bool, List, [], ◌∷◌, ◌++◌}
-use Rattle.lex_semantics.specs.Positions.{Cell, Readings, ReadsWord}
+use Rattle.lex_semantics.specs.Positions.{MarkedByte, Readings, ReadsWord}
 use Rattle.lex_semantics.specs.Spec.{Spec}
 use Rattle.lex_semantics.specs.Rules.{Live}
 use Rattle.lex_semantics.specs.Sound.{IsSound}
@@ -12,16 +12,16 @@ use Rattle.lexauto_positions.proofs.LastPositions.{GoesOn, begin_is, starts_is}
 use Rattle.lexauto_positions.proofs.Meaning.{active_some, live_goes_on, sound_rules}
 
 -- the last positions under readings that are the same
-pub same_last : (A B : Readings) → ((rs : List Cell) → A rs ↔ B rs) → (w : List ℕ) (p : ℕ) → IsLast A w p ↔ IsLast B w p
+pub same_last : (A B : Readings) → ((rs : List MarkedByte) → A rs ↔ B rs) → (w : List ℕ) (p : ℕ) → IsLast A w p ↔ IsLast B w p
 same_last A B same w p = (
   λ (rs, zs, b, e, h). (rs, zs, b, e, (same (rs ++ (b, p) ∷ zs)).0 h),
   λ (rs, zs, b, e, h). (rs, zs, b, e, (same (rs ++ (b, p) ∷ zs)).1 h),
 )
 
-same_word : (A B : Readings) → ((rs : List Cell) → A rs ↔ B rs) → (w : List ℕ) → ReadsWord A w ↔ ReadsWord B w
+same_word : (A B : Readings) → ((rs : List MarkedByte) → A rs ↔ B rs) → (w : List ℕ) → ReadsWord A w ↔ ReadsWord B w
 same_word A B same w = (λ (rs, e, h). (rs, e, (same rs).0 h), λ (rs, e, h). (rs, e, (same rs).1 h))
 
-same_goes_on : (A B : Readings) → ((rs : List Cell) → A rs ↔ B rs) → (w : List ℕ) → GoesOn A w ↔ GoesOn B w
+same_goes_on : (A B : Readings) → ((rs : List MarkedByte) → A rs ↔ B rs) → (w : List ℕ) → GoesOn A w ↔ GoesOn B w
 same_goes_on A B same w = (λ (z, some, h). (z, some, (same_word A B same (w ++ z)).0 h), λ (z, some, h). (z, some, (same_word A B same (w ++ z)).1 h))
 
 module _ (S : Spec) (sound : IsSound S) (c : ℕ) (line_start : Bool) where

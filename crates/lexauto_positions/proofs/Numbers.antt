@@ -5,7 +5,7 @@ use Rattle.std.proofs.lemmas.List.{append_assoc}
 use Rattle.std.proofs.lemmas.Bool.{eqb-true, eq-eqb}
 use Rattle.std.specs.List.{filter}
 use Rattle.lex_semantics.specs.Text.{Among, Ascending, listed}
-use Rattle.lex_semantics.specs.Active.{lists}
+use Rattle.lex_semantics.specs.Active.{contains}
 use Rattle.lexauto_positions.proofs.FlowMeaning.{both, either, or_is, no_true}
 
 next_number : (test : ℕ → Bool) (i n : ℕ) → i < n → listed test i (n - i) ≡ cond (test i) (i ∷ listed test (i + 1) (n - (i + 1))) (listed test (i + 1) (n - (i + 1)))
@@ -89,9 +89,9 @@ filter_ascends test (y ∷ xs) h = from (test y) (filter_ascends test xs h.1)
     from true g = (λ j a. h.0 j ((filter_is test xs j).0 a).0, g)
     from false g = g
 
-pub lists_is : (xs : List ℕ) (x : ℕ) → (lists xs x ≡ true) ↔ Among xs x
+pub lists_is : (xs : List ℕ) (x : ℕ) → (contains xs x ≡ true) ↔ Among xs x
 lists_is [] x = (λ h. no_true h, λ h. absurd h)
-lists_is (y ∷ xs) x = both (or_is (nat_eq y x) (lists xs x)) (either ((λ h. sym (eqb-true y x h)), (λ h. eq-eqb y x (sym h))) (lists_is xs x))
+lists_is (y ∷ xs) x = both (or_is (nat_eq y x) (contains xs x)) (either ((λ h. sym (eqb-true y x h)), (λ h. eq-eqb y x (sym h))) (lists_is xs x))
 
 -- two ascending lists with the same members are the same
 pub same_list : (xs ys : List ℕ) → Ascending xs → Ascending ys → ((x : ℕ) → Among xs x ↔ Among ys x) → xs ≡ ys

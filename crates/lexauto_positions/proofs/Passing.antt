@@ -3,7 +3,7 @@ use Rattle.std.proofs.Common.{◌≡◌, ℕ, zero, suc, ◌+◌, ◌-◌, ◌<�
 use Rattle.std.specs.Prelude.{slice_index, slice_index_or, slice_get}
 use Rattle.std.proofs.lemmas.List.{drop-drop, drop_more}
 use Rattle.std.proofs.lemmas.Option.{get_or_from_slice_get, slice_get-get_or}
-use Rattle.lex_semantics.specs.Active.{lists}
+use Rattle.lex_semantics.specs.Active.{contains}
 use Rattle.lex_semantics.specs.Tree.{Tree}
 use Rattle.lex_semantics.specs.Positions.{positions}
 use Rattle.lex_semantics.specs.Spec.{Rule}
@@ -97,8 +97,8 @@ pub record HasPassed (rules : List Rule) (last : List ℕ) (at : ℕ) (next left
   pub number : ℕ
   pub cursor : IsCursor last at (base_of rules 0 number)
   pub front : IsFront next (base_of rules 0 number)
-  pub comes : (q : ℕ) → (lists next q || rules_enter (drop number rules) nowhere (lists last) q number (base_of rules 0 number)) ≡ rules_enter rules nowhere (lists last) q 0 0
-  pub goes : left ++ rules_left (drop number rules) (lists last) number (base_of rules 0 number) ≡ rules_left rules (lists last) 0 0
+  pub comes : (q : ℕ) → (contains next q || rules_enter (drop number rules) nowhere (contains last) q number (base_of rules 0 number)) ≡ rules_enter rules nowhere (contains last) q 0 0
+  pub goes : left ++ rules_left (drop number rules) (contains last) number (base_of rules 0 number) ≡ rules_left rules (contains last) 0 0
 
 pub none_passed : (rules : List Rule) (last : List ℕ) → IsCursor last 0 0 → HasPassed rules last 0 [] []
 none_passed rules last c =
@@ -107,8 +107,8 @@ none_passed rules last c =
       number = 0;
       cursor = subst (λ (n : ℕ). IsCursor last 0 n) first c;
       front = subst (λ (n : ℕ). IsFront [] n) first front_none;
-      comes = λ q. ap (λ (n : ℕ). rules_enter rules nowhere (lists last) q 0 n) (sym first);
-      goes = ap (λ (n : ℕ). rules_left rules (lists last) 0 n) (sym first);
+      comes = λ q. ap (λ (n : ℕ). rules_enter rules nowhere (contains last) q 0 n) (sym first);
+      goes = ap (λ (n : ℕ). rules_left rules (contains last) 0 n) (sym first);
     }
 
 module _ (rules : List Rule) (last : List ℕ) (at : ℕ) (next left : List ℕ) (h : HasPassed rules last at next left) where
@@ -172,34 +172,34 @@ module _ (rules : List Rule) (last : List ℕ) (at : ℕ) (next left : List ℕ)
           drop-drop steps h.number rules ∙ ap (λ (n : ℕ). drop n rules) place ∙ drop_more rules o.rule r rule_within
           ∙ ap (λ (q : Rule). q ∷ drop (o.rule + 1) rules) (get_or_from_slice_get rules o.rule r r is) ∙ ap (λ (n : ℕ). r ∷ drop n rules) (sym more)
 
-      over : ((q : ℕ) → rules_enter (drop h.number rules) nowhere (lists last) q h.number here ≡ rules_enter (drop steps (drop h.number rules)) nowhere (lists last) q (h.number + steps) (base_of (drop h.number rules) here steps))
-          × (rules_left (drop h.number rules) (lists last) h.number here ≡ rules_left (drop steps (drop h.number rules)) (lists last) (h.number + steps) (base_of (drop h.number rules) here steps))
-      over = passed_over (lists last) (drop h.number rules) steps h.number here
+      over : ((q : ℕ) → rules_enter (drop h.number rules) nowhere (contains last) q h.number here ≡ rules_enter (drop steps (drop h.number rules)) nowhere (contains last) q (h.number + steps) (base_of (drop h.number rules) here steps))
+          × (rules_left (drop h.number rules) (contains last) h.number here ≡ rules_left (drop steps (drop h.number rules)) (contains last) (h.number + steps) (base_of (drop h.number rules) here steps))
+      over = passed_over (contains last) (drop h.number rules) steps h.number here
           (λ p f g. none_before last at here h.cursor o.base wide quiet p f (subst (λ (n : ℕ). p < n) begins_behind g))
 
-      to_rule_next : (q : ℕ) → rules_enter (drop h.number rules) nowhere (lists last) q h.number here
-          ≡ (rule_enters r (lists last) q o.base false || rules_enter (drop (suc o.rule) rules) nowhere (lists last) q (suc o.rule) (o.base + positions_of_rule r))
+      to_rule_next : (q : ℕ) → rules_enter (drop h.number rules) nowhere (contains last) q h.number here
+          ≡ (rule_enters r (contains last) q o.base false || rules_enter (drop (suc o.rule) rules) nowhere (contains last) q (suc o.rule) (o.base + positions_of_rule r))
       to_rule_next q =
           over.0 q
-          ∙ ap (λ (rs : List Rule). rules_enter rs nowhere (lists last) q (h.number + steps) (base_of (drop h.number rules) here steps)) rest
-          ∙ ap (λ (n : ℕ). rules_enter (r ∷ drop (suc o.rule) rules) nowhere (lists last) q n (base_of (drop h.number rules) here steps)) place
-          ∙ ap (λ (n : ℕ). rules_enter (r ∷ drop (suc o.rule) rules) nowhere (lists last) q o.rule n) begins_behind
+          ∙ ap (λ (rs : List Rule). rules_enter rs nowhere (contains last) q (h.number + steps) (base_of (drop h.number rules) here steps)) rest
+          ∙ ap (λ (n : ℕ). rules_enter (r ∷ drop (suc o.rule) rules) nowhere (contains last) q n (base_of (drop h.number rules) here steps)) place
+          ∙ ap (λ (n : ℕ). rules_enter (r ∷ drop (suc o.rule) rules) nowhere (contains last) q o.rule n) begins_behind
 
-      to_rule_left : rules_left (drop h.number rules) (lists last) h.number here
-          ≡ cond (rule_exits r (lists last) o.base) (o.rule ∷ rules_left (drop (suc o.rule) rules) (lists last) (suc o.rule) (o.base + positions_of_rule r))
-          (rules_left (drop (suc o.rule) rules) (lists last) (suc o.rule) (o.base + positions_of_rule r))
+      to_rule_left : rules_left (drop h.number rules) (contains last) h.number here
+          ≡ cond (rule_exits r (contains last) o.base) (o.rule ∷ rules_left (drop (suc o.rule) rules) (contains last) (suc o.rule) (o.base + positions_of_rule r))
+          (rules_left (drop (suc o.rule) rules) (contains last) (suc o.rule) (o.base + positions_of_rule r))
       to_rule_left =
           over.1
-          ∙ ap (λ (rs : List Rule). rules_left rs (lists last) (h.number + steps) (base_of (drop h.number rules) here steps)) rest
-          ∙ ap (λ (n : ℕ). rules_left (r ∷ drop (suc o.rule) rules) (lists last) n (base_of (drop h.number rules) here steps)) place
-          ∙ ap (λ (n : ℕ). rules_left (r ∷ drop (suc o.rule) rules) (lists last) o.rule n) begins_behind
+          ∙ ap (λ (rs : List Rule). rules_left rs (contains last) (h.number + steps) (base_of (drop h.number rules) here steps)) rest
+          ∙ ap (λ (n : ℕ). rules_left (r ∷ drop (suc o.rule) rules) (contains last) n (base_of (drop h.number rules) here steps)) place
+          ∙ ap (λ (n : ℕ). rules_left (r ∷ drop (suc o.rule) rules) (contains last) o.rule n) begins_behind
 
       joined : (b : Bool) (xs : List ℕ) → (left ++ cond b (o.rule ∷ []) []) ++ xs ≡ left ++ cond b (o.rule ∷ xs) xs
       joined true xs = append_assoc left (o.rule ∷ []) xs
       joined false xs = append_assoc left [] xs
 
       pub one_passed : (n : ℕ) (more gone : List ℕ) → IsCursor last n (o.base + positions_of_rule r) → IsFront more (o.base + positions_of_rule r)
-          → ((q : ℕ) → lists more q ≡ (lists next q || rule_enters r (lists last) q o.base false)) → gone ≡ left ++ cond (rule_exits r (lists last) o.base) (o.rule ∷ []) []
+          → ((q : ℕ) → contains more q ≡ (contains next q || rule_enters r (contains last) q o.base false)) → gone ≡ left ++ cond (rule_exits r (contains last) o.base) (o.rule ∷ []) []
           → HasPassed rules last n more gone
       one_passed n more gone c f e g =
           let up = ends in
@@ -210,33 +210,33 @@ module _ (rules : List Rule) (last : List ℕ) (at : ℕ) (next left : List ℕ)
             cursor = subst (λ (k : ℕ). IsCursor last n k) (sym up) c;
             front = subst (λ (k : ℕ). IsFront more k) (sym up) f;
             comes = λ q.
-                ap (λ (b : Bool). b || rules_enter after nowhere (lists last) q (suc o.rule) end) (e q)
-                ∙ ap (λ (k : ℕ). (lists next q || rule_enters r (lists last) q o.base false) || rules_enter after nowhere (lists last) q (suc o.rule) k) up
-                ∙ or_assoc (lists next q) (rule_enters r (lists last) q o.base false) (rules_enter after nowhere (lists last) q (suc o.rule) (o.base + positions_of_rule r))
-                ∙ ap (λ (b : Bool). lists next q || b) (sym (to_rule_next q)) ∙ h.comes q;
+                ap (λ (b : Bool). b || rules_enter after nowhere (contains last) q (suc o.rule) end) (e q)
+                ∙ ap (λ (k : ℕ). (contains next q || rule_enters r (contains last) q o.base false) || rules_enter after nowhere (contains last) q (suc o.rule) k) up
+                ∙ or_assoc (contains next q) (rule_enters r (contains last) q o.base false) (rules_enter after nowhere (contains last) q (suc o.rule) (o.base + positions_of_rule r))
+                ∙ ap (λ (b : Bool). contains next q || b) (sym (to_rule_next q)) ∙ h.comes q;
             goes =
-                ap (λ (k : ℕ). gone ++ rules_left after (lists last) (suc o.rule) k) up
-                ∙ ap (λ (l : List ℕ). l ++ rules_left after (lists last) (suc o.rule) (o.base + positions_of_rule r)) g
-                ∙ joined (rule_exits r (lists last) o.base) (rules_left after (lists last) (suc o.rule) (o.base + positions_of_rule r))
+                ap (λ (k : ℕ). gone ++ rules_left after (contains last) (suc o.rule) k) up
+                ∙ ap (λ (l : List ℕ). l ++ rules_left after (contains last) (suc o.rule) (o.base + positions_of_rule r)) g
+                ∙ joined (rule_exits r (contains last) o.base) (rules_left after (contains last) (suc o.rule) (o.base + positions_of_rule r))
                 ∙ ap (λ (l : List ℕ). left ++ l) (sym to_rule_left) ∙ h.goes;
           }
 
   module _ (done : length last ≤ at) where
-    rest_none : ((q : ℕ) → rules_enter (drop h.number rules) nowhere (lists last) q h.number here ≡ false) × (rules_left (drop h.number rules) (lists last) h.number here ≡ [])
-    rest_none = none_left (lists last) (drop h.number rules) h.number here
+    rest_none : ((q : ℕ) → rules_enter (drop h.number rules) nowhere (contains last) q h.number here ≡ false) × (rules_left (drop h.number rules) (contains last) h.number here ≡ [])
+    rest_none = none_left (contains last) (drop h.number rules) h.number here
         (λ p f. none_before last at here h.cursor (suc p) (omega (arith, f)) (inl done) p f (omega arith))
 
-    pub all_next : next ≡ listed (λ q. rules_enter rules nowhere (lists last) q 0 0) 0 (all_positions rules)
+    pub all_next : next ≡ listed (λ q. rules_enter rules nowhere (contains last) q 0 0) 0 (all_positions rules)
     all_next =
         let w : here ≤ all_positions rules = (let b = base_within rules 0 h.number in omega (arith, b)) in
-        front_listed next (all_positions rules) (λ q. rules_enter rules nowhere (lists last) q 0 0) (front_wider next here (all_positions rules) w h.front)
-        (λ q. sym (or_false (lists next q)) ∙ ap (λ (b : Bool). lists next q || b) (sym (rest_none.0 q)) ∙ h.comes q)
+        front_listed next (all_positions rules) (λ q. rules_enter rules nowhere (contains last) q 0 0) (front_wider next here (all_positions rules) w h.front)
+        (λ q. sym (or_false (contains next q)) ∙ ap (λ (b : Bool). contains next q || b) (sym (rest_none.0 q)) ∙ h.comes q)
 
     nil_after : (l : List ℕ) → l ++ [] ≡ l
     nil_after [] = refl
     nil_after (x ∷ l) = ap (λ (k : List ℕ). x ∷ k) (nil_after l)
 
-    pub all_left : left ≡ rules_left rules (lists last) 0 0
+    pub all_left : left ≡ rules_left rules (contains last) 0 0
     all_left = sym (nil_after left) ∙ ap (λ (l : List ℕ). left ++ l) (sym rest_none.1) ∙ h.goes
 
 sized_at : (laid : List LaidRule) (i : ℕ) (l : LaidRule) → HaveSized laid → i < length laid → l ≡ get_or laid i l → IsSizedRule l
@@ -276,6 +276,6 @@ module _ (laid : List LaidRule) (owners : List Owner) (last : List ℕ) (at : �
     owner_further = further (map shape_of laid) last at next left h owners are owner low own (shape_of rule) there
 
     pub owner_passed : (n : ℕ) (more gone : List ℕ) → IsCursor last n (owner.base + positions_of_rule (shape_of rule)) → IsFront more (owner.base + positions_of_rule (shape_of rule))
-        → ((q : ℕ) → lists more q ≡ (lists next q || rule_enters (shape_of rule) (lists last) q owner.base false))
-        → gone ≡ left ++ cond (rule_exits (shape_of rule) (lists last) owner.base) (owner.rule ∷ []) [] → HasPassed (map shape_of laid) last n more gone
+        → ((q : ℕ) → contains more q ≡ (contains next q || rule_enters (shape_of rule) (contains last) q owner.base false))
+        → gone ≡ left ++ cond (rule_exits (shape_of rule) (contains last) owner.base) (owner.rule ∷ []) [] → HasPassed (map shape_of laid) last n more gone
     owner_passed = one_passed (map shape_of laid) last at next left h owners are owner low own (shape_of rule) there

@@ -4,7 +4,7 @@ use Rattle.std.specs.Prelude.{codes, slice_get, ◌≢◌}
 use Rattle.lex_semantics.proofs.Cuts.{same_rule}
 use Rattle.lex_semantics.proofs.ExampleWords.{is_a}
 use Rattle.lex_semantics.specs.Examples.{string, rule}
-use Rattle.lex_semantics.specs.Positions.{Cell, Reads}
+use Rattle.lex_semantics.specs.Positions.{MarkedByte, Reads}
 use Rattle.lex_semantics.specs.Spec.{Rule, Echo}
 use Rattle.lex_semantics.specs.Subsets.{ReadsRule, ReadsActive, IsLast, ListsSet, IsActive}
 use Rattle.lex_semantics.specs.Text.{IsText, Among, Pairwise}
@@ -18,14 +18,14 @@ counts_positions = record { of_rule = refl; of_choice = refl; of_star = refl; of
 reads_aa : (base : ℕ) → Reads (string (codes "aa")) base ((97, base) ∷ (97, base + 1) ∷ [])
 reads_aa base = ((97, base) ∷ [], (97, base + 1) ∷ [], refl, (97, refl, is_a.0), ((97, base + 1) ∷ [], [], refl, (97, refl, is_a.0), refl))
 
-only_aa : (base : ℕ) (rs : List Cell) → Reads (string (codes "aa")) base rs → rs ≡ (97, base) ∷ (97, base + 1) ∷ []
+only_aa : (base : ℕ) (rs : List MarkedByte) → Reads (string (codes "aa")) base rs → rs ≡ (97, base) ∷ (97, base + 1) ∷ []
 only_aa base rs (us, vs, e, (b, first, is), (us', vs', e', (b', second, is'), end)) =
     let u : us ≡ (97, base) ∷ [] = first ∙ ap (λ z. (z, base) ∷ []) (is_a.1 b is) in
     let u' : us' ≡ (97, base + 1) ∷ [] = second ∙ ap (λ z. (z, base + 1) ∷ []) (is_a.1 b' is') in
     let v : vs ≡ (97, base + 1) ∷ [] = e' ∙ ap (λ z. z ++ vs') u' ∙ ap (λ z. (97, base + 1) ∷ z) end in
     e ∙ ap (λ z. z ++ vs) u ∙ ap (λ z. (97, base) ∷ z) v
 
-place_of : List Cell → ℕ
+place_of : List MarkedByte → ℕ
 place_of (a ∷ b ∷ cs) = b.1
 place_of cs = 0
 
@@ -55,29 +55,29 @@ no_more_rules (suc i) r e = cc
 whole_reads : (line_start : Bool) → ReadsActive two_as 0 line_start ((97, 0) ∷ (97, 1) ∷ [])
 whole_reads line_start = (0, _, refl, refl, ((97, 0) ∷ (97, 1) ∷ [], [], refl, (reads_aa 0, λ e. cc), refl))
 
-from_rule : (r : Rule) (rs : List Cell) → r ≡ aa_rule → ReadsRule r 0 rs → rs ≡ (97, 0) ∷ (97, 1) ∷ []
+from_rule : (r : Rule) (rs : List MarkedByte) → r ≡ aa_rule → ReadsRule r 0 rs → rs ≡ (97, 0) ∷ (97, 1) ∷ []
 unfolding aa_rule
 from_rule r rs same h = go (subst (λ q. ReadsRule q 0 rs) same h)
   where
     go : ReadsRule aa_rule 0 rs → rs ≡ (97, 0) ∷ (97, 1) ∷ []
     go (us, vs, e, (reads, some), none) = e ∙ ap (λ z. z ++ vs) (only_aa 0 us reads) ∙ ap (λ z. (97, 0) ∷ (97, 1) ∷ z) none
 
-only_whole : (c : ℕ) (line_start : Bool) (rs : List Cell) → ReadsActive two_as c line_start rs → rs ≡ (97, 0) ∷ (97, 1) ∷ []
+only_whole : (c : ℕ) (line_start : Bool) (rs : List MarkedByte) → ReadsActive two_as c line_start rs → rs ≡ (97, 0) ∷ (97, 1) ∷ []
 unfolding aa_rule
 only_whole c line_start rs (zero, r, at, on, reads) = from_rule r rs (same_rule two_as 0 r aa_rule at refl) reads
 only_whole c line_start rs (suc i, r, at, on, reads) = absurd (no_more_rules i r at)
 
 -- where a byte is read last
 
-last_from : (w : List ℕ) (p : ℕ) (rs zs : List Cell) (b : ℕ) → map (λ (c : Cell). c.0) rs ++ b ∷ [] ≡ w → rs ++ (b, p) ∷ zs ≡ (97, 0) ∷ (97, 1) ∷ []
+last_from : (w : List ℕ) (p : ℕ) (rs zs : List MarkedByte) (b : ℕ) → map (λ (c : MarkedByte). c.0) rs ++ b ∷ [] ≡ w → rs ++ (b, p) ∷ zs ≡ (97, 0) ∷ (97, 1) ∷ []
     → ((w ≡ codes "a") × (p ≡ 0)) ⊎ ((w ≡ codes "aa") × (p ≡ 1))
 last_from w p [] zs b e all =
-    let here : ◌≡◌ {A = Cell} (b, p) (97, 0) = cc in
-    inl (sym e ∙ ap (λ (c : Cell). c.0 ∷ []) here, ap (λ (c : Cell). c.1) here)
+    let here : ◌≡◌ {A = MarkedByte} (b, p) (97, 0) = cc in
+    inl (sym e ∙ ap (λ (c : MarkedByte). c.0 ∷ []) here, ap (λ (c : MarkedByte). c.1) here)
 last_from w p (x ∷ []) zs b e all =
-    let first : ◌≡◌ {A = Cell} x (97, 0) = cc in
-    let here : ◌≡◌ {A = Cell} (b, p) (97, 1) = cc in
-    inr (sym e ∙ ap (λ (c : Cell). c.0 ∷ b ∷ []) first ∙ ap (λ (c : Cell). 97 ∷ c.0 ∷ []) here, ap (λ (c : Cell). c.1) here)
+    let first : ◌≡◌ {A = MarkedByte} x (97, 0) = cc in
+    let here : ◌≡◌ {A = MarkedByte} (b, p) (97, 1) = cc in
+    inr (sym e ∙ ap (λ (c : MarkedByte). c.0 ∷ b ∷ []) first ∙ ap (λ (c : MarkedByte). 97 ∷ c.0 ∷ []) here, ap (λ (c : MarkedByte). c.1) here)
 last_from w p (x ∷ y ∷ []) zs b e all = cc
 last_from w p (x ∷ y ∷ z ∷ rs) zs b e all = cc
 

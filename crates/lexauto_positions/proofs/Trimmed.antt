@@ -2,7 +2,7 @@
 use Rattle.std.specs.Prelude.{◌≡◌, ℕ, zero, suc, ◌+◌, ◌*◌, ◌<◌, ◌≤◌, max, ◌⊎◌, List, [], ◌∷◌, ◌++◌, Option, Some, None, IfSome}
 use Rattle.std.proofs.Common.{inl, inr, refl, subst, arith}
 use Rattle.lex_semantics.specs.Tree.{Tree, Trees, Empty, Set, Cat, Alt, Star, Repeat, no_trees, tree}
-use Rattle.lex_semantics.specs.Positions.{Cell, copies, positions, positions_of}
+use Rattle.lex_semantics.specs.Positions.{MarkedByte, copies, positions, positions_of}
 use Rattle.lex_semantics.specs.Shapes.{IsSoundTree, AreSoundTrees, HasPart}
 use Rattle.lexauto_positions.specs.PositionAutomaton.{Quad, skip, cat, alt, plus, opt, times, chain, repeated, quad, quad_all, quad_one, From, Whole}
 use Rattle.lexauto_positions.proofs.Parts.{join, join_from, in_right, chosen_left, from_more, in_plus}
@@ -13,14 +13,14 @@ FitsUnder m n = IfSome n (λ n. (m ≤ n) × (1 ≤ n))
 
 -- from the position something reaches an end, and some byte leads to it
 abbrev pub Finishes : Quad → ℕ → Type 0
-Finishes x p = (rs : List Cell) × From x (0, p) rs × ((b : ℕ) × x.letter (b, p))
+Finishes x p = (rs : List MarkedByte) × From x (0, p) rs × ((b : ℕ) × x.letter (b, p))
 
 pub record Trim (x : Quad) (lo hi : ℕ) : Type 0 where
-  pub some : (rs : List Cell) × Whole x rs
+  pub some : (rs : List MarkedByte) × Whole x rs
   pub each : (p : ℕ) → lo ≤ p → p < hi → Finishes x p
 
 -- only the position of a cell matters after it
-pub from_any : (x : Quad) (c d : Cell) → c.1 ≡ d.1 → (rs : List Cell) → From x c rs → From x d rs
+pub from_any : (x : Quad) (c d : MarkedByte) → c.1 ≡ d.1 → (rs : List MarkedByte) → From x c rs → From x d rs
 from_any x c d e [] f = subst x.last e f
 from_any x c d e (h ∷ rs) f = (subst (λ (p : ℕ). x.follow p h.1) e f.0, f.1, f.2)
 
@@ -51,7 +51,7 @@ trim_plus x a b u = record {
   each = λ p h k. let f = u.each p h k in (f.0, in_plus x (0, p) f.0 f.1, f.2);
 }
   where
-    plus_some : (rs : List Cell) → Whole x rs → (rs : List Cell) × Whole (plus x) rs
+    plus_some : (rs : List MarkedByte) → Whole x rs → (rs : List MarkedByte) × Whole (plus x) rs
     plus_some [] w = ([], w)
     plus_some (c ∷ rs) w = (c ∷ rs, (w.0, w.1, in_plus x c rs w.2))
 

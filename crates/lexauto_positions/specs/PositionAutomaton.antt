@@ -3,7 +3,7 @@
 use Rattle.std.specs.Prelude.{◌≡◌, ℕ, zero, suc, ◌+◌, ◌*◌, ◌⊎◌, [], ◌∷◌, Option, Some, None}
 use Rattle.lex_semantics.specs.ByteSets.{ByteSet, IsIn}
 use Rattle.lex_semantics.specs.Tree.{Tree, Trees, Empty, Set, Cat, Alt, Star, Repeat, no_trees, tree}
-use Rattle.lex_semantics.specs.Positions.{Cell, Readings, positions}
+use Rattle.lex_semantics.specs.Positions.{MarkedByte, Readings, positions}
 
 -- the empty word is read, the positions that can be first and last, those that follow one another, and the bytes of each
 pub record Quad : Type 1 where
@@ -11,7 +11,7 @@ pub record Quad : Type 1 where
   pub first : ℕ → Type 0
   pub last : ℕ → Type 0
   pub follow : ℕ → ℕ → Type 0
-  pub letter : Cell → Type 0
+  pub letter : MarkedByte → Type 0
 
 abbrev pub fail : Quad
 fail = record { null = ⊥; first = λ p. ⊥; last = λ p. ⊥; follow = λ p q. ⊥; letter = λ c. ⊥ }
@@ -82,7 +82,7 @@ abbrev mutual
   quad_one (tree t ts) base = alt (quad t base) (quad_one ts (base + positions t))
 
 -- after this cell, the rest of a reading
-abbrev pub From : Quad → Cell → Readings
+abbrev pub From : Quad → MarkedByte → Readings
 From x c [] = x.last c.1
 From x c (d ∷ rs) = x.follow c.1 d.1 × x.letter d × From x d rs
 

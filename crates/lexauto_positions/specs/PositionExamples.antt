@@ -4,7 +4,7 @@ use Rattle.std.specs.Prelude.{◌≡◌, false, [], ◌∷◌, Some, None, codes
 use Rattle.lex_semantics.specs.Tree.{Alt, Star, Repeat, trees}
 use Rattle.lex_semantics.specs.Spec.{Spec}
 use Rattle.lex_semantics.specs.Positions.{positions, Reads}
-use Rattle.lex_semantics.specs.Subsets.{all_positions, IsLast, ReadsActive, Subsets}
+use Rattle.lex_semantics.specs.Subsets.{all_positions, IsLast, ReadsActive, HasSubsets}
 use Rattle.lex_semantics.specs.Examples.{echoing, letter, string}
 
 abbrev pub two_as : Spec
@@ -32,4 +32,4 @@ pub record CountsSubsets : Type 0 where
   pub last_of_two : IsLast (ReadsActive two_as 0 false) (codes "aa") 1
   pub other_place : IsLast (ReadsActive two_as 0 false) (codes "a") 1 → ⊥
   pub other_word : IsLast (ReadsActive two_as 0 false) (codes "ab") 1 → ⊥
-  pub four : Subsets two_as 4
+  pub four : HasSubsets two_as 4

@@ -1,7 +1,7 @@
 //! Laws of position automata: what they read, and how the last positions of a specification move.
 ghost use Rattle.std.specs.Prelude.{◌≡◌, ◌≢◌, ◌↔◌, ◌<◌, ◌⊎◌, ℕ, Bool, true, List, [], ◌∷◌, ◌++◌};
 ghost use Rattle.lex_semantics.specs.Tree.{Tree};
-ghost use Rattle.lex_semantics.specs.Positions.{Cell, Reads, ReadsWord};
+ghost use Rattle.lex_semantics.specs.Positions.{MarkedByte, Reads, ReadsWord};
 ghost use Rattle.lex_semantics.specs.Spec.{Spec, Rule};
 ghost use Rattle.lex_semantics.specs.Rules.{Live};
 ghost use Rattle.lex_semantics.specs.Reports.{HasFit};
@@ -16,7 +16,7 @@ ghost use Rattle.lexauto_positions.specs.RuleFlow.{rules_enter, rules_read, rule
 
 /// The position automaton of a tree reads just what the tree reads, by the same positions.
 pub fn position_automaton()
-    ensures { (t : Tree) (base : ℕ) (rs : List Cell) → Whole (quad t base) rs ↔ Reads t base rs }
+    ensures { (t : Tree) (base : ℕ) (rs : List MarkedByte) → Whole (quad t base) rs ↔ Reads t base rs }
 {}
 
 /// A word has a reading of an active rule exactly if it fits a rule.

@@ -1,7 +1,7 @@
 //! Copies of one letter: a walk over them goes from position to position, and looks at no part.
 ghost use Rattle.std.specs.Prelude.{◌≡◌, ℕ, ◌+◌, ◌<◌, ◌≤◌, ◌^◌, ◌||◌, ◌&&◌};
 ghost use Rattle.std.specs.Prelude.{◌==◌, Bool, true, false, IfSome, IfOk, OnOk};
-ghost use Rattle.lex_semantics.specs.Active.{lists};
+ghost use Rattle.lex_semantics.specs.Active.{contains};
 ghost use Rattle.lex_semantics.specs.Positions.{positions};
 ghost use Rattle.lexauto_positions.specs.Cursors.{Increases, IsCursor, IsFront};
 ghost use Rattle.lexauto_positions.specs.Flow.{is_zero, passes, comes, exits, enters};
@@ -57,7 +57,7 @@ fn add_letter(base: usize, entered: bool, next: &mut Vec<u32>) -> Result<(), All
     requires front { IsFront next.old.items base }
     ensures front { OnOk result (IsFront next.new.items (base + 1)) }
     ensures next { OnOk result ((q : ℕ)
-        → lists next.new.items q ≡ (lists next.old.items q || (entered && (q == base)))) }
+        → contains next.new.items q ≡ (contains next.old.items q || (entered && (q == base)))) }
 {
     if entered {
         next.push(base as u32)?;
@@ -72,7 +72,7 @@ fn add_all(base: usize, count: u8, next: &mut Vec<u32>) -> Result<(), AllocError
     requires front { IsFront next.old.items base }
     ensures front { OnOk result (IsFront next.new.items (base + count)) }
     ensures next { OnOk result ((S : ℕ → Bool) (loops : Bool) (q : ℕ)
-        → lists next.new.items q ≡ (lists next.old.items q || comes (letter_enters q)
+        → contains next.new.items q ≡ (contains next.old.items q || comes (letter_enters q)
         (letter_exits true S) loops base 1 true count)) }
 {
     let alloc = *next.allocator();
@@ -125,12 +125,12 @@ fn enter_all(
     requires few { base + copies.count < 2 ^ 32 }
     requires front { IsFront next.old.items base }
     ensures left { IfOk result (λ p. p.left
-        ≡ passes (letter_exits true (lists last.now)) base 1 copies.least false true copies.count) }
+        ≡ passes (letter_exits true (contains last.now)) base 1 copies.least false true copies.count) }
     ensures cursor { IfOk result (λ p. IsCursor last.now p.at (base + copies.count)) }
     ensures front { IfOk result (λ _. IsFront next.new.items (base + copies.count)) }
     ensures next { IfOk result (λ _. (q : ℕ)
-        → lists next.new.items q ≡ (lists next.old.items q || comes (letter_enters q)
-        (letter_exits true (lists last.now)) copies.loops base 1 true copies.count)) }
+        → contains next.new.items q ≡ (contains next.old.items q || comes (letter_enters q)
+        (letter_exits true (contains last.now)) copies.loops base 1 true copies.count)) }
 {
     add_all(base, copies.count, next)?;
     let end = base + usize::from(copies.count);
@@ -154,12 +154,12 @@ pub(crate) fn enter_letters(
     requires few { base + copies.count < 2 ^ 32 }
     requires front { IsFront next.old.items base }
     ensures left { IfOk result (λ p. p.left
-        ≡ passes (letter_exits skips (lists last.now)) base 1 copies.least false entered copies.count) }
+        ≡ passes (letter_exits skips (contains last.now)) base 1 copies.least false entered copies.count) }
     ensures cursor { IfOk result (λ p. IsCursor last.now p.at (base + copies.count)) }
     ensures front { IfOk result (λ _. IsFront next.new.items (base + copies.count)) }
     ensures next { IfOk result (λ _. (q : ℕ)
-        → lists next.new.items q ≡ (lists next.old.items q || comes (letter_enters q)
-        (letter_exits skips (lists last.now)) copies.loops base 1 entered copies.count)) }
+        → contains next.new.items q ≡ (contains next.old.items q || comes (letter_enters q)
+        (letter_exits skips (contains last.now)) copies.loops base 1 entered copies.count)) }
 {
     if skips && entered {
         return enter_all(last, at, base, copies, next);

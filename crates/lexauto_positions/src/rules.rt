@@ -1,7 +1,7 @@
 //! One step of the position automaton of all rules.
 ghost use Rattle.std.specs.Prelude.{◌≡◌, ℕ, ◌+◌, ◌<◌, ◌^◌, ◌++◌, ◌∷◌, [], ◌||◌};
 ghost use Rattle.std.specs.Prelude.{false, cond, length, map, slice_index, IfOk};
-ghost use Rattle.lex_semantics.specs.Active.{lists};
+ghost use Rattle.lex_semantics.specs.Active.{contains};
 ghost use Rattle.lex_semantics.specs.Sound.{HasSoundSides, HaveSoundSides};
 ghost use Rattle.lex_semantics.specs.Subsets.{positions_of_rule, all_positions};
 ghost use Rattle.lex_semantics.specs.Text.{flag, listed};
@@ -88,12 +88,12 @@ fn pass_rule(
     requires cursor { IsCursor last.now at base }
     requires few { base + positions_of_rule (shape_of rule.now) < 2 ^ 32 }
     requires front { IsFront next.old.items base }
-    ensures left { IfOk result (λ p. p.left ≡ rule_exits (shape_of rule.now) (lists last.now) base) }
+    ensures left { IfOk result (λ p. p.left ≡ rule_exits (shape_of rule.now) (contains last.now) base) }
     ensures cursor { IfOk result (λ p. IsCursor last.now p.at (base + positions_of_rule (shape_of rule.now))) }
     ensures front { IfOk result (λ _. IsFront next.new.items (base + positions_of_rule (shape_of rule.now))) }
     ensures next { IfOk result (λ _. (q : ℕ)
-        → lists next.new.items q ≡ (lists next.old.items q || rule_enters (shape_of rule.now)
-        (lists last.now) q base false)) }
+        → contains next.new.items q ≡ (contains next.old.items q || rule_enters (shape_of rule.now)
+        (contains last.now) q base false)) }
 {
     let head = enter(&rule.head, last, at, base, false, next)?;
     match &rule.trail {
@@ -131,11 +131,11 @@ impl Walked {
         ensures front { IfOk result (λ _. IsFront self.new.followers.items
             (owner.base + positions_of_rule (shape_of rule.now))) }
         ensures followers { IfOk result (λ _. (q : ℕ)
-            → lists self.new.followers.items q
-            ≡ (lists self.old.followers.items q || rule_enters (shape_of rule.now)
-            (lists last.now) q owner.base false)) }
+            → contains self.new.followers.items q
+            ≡ (contains self.old.followers.items q || rule_enters (shape_of rule.now)
+            (contains last.now) q owner.base false)) }
         ensures accepted { IfOk result (λ _. self.new.accepted.items
-            ≡ self.old.accepted.items ++ cond (rule_exits (shape_of rule.now) (lists last.now) owner.base)
+            ≡ self.old.accepted.items ++ cond (rule_exits (shape_of rule.now) (contains last.now) owner.base)
             (owner.rule ∷ []) []) }
     {
         let passed = pass_rule(rule, last, at, owner.base as usize, &mut self.followers)?;
@@ -171,9 +171,9 @@ pub fn pass_rules(
     requires cursor { IsCursor last.now 0 0 }
     requires within { (j : ℕ) → j < length last.now → slice_index last.now j < length owners.now }
     ensures followers { IfOk result (λ w. w.followers.items
-        ≡ listed (λ q. rules_enter (map shape_of rules.now) (λ _. false) (lists last.now) q 0 0) 0
+        ≡ listed (λ q. rules_enter (map shape_of rules.now) (λ _. false) (contains last.now) q 0 0) 0
         (all_positions (map shape_of rules.now))) }
-    ensures accepted { IfOk result (λ w. w.accepted.items ≡ rules_left (map shape_of rules.now) (lists last.now) 0 0) }
+    ensures accepted { IfOk result (λ w. w.accepted.items ≡ rules_left (map shape_of rules.now) (contains last.now) 0 0) }
 {
     let mut walked = Walked {
         followers: Vec::new(alloc),
@@ -199,7 +199,7 @@ fn enter_rule(
     requires front { IsFront next.old.items base }
     ensures front { IfOk result (λ _. IsFront next.new.items (base + positions_of_rule (shape_of rule.now))) }
     ensures next { IfOk result (λ _. (q : ℕ)
-        → lists next.new.items q ≡ (lists next.old.items q || rule_enters (shape_of rule.now)
+        → contains next.new.items q ≡ (contains next.old.items q || rule_enters (shape_of rule.now)
         (λ _. false) q base entered)) }
 {
     enter(&rule.head, &[], 0, base, entered, next)?;

@@ -1,7 +1,7 @@
 //! One step of the position automaton of a pattern, with no table of what follows what.
 ghost use Rattle.std.specs.Prelude.{◌≡◌, ℕ, ◌+◌, ◌-◌, ◌*◌, ◌<◌, ◌≤◌, ◌^◌, ◌||◌, ◌&&◌, ◌⊎◌};
 ghost use Rattle.std.specs.Prelude.{◌==◌, true, false, length, map, slice_index, IfOk};
-ghost use Rattle.lex_semantics.specs.Active.{lists};
+ghost use Rattle.lex_semantics.specs.Active.{contains};
 ghost use Rattle.lex_semantics.specs.Positions.{positions, positions_of, copies};
 ghost use Rattle.lexauto_positions.specs.Cursors.{IsCursor, IsFront};
 ghost use Rattle.lexauto_positions.specs.Flow.{is_zero, is_none, passes, comes, exits, exits_each};
@@ -73,7 +73,7 @@ pub(crate) fn is_quiet(last: &[u32], at: usize, end: usize) -> bool
 pub(crate) fn leave_letter(last: &[u32], at: usize, base: usize) -> Passed
     requires cursor { IsCursor last.now at base }
     requires few { base + 1 < 2 ^ 32 }
-    ensures left { result.left ≡ lists last.now base }
+    ensures left { result.left ≡ contains last.now base }
     ensures cursor { IsCursor last.now result.at (base + 1) }
 {
     if is_quiet(last, at, base + 1) {
@@ -97,7 +97,7 @@ pub(crate) fn leave(
     requires sized { IsSized (plan_of part.now) }
     requires cursor { IsCursor last.now at base }
     requires few { base + positions (tree_in (plan_of part.now)) < 2 ^ 32 }
-    ensures left { result.left ≡ exits (tree_in (plan_of part.now)) (lists last.now) base entered }
+    ensures left { result.left ≡ exits (tree_in (plan_of part.now)) (contains last.now) base entered }
     ensures cursor { IsCursor last.now result.at (base + positions (tree_in (plan_of part.now))) }
 {
     if !entered && is_quiet(last, at, base + part.size() as usize) {
@@ -127,7 +127,7 @@ fn leave_each(parts: &[SizedPattern], last: &[u32], at: usize, base: usize, ente
     requires sized { AreSized (plans (map plan_of parts.now)) }
     requires cursor { IsCursor last.now at base }
     requires few { base + positions_of (trees_in (plans (map plan_of parts.now))) < 2 ^ 32 }
-    ensures left { result.left ≡ exits_each (trees_in (plans (map plan_of parts.now))) (lists last.now) base entered }
+    ensures left { result.left ≡ exits_each (trees_in (plans (map plan_of parts.now))) (contains last.now) base entered }
     ensures cursor { IsCursor last.now result.at (base + positions_of (trees_in (plans (map plan_of parts.now)))) }
 {
     let mut passed = Passed { left: entered, at };
@@ -145,7 +145,7 @@ fn leave_some(parts: &[SizedPattern], last: &[u32], at: usize, base: usize, ente
     requires sized { AreSized (plans (map plan_of parts.now)) }
     requires cursor { IsCursor last.now at base }
     requires few { base + positions_of (trees_in (plans (map plan_of parts.now))) < 2 ^ 32 }
-    ensures left { result.left ≡ exits_some (trees_in (plans (map plan_of parts.now))) (lists last.now) base entered }
+    ensures left { result.left ≡ exits_some (trees_in (plans (map plan_of parts.now))) (contains last.now) base entered }
     ensures cursor { IsCursor last.now result.at (base + positions_of (trees_in (plans (map plan_of parts.now)))) }
 {
     let mut left = false;
@@ -173,7 +173,7 @@ fn leave_copies(
     requires sized { IsSized (plan_of inner.now) }
     requires cursor { IsCursor last.now at base }
     requires few { base + copies.count * positions (tree_in (plan_of inner.now)) < 2 ^ 32 }
-    ensures left { result.left ≡ passes (exits (tree_in (plan_of inner.now)) (lists last.now)) base
+    ensures left { result.left ≡ passes (exits (tree_in (plan_of inner.now)) (contains last.now)) base
         (positions (tree_in (plan_of inner.now))) copies.least false entered copies.count }
     ensures cursor { IsCursor last.now result.at (base + copies.count * positions (tree_in (plan_of inner.now))) }
 {
@@ -208,11 +208,11 @@ fn enter_letter(
     requires cursor { IsCursor last.now at base }
     requires few { base + 1 < 2 ^ 32 }
     requires front { IsFront next.old.items base }
-    ensures left { IfOk result (λ p. p.left ≡ lists last.now base) }
+    ensures left { IfOk result (λ p. p.left ≡ contains last.now base) }
     ensures cursor { IfOk result (λ p. IsCursor last.now p.at (base + 1)) }
     ensures front { IfOk result (λ _. IsFront next.new.items (base + 1)) }
     ensures next { IfOk result (λ _. (q : ℕ)
-        → lists next.new.items q ≡ (lists next.old.items q || (entered && (q == base)))) }
+        → contains next.new.items q ≡ (contains next.old.items q || (entered && (q == base)))) }
 {
     if entered {
         next.push(base as u32)?;
@@ -234,12 +234,12 @@ pub(crate) fn enter(
     requires cursor { IsCursor last.now at base }
     requires few { base + positions (tree_in (plan_of part.now)) < 2 ^ 32 }
     requires front { IsFront next.old.items base }
-    ensures left { IfOk result (λ p. p.left ≡ exits (tree_in (plan_of part.now)) (lists last.now) base entered) }
+    ensures left { IfOk result (λ p. p.left ≡ exits (tree_in (plan_of part.now)) (contains last.now) base entered) }
     ensures cursor { IfOk result (λ p. IsCursor last.now p.at (base + positions (tree_in (plan_of part.now)))) }
     ensures front { IfOk result (λ _. IsFront next.new.items (base + positions (tree_in (plan_of part.now)))) }
     ensures next { IfOk result (λ _. (q : ℕ)
-        → lists next.new.items q ≡ (lists next.old.items q || enters (tree_in (plan_of part.now))
-        (lists last.now) q base entered)) }
+        → contains next.new.items q ≡ (contains next.old.items q || enters (tree_in (plan_of part.now))
+        (contains last.now) q base entered)) }
 {
     if !entered && is_quiet(last, at, base + part.size() as usize) {
         return Ok(Passed { left: false, at });
@@ -280,14 +280,14 @@ fn enter_each(
     requires few { base + positions_of (trees_in (plans (map plan_of parts.now))) < 2 ^ 32 }
     requires front { IsFront next.old.items base }
     ensures left { IfOk result (λ p. p.left
-        ≡ exits_each (trees_in (plans (map plan_of parts.now))) (lists last.now) base entered) }
+        ≡ exits_each (trees_in (plans (map plan_of parts.now))) (contains last.now) base entered) }
     ensures cursor { IfOk result (λ p. IsCursor last.now p.at
         (base + positions_of (trees_in (plans (map plan_of parts.now))))) }
     ensures front { IfOk result (λ _. IsFront next.new.items
         (base + positions_of (trees_in (plans (map plan_of parts.now))))) }
     ensures next { IfOk result (λ _. (q : ℕ)
-        → lists next.new.items q ≡ (lists next.old.items q || enters_each (trees_in (plans (map plan_of parts.now)))
-        (lists last.now) q base entered)) }
+        → contains next.new.items q ≡ (contains next.old.items q || enters_each (trees_in (plans (map plan_of parts.now)))
+        (contains last.now) q base entered)) }
 {
     let mut passed = Passed { left: entered, at };
     let mut after = base;
@@ -313,14 +313,14 @@ fn enter_some(
     requires few { base + positions_of (trees_in (plans (map plan_of parts.now))) < 2 ^ 32 }
     requires front { IsFront next.old.items base }
     ensures left { IfOk result (λ p. p.left
-        ≡ exits_some (trees_in (plans (map plan_of parts.now))) (lists last.now) base entered) }
+        ≡ exits_some (trees_in (plans (map plan_of parts.now))) (contains last.now) base entered) }
     ensures cursor { IfOk result (λ p. IsCursor last.now p.at
         (base + positions_of (trees_in (plans (map plan_of parts.now))))) }
     ensures front { IfOk result (λ _. IsFront next.new.items
         (base + positions_of (trees_in (plans (map plan_of parts.now))))) }
     ensures next { IfOk result (λ _. (q : ℕ)
-        → lists next.new.items q ≡ (lists next.old.items q || enters_some (trees_in (plans (map plan_of parts.now)))
-        (lists last.now) q base entered)) }
+        → contains next.new.items q ≡ (contains next.old.items q || enters_some (trees_in (plans (map plan_of parts.now)))
+        (contains last.now) q base entered)) }
 {
     let mut left = false;
     let mut cursor = at;
@@ -351,16 +351,16 @@ fn enter_copies(
     requires few { base + copies.count * positions (tree_in (plan_of inner.now)) < 2 ^ 32 }
     requires front { IsFront next.old.items base }
     ensures left { IfOk result (λ p. p.left
-        ≡ passes (exits (tree_in (plan_of inner.now)) (lists last.now)) base
+        ≡ passes (exits (tree_in (plan_of inner.now)) (contains last.now)) base
         (positions (tree_in (plan_of inner.now))) copies.least false entered copies.count) }
     ensures cursor { IfOk result (λ p. IsCursor last.now p.at
         (base + copies.count * positions (tree_in (plan_of inner.now)))) }
     ensures front { IfOk result (λ _. IsFront next.new.items
         (base + copies.count * positions (tree_in (plan_of inner.now)))) }
     ensures next { IfOk result (λ _. (q : ℕ)
-        → lists next.new.items q ≡ (lists next.old.items q || comes
-        (enters (tree_in (plan_of inner.now)) (lists last.now) q)
-        (exits (tree_in (plan_of inner.now)) (lists last.now)) copies.loops base
+        → contains next.new.items q ≡ (contains next.old.items q || comes
+        (enters (tree_in (plan_of inner.now)) (contains last.now) q)
+        (exits (tree_in (plan_of inner.now)) (contains last.now)) copies.loops base
         (positions (tree_in (plan_of inner.now))) entered copies.count)) }
 {
     if let Some(skips) = optional_letter(inner) {
@@ -402,13 +402,13 @@ fn enter_copy(
     requires cursor { IsCursor last.now at base }
     requires few { base + positions (tree_in (plan_of inner.now)) < 2 ^ 32 }
     requires front { IsFront next.old.items base }
-    ensures left { IfOk result (λ p. p.left ≡ exits (tree_in (plan_of inner.now)) (lists last.now) base entered) }
+    ensures left { IfOk result (λ p. p.left ≡ exits (tree_in (plan_of inner.now)) (contains last.now) base entered) }
     ensures cursor { IfOk result (λ p. IsCursor last.now p.at (base + positions (tree_in (plan_of inner.now)))) }
     ensures front { IfOk result (λ _. IsFront next.new.items (base + positions (tree_in (plan_of inner.now)))) }
     ensures next { IfOk result (λ _. (q : ℕ)
-        → lists next.new.items q ≡ (lists next.old.items q || enters (tree_in (plan_of inner.now))
-        (lists last.now) q base (entered ||
-        (loops && exits (tree_in (plan_of inner.now)) (lists last.now) base false)))) }
+        → contains next.new.items q ≡ (contains next.old.items q || enters (tree_in (plan_of inner.now))
+        (contains last.now) q base (entered ||
+        (loops && exits (tree_in (plan_of inner.now)) (contains last.now) base false)))) }
 {
     if !entered && is_quiet(last, at, base + inner.size() as usize) {
         return Ok(Passed { left: false, at });

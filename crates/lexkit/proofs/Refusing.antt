@@ -1,7 +1,7 @@
 -- The builder's refusals, by their reasons.
 use Rattle.std.proofs.Common.{◌≡◌, ℕ, ◌<◌, Bool, false, List, refl, Result, Ok, Err}
 use Rattle.lex_semantics.specs.Spec.{Spec}
-use Rattle.lex_semantics.specs.Subsets.{Subsets, all_positions}
+use Rattle.lex_semantics.specs.Subsets.{HasSubsets, all_positions}
 use Rattle.lexauto.specs.declared.subsets.Limits.{Limits}
 use Rattle.lexauto.specs.declared.error.BuildError.{BuildError}
 use Rattle.lexauto.specs.declared.error.BuildError.TheVariants as builds
@@ -23,7 +23,7 @@ use Rattle.lexkit.specs.declared.errors.GenError.{GenError}
 use Rattle.lexkit.specs.declared.errors.GenError.TheVariants as gens
 use Rattle.lexkit.specs.declared.errors.ScanError.TheVariants.{Generate}
 
-pub by_reason : (limits : Limits) (S : Spec) (e : BuildError) → (e ≡ builds.TooManyPositions → limits.positions < all_positions S.rules) → (e ≡ builds.TooManyStates → (n : ℕ) → Subsets S n → limits.states < n) → BuildRefusal limits S e
+pub by_reason : (limits : Limits) (S : Spec) (e : BuildError) → (e ≡ builds.TooManyPositions → limits.positions < all_positions S.rules) → (e ≡ builds.TooManyStates → (n : ℕ) → HasSubsets S n → limits.states < n) → BuildRefusal limits S e
 by_reason limits S builds.TooManyPositions positions states = positions refl
 by_reason limits S builds.TooManyStates positions states = states refl
 by_reason limits S builds.OutOfMemory positions states = tt

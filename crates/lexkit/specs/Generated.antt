@@ -7,7 +7,7 @@ use Rattle.lex_semantics.specs.Spec.{Spec, Rule}
 use Rattle.lex_semantics.specs.Sound.{IsSound}
 use Rattle.lex_semantics.specs.Machine.{Machine}
 use Rattle.lex_semantics.specs.Reports.{Useless}
-use Rattle.lex_semantics.specs.Subsets.{Subsets, all_positions}
+use Rattle.lex_semantics.specs.Subsets.{HasSubsets, all_positions}
 use Rattle.lexspec.specs.Files.{SpellsSpec}
 use Rattle.lexspec.specs.Skipped.{AreSkipped}
 use Rattle.lexauto.specs.declared.subsets.Limits.{Limits}
@@ -44,7 +44,7 @@ pub record AreCounts (S : Spec) (t : Table) (z : Stats) : Type 0 where
   pub rules : z.rules ≡ length S.rules
   pub conditions : z.conditions ≡ length S.conditions
   pub positions : z.positions ≡ all_positions S.rules
-  pub subsets : Subsets S z.subsets
+  pub subsets : HasSubsets S z.subsets
   pub states : z.states ≡ length t.rows
   pub classes : z.classes ≡ t.classes
   pub slots : z.slots ≡ length t.slots

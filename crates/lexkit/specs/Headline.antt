@@ -11,7 +11,7 @@ use Rattle.lextab_file.specs.File.{IsFileOf}
 use Rattle.lextab_file.specs.Refusals.{is_out_of_memory, refusal_of}
 use Rattle.lextab_file.specs.declared.error.TableError.TheVariants as errors
 use Rattle.lextab_file.specs.declared.error.TableError.{TableError}
-use Rattle.lex_semantics.specs.Subsets.{Subsets, all_positions}
+use Rattle.lex_semantics.specs.Subsets.{HasSubsets, all_positions}
 use Rattle.lexspec.specs.Outcome.{UnlessMemory}
 use Rattle.lexspec.specs.Files.{SpellsSpec, ReadOptions}
 use Rattle.lexauto.specs.declared.subsets.Limits.{Limits}
@@ -33,13 +33,13 @@ max_reads = 1099511627776
 pub record IsWithin (limits : Limits) (S : Spec) : Type 0 where
   pub few_positions : all_positions S.rules ≤ limits.positions
   pub states : ℕ
-  pub subsets : Subsets S states
+  pub subsets : HasSubsets S states
   pub few_states : states ≤ limits.states
 
 -- The builder refuses a specification only where its automaton passes a limit, or memory ran out.
 abbrev pub BuildRefusal : Limits → Spec → BuildError → Type 0
 BuildRefusal limits S builds.TooManyPositions = limits.positions < all_positions S.rules
-BuildRefusal limits S builds.TooManyStates = (n : ℕ) → Subsets S n → limits.states < n
+BuildRefusal limits S builds.TooManyStates = (n : ℕ) → HasSubsets S n → limits.states < n
 BuildRefusal limits S builds.OutOfMemory = ⊤
 
 -- how the patterns of a specification are read

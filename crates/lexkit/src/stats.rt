@@ -2,7 +2,7 @@
 ghost use Rattle.std.specs.Prelude.{◌≡◌, ℕ, ◌+◌, ◌-◌, ◌^◌, ◌<◌, ◌≤◌, length};
 ghost use Rattle.lex_io.specs.Sink.{Appended, fault_count};
 ghost use Rattle.lexspec.specs.Views.{spec_of, rules_in};
-ghost use Rattle.lex_semantics.specs.Subsets.{Subsets, all_positions};
+ghost use Rattle.lex_semantics.specs.Subsets.{HasSubsets, all_positions};
 ghost use Rattle.lextab_packed.specs.Machines.{table_parts};
 ghost use Rattle.lextab_packed.specs.Views.{table_of};
 ghost use Rattle.lexkit.specs.Generated.{AreCounts};
@@ -39,7 +39,7 @@ pub struct Stats {
 /// The counts of a specification and its tables.
 pub(crate) fn stats_of(spec: &Spec, limits: Limits, subsets: u32, tables: &Tables) -> Stats
     requires few { all_positions (rules_in (spec_of spec.now)) ≤ limits.positions }
-    requires subsets { Subsets (spec_of spec.now) subsets }
+    requires subsets { HasSubsets (spec_of spec.now) subsets }
     ensures { AreCounts (spec_of spec.now) (table_of (table_parts tables.now)) result }
 {
     let parts = tables.parts();

@@ -7,8 +7,8 @@ use Rattle.lex_semantics.specs.Spec.{Spec, Rule, Condition}
 use Rattle.lex_semantics.specs.Active.{active}
 use Rattle.lex_semantics.specs.Reports.{HasFit}
 use Rattle.lex_semantics.specs.TableFor.{Accepted}
-use Rattle.lex_semantics.specs.Positions.{Cell, Readings, Matches}
-use Rattle.lex_semantics.specs.Subsets.{all_positions, positions_of_rule, AreLasts, AreStarts, IsActive, IsLast, ListsSet, ReadsActive, ReadsRule, Subsets}
+use Rattle.lex_semantics.specs.Positions.{MarkedByte, Readings, Matches}
+use Rattle.lex_semantics.specs.Subsets.{all_positions, positions_of_rule, AreLasts, AreStarts, IsActive, IsLast, ListsSet, ReadsActive, ReadsRule, HasSubsets}
 use Rattle.lexlook_specs.specs.Rejecting.{rejecting, rejecting_rule}
 
 pub got_map : (rs : List Rule) (i : ℕ) (r : Rule) → slice_get rs i ≡ Some r → slice_get (map rejecting_rule rs) i ≡ Some (rejecting_rule r)
@@ -85,7 +85,7 @@ active_same S c line i = (
   λ h. (rejecting_rule h.0, got_map S.rules i h.0 h.1, h.2),
 )
 
-reads_same : (S : Spec) (c : ℕ) (line : Bool) (rs : List Cell) → ReadsActive (rejecting S) c line rs ↔ ReadsActive S c line rs
+reads_same : (S : Spec) (c : ℕ) (line : Bool) (rs : List MarkedByte) → ReadsActive (rejecting S) c line rs ↔ ReadsActive S c line rs
 reads_same S c line rs = (
   λ h.
       let g = got_back S.rules h.0 h.1 h.2 in
@@ -97,7 +97,7 @@ reads_same S c line rs = (
 lists_alike : (l : List ℕ) (P Q : ℕ → Type 0) → ((i : ℕ) → P i ↔ Q i) → ListsSet l P → ListsSet l Q
 lists_alike l P Q same h = (h.0, λ i. (λ a. (same i).0 ((h.1 i).0 a), λ q. (h.1 i).1 ((same i).1 q)))
 
-last_alike : (R Q : Readings) → ((rs : List Cell) → R rs ↔ Q rs) → (w : List ℕ) (p : ℕ) → IsLast R w p ↔ IsLast Q w p
+last_alike : (R Q : Readings) → ((rs : List MarkedByte) → R rs ↔ Q rs) → (w : List ℕ) (p : ℕ) → IsLast R w p ↔ IsLast Q w p
 last_alike R Q same w p = (
   λ h. (h.0, h.1, h.2, h.3, (same (h.0 ++ (h.2, p) ∷ h.1)).0 h.4),
   λ h. (h.0, h.1, h.2, h.3, (same (h.0 ++ (h.2, p) ∷ h.1)).1 h.4),
@@ -109,7 +109,7 @@ swap e = (e.1, e.0)
 -- sets of active rules and of last positions that are the same
 module _ (S T : Spec) (count : length S.conditions ≡ length T.conditions)
     (active_is : (c : ℕ) (line : Bool) (i : ℕ) → IsActive S c line i ↔ IsActive T c line i)
-    (reads_are : (c : ℕ) (line : Bool) (rs : List Cell) → ReadsActive S c line rs ↔ ReadsActive T c line rs) where
+    (reads_are : (c : ℕ) (line : Bool) (rs : List MarkedByte) → ReadsActive S c line rs ↔ ReadsActive T c line rs) where
   starts_alike : (ls : List (List ℕ)) → AreStarts S ls → AreStarts T ls
   starts_alike ls a = record {
     distinct = a.distinct;
@@ -132,7 +132,7 @@ module _ (S T : Spec) (count : length S.conditions ≡ length T.conditions)
     );
   }
 
-  pub subsets_alike : (n : ℕ) → Subsets S n → Subsets T n
+  pub subsets_alike : (n : ℕ) → HasSubsets S n → HasSubsets T n
   subsets_alike n a = record {
     starts = a.starts;
     lasts = a.lasts;
@@ -141,8 +141,8 @@ module _ (S T : Spec) (count : length S.conditions ≡ length T.conditions)
     total = a.total;
   }
 
-pub subsets_to : (S : Spec) (n : ℕ) → Subsets (rejecting S) n → Subsets S n
+pub subsets_to : (S : Spec) (n : ℕ) → HasSubsets (rejecting S) n → HasSubsets S n
 subsets_to S n = subsets_alike (rejecting S) S refl (active_same S) (reads_same S) n
 
-pub subsets_from : (S : Spec) (n : ℕ) → Subsets S n → Subsets (rejecting S) n
+pub subsets_from : (S : Spec) (n : ℕ) → HasSubsets S n → HasSubsets (rejecting S) n
 subsets_from S n = subsets_alike S (rejecting S) refl (λ c line i. swap (active_same S c line i)) (λ c line rs. swap (reads_same S c line rs)) n

@@ -2,7 +2,7 @@
 use Rattle.std.proofs.Common.{◌≡◌, ℕ, zero, suc, ◌<◌, Bool, true, false, ◌&&◌, List, [], ◌∷◌, ◌++◌, length, map, Option, Some, None, refl, sym, ◌∙◌, ap, subst, arith, codes}
 use Rattle.std.specs.Prelude.{not, slice_get}
 use Rattle.std.proofs.lemmas.Map.Keys.{any_passes_from_place}
-use Rattle.lex_semantics.specs.ByteSets.{is_word}
+use Rattle.lex_semantics.specs.ByteSets.{same_bytes}
 use Rattle.lex_semantics.specs.Spec.{Spec, Statement, Echo, Print, Begin, More, Less, Reject, End, Push, Pop}
 use Rattle.lex_semantics.specs.Machine.{Machine, state_after}
 use Rattle.lexspec.specs.Files.{SpellsSpec}
@@ -39,7 +39,7 @@ names_with k (c ∷ cs) ends = ap (λ l. c.1 ∷ l) (names_with (suc k) cs ends)
 abbrev initial : List ℕ
 initial = codes "INITIAL"
 
-is_itself : is_word initial initial ≡ true
+is_itself : same_bytes initial initial ≡ true
 is_itself = refl
 
 not_both : (b c : Bool) → b ≡ true → not b && c ≡ true → ⊥
@@ -49,7 +49,7 @@ not_both false c e f = cc
 -- of distinct names the first one stands first alone
 stands_first : (ns : List (List ℕ)) (i : ℕ) → are_distinct (initial ∷ ns) ≡ true → slice_get (initial ∷ ns) i ≡ Some initial → i ≡ 0
 stands_first ns zero distinct at = refl
-stands_first ns (suc i) distinct at = absurd (not_both (has_name ns initial) (are_distinct ns) (any_passes_from_place (λ n. is_word n initial) ns i initial at is_itself) distinct)
+stands_first ns (suc i) distinct at = absurd (not_both (has_name ns initial) (are_distinct ns) (any_passes_from_place (λ n. same_bytes n initial) ns i initial at is_itself) distinct)
 
 -- INITIAL has the number 0 in each specification
 begins : (options : Options) (x y : List ℕ) (S T : Spec) (order : List ℕ) → SpellsSpec (reading options) x S → SpellsSpec (reading options) y T → AreNamed (names_of S.conditions) (names_of T.conditions) order → BeginTogether order

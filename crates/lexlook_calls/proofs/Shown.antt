@@ -5,7 +5,7 @@ use Rattle.std.proofs.lemmas.List.{length-map}
 use Rattle.lex_semantics.specs.Spec.{Spec, Rule}
 use Rattle.lex_semantics.specs.Text.{Among, flag}
 use Rattle.lex_semantics.specs.TableFor.{TableFor}
-use Rattle.lex_semantics.specs.Subsets.{Subsets, all_positions}
+use Rattle.lex_semantics.specs.Subsets.{HasSubsets, all_positions}
 use Rattle.lexauto.specs.declared.error.BuildError.{BuildError}
 use Rattle.lexauto.specs.declared.error.BuildError.TheVariants as builds
 use Rattle.lexauto.specs.declared.subsets.Limits.{Limits}
@@ -85,21 +85,21 @@ pub lines_same : (S T : Spec) → T ≡ rejecting S → lines_of T.rules ≡ lin
 lines_same S T e = ap (λ (U : Spec). lines_of U.rules) e ∙ lines_map S.rules
 
 -- what is refused of one is refused of the other
-pub refused_alike : (limits : Limits) (S T : Spec) (e : BuildError) → T ≡ rejecting S → (e ≡ builds.TooManyPositions → limits.positions < all_positions T.rules) → (e ≡ builds.TooManyStates → (n : ℕ) → Subsets T n → limits.states < n)
+pub refused_alike : (limits : Limits) (S T : Spec) (e : BuildError) → T ≡ rejecting S → (e ≡ builds.TooManyPositions → limits.positions < all_positions T.rules) → (e ≡ builds.TooManyStates → (n : ℕ) → HasSubsets T n → limits.states < n)
     → BuildRefusal limits S e
 refused_alike limits S T e is positions states =
     by_reason limits S e (λ many. subst (λ (n : ℕ). limits.positions < n) (ap (λ (U : Spec). all_positions U.rules) is ∙ positions_same S.rules) (positions many))
-    (λ many n h. states many n (subst (λ (U : Spec). Subsets U n) (sym is) (subsets_from S n h)))
+    (λ many n h. states many n (subst (λ (U : Spec). HasSubsets U n) (sym is) (subsets_from S n h)))
 
 -- what is found by the automaton of the one is told of the other
-pub words_shown : (limits : Limits) (S T : Spec) (d : Dfa) (rejects : List Bool) (v : Words) → T ≡ rejecting S → TableFor (machine_of d T) T → conditions_of d ≡ length T.conditions → Subsets T (states_of d)
+pub words_shown : (limits : Limits) (S T : Spec) (d : Dfa) (rejects : List Bool) (v : Words) → T ≡ rejecting S → TableFor (machine_of d T) T → conditions_of d ≡ length T.conditions → HasSubsets T (states_of d)
     → all_positions T.rules ≤ limits.positions → states_of d ≤ limits.states → length rejects ≡ length S.rules → ((i : ℕ) → flag rejects i ≡ has_reject (statements_at (slice_get S.rules i)))
     → AreWords (matches_in d.parts rejects) v → AreWordsOf limits S v
 words_shown limits S T d rejects v is table count subsets positions states len flags words = record {
   within = record {
     few_positions = subst (λ (n : ℕ). n ≤ limits.positions) (ap (λ (U : Spec). all_positions U.rules) is ∙ positions_same S.rules) positions;
     states = states_of d;
-    subsets = subsets_to S (states_of d) (subst (λ (U : Spec). Subsets U (states_of d)) is subsets);
+    subsets = subsets_to S (states_of d) (subst (λ (U : Spec). HasSubsets U (states_of d)) is subsets);
     few_states = states;
   };
   words = words_alike (matches_in d.parts rejects) (matches_of S)

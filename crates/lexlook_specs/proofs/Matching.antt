@@ -9,7 +9,7 @@ use Rattle.std.specs.Prelude.{MatchOption}
 use Rattle.std.specs.Prelude.{drop}
 use Rattle.lex_semantics.specs.Acting.{Acting}
 use Rattle.lex_semantics.specs.ActionResults.{ActionResult, Done, Again, Over, act_result, settle, perform_results}
-use Rattle.lex_semantics.specs.Active.{active, serves, lists}
+use Rattle.lex_semantics.specs.Active.{active, serves, contains}
 use Rattle.lex_semantics.specs.Candidates.{Candidate, Before, InOrder, IsCandidate, Candidates}
 use Rattle.lex_semantics.specs.Fits.{Fits}
 use Rattle.lex_semantics.specs.Rules.{Rules, Full, rules_of, statements_of}
@@ -44,7 +44,7 @@ got_last : (rs : List Rule) (d : Rule) → slice_get (map traced_rule rs ++ d �
 got_last [] d = refl
 got_last (r ∷ rs) d = got_last rs d
 
-is_listed : (i k c : ℕ) → i ≤ c → c < i + k → lists (listed (λ c. true) i k) c ≡ true
+is_listed : (i k c : ℕ) → i ≤ c → c < i + k → contains (listed (λ c. true) i k) c ≡ true
 is_listed i zero c le lt = absurd (omega (arith, le, lt))
 is_listed i (suc k) c le lt = from (cases_lt i c) (λ less. is_listed (suc i) k c less (omega (arith, lt)))
   where
@@ -52,9 +52,9 @@ is_listed i (suc k) c le lt = from (cases_lt i c) (λ less. is_listed (suc i) k 
     or_right true d h = refl
     or_right false d h = h
 
-    from : (i < c) ⊎ (c ≤ i) → (i < c → lists (listed (λ c. true) (suc i) k) c ≡ true) → ((i == c) || lists (listed (λ c. true) (suc i) k) c) ≡ true
-    from (inl less) later = or_right (i == c) (lists (listed (λ c. true) (suc i) k) c) (later less)
-    from (inr more) later = ap (λ d. d || lists (listed (λ c. true) (suc i) k) c) (eq-eqb i c (omega (arith, le, more)))
+    from : (i < c) ⊎ (c ≤ i) → (i < c → contains (listed (λ c. true) (suc i) k) c ≡ true) → ((i == c) || contains (listed (λ c. true) (suc i) k) c) ≡ true
+    from (inl less) later = or_right (i == c) (contains (listed (λ c. true) (suc i) k) c) (later less)
+    from (inr more) later = ap (λ d. d || contains (listed (λ c. true) (suc i) k) c) (eq-eqb i c (omega (arith, le, more)))
 
 -- conditions
 
@@ -132,7 +132,7 @@ module _ (S : Spec) where
   last_fits c line (b ∷ []) lt text size = record {
     rule = last;
     at = got_last S.rules last;
-    is_active = and_from (lists (listed (λ c. true) 0 (length S.conditions)) c) true (is_listed 0 (length S.conditions) c (omega arith) (omega (arith, lt))) refl;
+    is_active = and_from (contains (listed (λ c. true) 0 (length S.conditions)) c) true (is_listed 0 (length S.conditions) c (omega arith) (omega (arith, lt))) refl;
     not_empty = omega arith;
     inside = omega arith;
     in_head = ((b, 0) ∷ [], refl, (b, refl, (text.0, has_any b text.0)));

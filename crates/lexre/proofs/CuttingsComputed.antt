@@ -3,7 +3,7 @@ use Rattle.std.proofs.Common.{◌≡◌, ℕ, suc, ◌-◌, ◌+◌, Bool, true,
 use Rattle.std.specs.Prelude.{not, ◌||◌, ◌&&◌, ◌==◌, fold}
 use Rattle.lex_semantics.specs.ByteSets.{has, set_of, single, is_alpha, is_digit, is_alnum, is_blank, other_case, named_set}
 use Rattle.lex_semantics.specs.Escapes.{simple_escape, octal_at, hexadecimal_at, until_quote}
-use Rattle.lex_semantics.specs.Reading.{take_up_to, begins, IsCut}
+use Rattle.lex_semantics.specs.Reading.{take_up_to, begins, IsReadAs}
 use Rattle.lexre_bytes.specs.Lexical.{after_word, run_at, escape_at, class_name_at, enclosed_by, bracketed_at, range_at, element_at, elements_at, class_at, span}
 use Rattle.lexre.specs.Cutting.{piece_at, ends_pattern, depth}
 use Rattle.lexre.proofs.OneTree.{some_is}
@@ -191,7 +191,7 @@ next_is u v rest rest' e =
     (ap (λ (x : List ℕ × List ℕ). x.0) same, ap (λ (x : List ℕ × List ℕ). x.1) same)
 
 -- A text that begins with two pieces and then a slash, of which the first opens a parenthesis.
-shut : (pieces : List (List ℕ)) (end : ℕ) → IsCut piece_at (λ rest. (ends_pattern rest ≡ true) × (end + length rest ≡ length (codes "(a/b) c"))) (codes "(a/b) c") pieces
+shut : (pieces : List (List ℕ)) (end : ℕ) → IsReadAs piece_at (λ rest. (ends_pattern rest ≡ true) × (end + length rest ≡ length (codes "(a/b) c"))) (codes "(a/b) c") pieces
     → ((before after : List (List ℕ)) (p : List ℕ) → pieces ≡ before ++ p ∷ after → begins (codes "/") p ≡ true → depth before ≡ 0) → ⊥
 unfolding piece_at is_blank
 shut [] end cut out = (let e : ends_pattern (codes "(a/b) c") ≡ true = cut.0 in cc)
@@ -214,7 +214,7 @@ shut (p ∷ q ∷ s ∷ more) end (rest, here, (last, there, (after, behind, cut
     cc
 
 -- a text in quotes without an end
-unclosed : (pieces : List (List ℕ)) (end : ℕ) → IsCut piece_at (λ rest. (ends_pattern rest ≡ true) × (end + length rest ≡ length (codes "\"a b"))) (codes "\"a b") pieces → ⊥
+unclosed : (pieces : List (List ℕ)) (end : ℕ) → IsReadAs piece_at (λ rest. (ends_pattern rest ≡ true) × (end + length rest ≡ length (codes "\"a b"))) (codes "\"a b") pieces → ⊥
 unfolding piece_at until_quote is_blank
 unclosed [] end cut = (let e : ends_pattern (codes "\"a b") ≡ true = cut.0 in cc)
 unclosed (p ∷ pieces) end (rest, here, cut) = (let none : ◌≡◌ {A = Fronts} None (Some (p, rest)) = here in cc)

@@ -4,7 +4,7 @@ use Rattle.std.proofs.lemmas.Bool.{and_parts, or_cases, eqb-true}
 use Rattle.std.specs.FinMap.{get}
 use Rattle.lexre_bytes.specs.Lexical.{symbol_at}
 use Rattle.lexre_bytes.specs.Symbols.{Symbol, item, name, opening, closing, bar, sign, grouped, Lexer, IsCut}
-use Rattle.lex_semantics.specs.ByteSets.{is_word}
+use Rattle.lex_semantics.specs.ByteSets.{same_bytes}
 use Rattle.lex_semantics.specs.Text.{Among}
 use Rattle.lex_semantics.specs.Tree.{Tree, Alt}
 use Rattle.lexre.specs.Cycles.{LeadsTo, LeadsToText, AllLead, AllLeadToText, AllLeadToSymbol}
@@ -172,17 +172,17 @@ no_tree how definitions n leads (suc most) d t h stands =
     let (below, u, less, stands') = leads d t stands in
     no_tree how definitions n leads most below u (omega arith) stands'
 
-word_is : (v w : List ℕ) → is_word v w ≡ true → v ≡ w
+word_is : (v w : List ℕ) → same_bytes v w ≡ true → v ≡ w
 word_is [] [] e = refl
 word_is [] (c ∷ w) e = cc
 word_is (b ∷ v) [] e = cc
 word_is (b ∷ v) (c ∷ w) e =
-    let p = and_parts (nat_eq b c) (is_word v w) e in
+    let p = and_parts (nat_eq b c) (same_bytes v w) e in
     ap (λ z. z ∷ v) (eqb-true b c p.0) ∙ ap (λ z. c ∷ z) (word_is v w p.1)
 
 pub among_open : {Y : Type 0} (n : List ℕ) (vs : List (Vec ℕ Y)) → is_among n vs ≡ true → Among (map (λ v. v.items) vs) n
 among_open n [] e = cc
-among_open n (v ∷ vs) e = elim (or_cases (is_word v.items n) (is_among n vs) e) [
+among_open n (v ∷ vs) e = elim (or_cases (same_bytes v.items n) (is_among n vs) e) [
   | inl here ↦ inl (sym (word_is v.items n here))
   | inr more ↦ inr (among_open n vs more)
 ]

@@ -3,7 +3,7 @@ use Rattle.std.proofs.Common.{◌≡◌, ℕ, zero, suc, ◌<◌, ◌≤◌, Boo
 use Rattle.std.specs.Prelude.{codes, find, zip, take, option_map}
 use Rattle.std.specs.List.{list_any}
 use Rattle.std.specs.Option.{option_or}
-use Rattle.lex_semantics.specs.Active.{lists}
+use Rattle.lex_semantics.specs.Active.{contains}
 use Rattle.lex_semantics.specs.ByteSets.{single, complement, is_alnum, is_digit}
 use Rattle.lex_semantics.specs.Tree.{Set, Star, Repeat}
 use Rattle.lex_semantics.specs.Reading.{◌>>=◌, begins, is_empty, starts_name, take_up_to, value}
@@ -161,7 +161,7 @@ braces_within t = rw (braces_is t) (go (list_any is_digit (take 1 t)) (list_any 
 symbol_within : (fold : Bool) (c : ℕ) (t : List ℕ) → IsUpTo (length t) (symbol_at fold (c ∷ t))
 unfolding symbol_at
 symbol_within fold c t =
-    go (find (λ (row : ℕ × Symbol). c == row.0) signs) (lists (codes "\"") c) (lists (codes "[") c) (lists (codes "{") c) (lists (codes "/ \t") c)
+    go (find (λ (row : ℕ × Symbol). c == row.0) signs) (contains (codes "\"") c) (contains (codes "[") c) (contains (codes "{") c) (contains (codes "/ \t") c)
   where
     signs : List (ℕ × Symbol)
     signs = zip (codes "()|*+?.") (opening ∷ closing ∷ bar ∷ sign false Star ∷ sign false (λ t. Repeat t 1 None) ∷ sign false (λ t. Repeat t 0 (Some 1)) ∷ item (Set (complement (single 10))) ∷ [])

@@ -3,7 +3,7 @@ use Rattle.std.proofs.lemmas.Bool.{cases_lt}
 use Rattle.std.proofs.Common.{⊎_elim, ◌≡◌, ℕ, zero, suc, ◌+◌, ◌*◌, ◌^◌, ◌<◌, ◌≤◌, min, max, length, List, [], ◌∷◌, ◌++◌, Option, Some, None, Result, option_map, unwrap_or, IfSome, ◌⊎◌, inl, inr, refl, sym, ap, ◌∙◌, subst, arith, length-append}
 use Rattle.std.specs.Prelude.{IsSomeAnd}
 use Rattle.std.specs.Result.{OkIff, result_ok}
-use Rattle.lex_semantics.specs.Tree.{Tree, Trees, Empty, Set, Cat, Alt, Star, Repeat, no_trees, tree, Passes, In, InEach, InSome}
+use Rattle.lex_semantics.specs.Tree.{Tree, Trees, Empty, Set, Cat, Alt, Star, Repeat, no_trees, tree, Iterates, In, InEach, InSome}
 use Rattle.lex_semantics.specs.Shapes.{Language, LongestIs, HasLengths, IsSoundTree, AreSoundTrees, HasPart}
 use Rattle.lexre_bytes.proofs.Narrowing.{fits, too_large}
 use Rattle.lexre.specs.Lengths.{plus, larger, lesser, unbounded, repeated, least, least_of_each, least_of_some, greatest, greatest_of_each, greatest_of_some, capped, PassesLimit}
@@ -85,14 +85,14 @@ either_lengths L M a b x y h k = record {
 
 -- ---- joinings
 
-at_least : (L : Language) (a : ℕ) → ((w : List ℕ) → L w → a ≤ length w) → (j k : ℕ) (w : List ℕ) → Passes (λ i. L) j k w → k * a ≤ length w
+at_least : (L : Language) (a : ℕ) → ((w : List ℕ) → L w → a ≤ length w) → (j k : ℕ) (w : List ℕ) → Iterates (λ i. L) j k w → k * a ≤ length w
 at_least L a h j zero w e = omega arith
 at_least L a h j (suc k) w (u, v, e, i, rest) =
     let here : a ≤ length u = h u i in
     let more : k * a ≤ length v = at_least L a h (suc j) k v rest in
     omega (arith, of_two w u v e)
 
-at_most : (L : Language) (b : ℕ) → ((w : List ℕ) → L w → length w ≤ b) → (j k : ℕ) (w : List ℕ) → Passes (λ i. L) j k w → length w ≤ k * b
+at_most : (L : Language) (b : ℕ) → ((w : List ℕ) → L w → length w ≤ b) → (j k : ℕ) (w : List ℕ) → Iterates (λ i. L) j k w → length w ≤ k * b
 at_most L b h j zero w e = omega (arith, ap length e)
 at_most L b h j (suc k) w (u, v, e, i, rest) =
     let here : length u ≤ b = h u i in
@@ -100,7 +100,7 @@ at_most L b h j (suc k) w (u, v, e, i, rest) =
     omega (arith, of_two w u v e)
 
 -- a word as often as one likes
-same_joined : (L : Language) (w : List ℕ) → L w → (j k : ℕ) → (v : List ℕ) × Passes (λ i. L) j k v × (length v ≡ k * length w)
+same_joined : (L : Language) (w : List ℕ) → L w → (j k : ℕ) → (v : List ℕ) × Iterates (λ i. L) j k v × (length v ≡ k * length w)
 same_joined L w i j zero = ([], refl, omega arith)
 same_joined L w i j (suc k) =
     let (v, joined, e) = same_joined L w i (suc j) k in
@@ -108,7 +108,7 @@ same_joined L w i j (suc k) =
 
 -- from least to most words
 abbrev Several : Language → ℕ → Option ℕ → Language
-Several L least most w = (k : ℕ) × (least ≤ k) × IfSome most (λ n. k ≤ n) × Passes (λ i. L) 0 k w
+Several L least most w = (k : ℕ) × (least ≤ k) × IfSome most (λ n. k ≤ n) × Iterates (λ i. L) 0 k w
 
 several_of : (L : Language) (least : ℕ) (most : Option ℕ) (w : List ℕ) → L w → (k : ℕ) → least ≤ k → IfSome most (λ n. k ≤ n) → (v : List ℕ) × Several L least most v × (length v ≡ k * length w)
 several_of L least most w i k low high = (let (v, joined, e) = same_joined L w i 0 k in (v, (k, low, high, joined), e))

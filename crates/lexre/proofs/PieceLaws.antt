@@ -3,7 +3,7 @@ use Rattle.std.proofs.Common.{◌≡◌, ℕ, zero, suc, ◌+◌, ◌-◌, ◌<�
 use Rattle.std.proofs.lemmas.Bool.{cases_eq, and_parts}
 use Rattle.std.specs.Prelude.{codes, cond, fold, filter, find, option_map}
 use Rattle.std.specs.List.{list_any}
-use Rattle.lex_semantics.specs.Reading.{◌>>=◌, IsCut, begins, is_white}
+use Rattle.lex_semantics.specs.Reading.{◌>>=◌, IsReadAs, begins, is_white}
 use Rattle.lexre_bytes.specs.Lexical.{class_at, elements_at, escape_at}
 use Rattle.lexre_bytes.specs.Elements.{Element}
 use Rattle.lexre_bytes.specs.Quotes.{after_quotes}
@@ -97,7 +97,7 @@ abbrev marked : ℕ → List ℕ → Piece × ℕ
 marked n u = (kind_of u, place n u)
 
 abbrev Tails : ℕ → ℕ → List ℕ → List (List ℕ) → Type 0
-Tails n end t us = IsCut piece_at (λ rest. (ends_pattern rest ≡ true) × (end + length rest ≡ n)) t us
+Tails n end t us = IsReadAs piece_at (λ rest. (ends_pattern rest ≡ true) × (end + length rest ≡ n)) t us
 
 pub kind_is : (t rest : List ℕ) (p : Piece) → ◌≡◌ {A = Option (Piece × List ℕ)} (kind_at t) (Some (p, rest))
     → (p ≡ kind_of t) × (◌≡◌ {A = Option (List ℕ × List ℕ)} (piece_at t) (Some (t, rest)))

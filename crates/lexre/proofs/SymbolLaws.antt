@@ -2,7 +2,7 @@
 use Rattle.std.proofs.Common.{◌≡◌, ℕ, Bool, true, false, ◌&&◌, ◌==◌, nat_le, if◌then◌else◌, List, [], ◌∷◌, Option, Some, None, refl, subst, arith}
 use Rattle.std.specs.Prelude.{codes, find, zip, ⊤}
 use Rattle.std.specs.Option.{option_or, unwrap_or}
-use Rattle.lex_semantics.specs.Active.{lists}
+use Rattle.lex_semantics.specs.Active.{contains}
 use Rattle.lex_semantics.specs.ByteSets.{single, complement}
 use Rattle.lex_semantics.specs.Reading.{◌>>=◌}
 use Rattle.lex_semantics.specs.Tree.{Set, Star, Repeat}
@@ -92,7 +92,7 @@ front_adds : (fold : Bool) (c : ℕ) (t : List ℕ) → Adds (symbol_at fold (c 
 unfolding symbol_at
 front_adds fold c t =
     adds_or _ _ (row_adds c t signs (tt, (tt, (tt, ((λ t. refl), ((λ t. refl), ((λ t. refl), (tt, tt))))))))
-    (go (lists (codes "\"") c) (lists (codes "[") c) (lists (codes "{") c) (lists (codes "/ \t") c))
+    (go (contains (codes "\"") c) (contains (codes "[") c) (contains (codes "{") c) (contains (codes "/ \t") c))
   where
     signs : List (ℕ × symbols.Symbol)
     signs = zip (codes "()|*+?.") (opening ∷ closing ∷ bar ∷ sign false Star ∷ sign false (λ t. Repeat t 1 None) ∷ sign false (λ t. Repeat t 0 (Some 1)) ∷ item (Set (complement (single 10))) ∷ [])

@@ -1,7 +1,7 @@
 -- Where the pattern of a rule ends, and what stands at its end. (POSIX, lex, Rules in lex; flex, Patterns: `r/s`, `r$`.)
 use Rattle.std.specs.Prelude.{◌≡◌, ℕ, suc, ◌+◌, ◌-◌, Bool, nat_lt, if◌then◌else◌, List, ◌∷◌, ◌++◌, length, take, drop, fold, filter, find, Option, Some, None, option_map, true, codes, ⊤}
 use Rattle.std.specs.List.{list_all, list_any}
-use Rattle.lex_semantics.specs.Reading.{Reader, IsCut, begins, is_white}
+use Rattle.lex_semantics.specs.Reading.{Reader, IsReadAs, begins, is_white}
 use Rattle.lexre_bytes.specs.Lexical.{escape_at, quoted_bytes, class_at}
 use Rattle.lexre_bytes.specs.declared.error.PatternErrorKind.{PatternErrorKind}
 use Rattle.lexre_bytes.specs.declared.error.PatternErrorKind.TheVariants.{UnclosedQuote, UnclosedClass, BadEscape, MisplacedSlash}
@@ -33,7 +33,7 @@ depth pieces = fold deeper 0 pieces
 pub record IsCutting (text : List ℕ) (end : ℕ) (first_slash : Option ℕ) (two special : Bool) : Type 0 where
   -- for each piece up to the end of the pattern, the text from it on
   pub pieces : List (List ℕ)
-  pub cut : IsCut piece_at (λ rest. (ends_pattern rest ≡ true) × (end + length rest ≡ length text)) text pieces
+  pub cut : IsReadAs piece_at (λ rest. (ends_pattern rest ≡ true) × (end + length rest ≡ length text)) text pieces
   pub outside : (before after : List (List ℕ)) (p : List ℕ) → pieces ≡ before ++ p ∷ after → begins (codes "/") p ≡ true → depth before ≡ 0
   pub first : first_slash ≡ option_map (λ p. length text - length p) (find (begins (codes "/")) pieces)
   pub second : two ≡ nat_lt 1 (length (filter (begins (codes "/")) pieces))

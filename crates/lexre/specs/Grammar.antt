@@ -3,7 +3,7 @@
 -- its left. (POSIX, lex, Regular Expressions in lex: under `posix` its precedences; flex, Patterns. The bounds are this
 -- project's.)
 use Rattle.std.specs.Prelude.{◌≡◌, ℕ, suc, ◌<◌, Bool, true, false, ◌&&◌, ◌⊎◌, List, [], ◌∷◌, ◌++◌, Option, Some, None}
-use Rattle.lex_semantics.specs.Reading.{Reader, IsCut}
+use Rattle.lex_semantics.specs.Reading.{Reader, IsReadAs}
 use Rattle.lex_semantics.specs.Tree.{Tree, Cat, Alt}
 use Rattle.lexre_bytes.specs.Symbols.{Symbol, item, name, opening, closing, bar, sign, grouped}
 use Rattle.lexre.specs.Limits.{max_signs}
@@ -17,7 +17,7 @@ module _ (posix : Bool) (symbol_at : Reader Symbol) (defined : List ℕ → Opti
       alone : (d : ℕ) (t : Tree) → IsItem d (item t ∷ []) t
       group : (d : ℕ) (ss : List Symbol) (ts : List Tree) → IsPattern d ss ts → IsItem (suc d) (opening ∷ ss ++ closing ∷ []) (grouped Alt ts)
       defines : (d : ℕ) (n text : List ℕ) (ss : List Symbol) (ts : List Tree) → defined n ≡ Some text
-          → IsCut symbol_at (λ rest. rest ≡ []) text ss → IsPattern d ss ts → IsItem (suc d) (name n ∷ []) (grouped Alt ts)
+          → IsReadAs symbol_at (λ rest. rest ≡ []) text ss → IsPattern d ss ts → IsItem (suc d) (name n ∷ []) (grouped Alt ts)
 
     -- A series of items, with not too many signs: its parts, how many signs stand on the whole series, and how many on its
     -- last item. There is no such item right after an interval on the whole series, and the signs that follow that.
@@ -42,4 +42,4 @@ module _ (posix : Bool) (symbol_at : Reader Symbol) (defined : List ℕ → Opti
   -- the text is a pattern, and this is its tree
   abbrev pub SpellsWithin : ℕ → List ℕ → Tree → Type 0
   SpellsWithin d text tree =
-      (ss : List Symbol) × (ts : List Tree) × IsCut symbol_at (λ rest. rest ≡ []) text ss × IsPattern d ss ts × (tree ≡ grouped Alt ts)
+      (ss : List Symbol) × (ts : List Tree) × IsReadAs symbol_at (λ rest. rest ≡ []) text ss × IsPattern d ss ts × (tree ≡ grouped Alt ts)

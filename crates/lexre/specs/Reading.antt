@@ -1,7 +1,7 @@
 -- What the reader of patterns reads, by how many parentheses and names may be open.
 use Rattle.std.specs.Prelude.{ℕ, ◌≡◌, zero, suc, ◌+◌, ◌-◌, ◌≤◌, Bool, false, ◌||◌, ◌&&◌, ◌==◌, List, [], ◌∷◌, Vec}
 use Rattle.std.specs.FinMap.{get}
-use Rattle.lex_semantics.specs.ByteSets.{is_digit, is_word}
+use Rattle.lex_semantics.specs.ByteSets.{is_digit, same_bytes}
 use Rattle.lex_semantics.specs.Tree.{Tree}
 use Rattle.lex_semantics.specs.Shapes.{IsSoundTree, nodes}
 use Rattle.lexre.specs.Definitions.{Definitions}
@@ -62,4 +62,4 @@ begins_interval _ = false
 -- the name is one of these
 abbrev pub is_among : {Y : Type 0} → List ℕ → List (Vec ℕ Y) → Bool
 is_among name [] = false
-is_among name (v ∷ vs) = is_word v.items name || is_among name vs
+is_among name (v ∷ vs) = same_bytes v.items name || is_among name vs

@@ -1,6 +1,6 @@
 //! Laws over the definitions.
 ghost use Rattle.std.specs.Prelude.{◌≡◌, ℕ, ◌+◌, Bool, List, Option};
-ghost use Rattle.lex_semantics.specs.Positions.{Cell, Reads, positions};
+ghost use Rattle.lex_semantics.specs.Positions.{MarkedByte, Reads, positions};
 ghost use Rattle.lex_semantics.specs.Tree.{Tree};
 ghost use Rattle.lexre.specs.Cutting.{IsCutting};
 ghost use Rattle.lexre.specs.CuttingExamples.{Ends, Slashes, Dollars, NoCuttings};
@@ -14,7 +14,7 @@ ghost use Rattle.lexre.specs.declared.options.ReadOptions.{ReadOptions};
 
 /// A reading uses positions from its base on, and no more of them than the tree has.
 pub fn readings_use_own_positions()
-    ensures { (t : Tree) (base : ℕ) (rs : List Cell) → Reads t base rs → UsesFrom base (base + positions t) rs }
+    ensures { (t : Tree) (base : ℕ) (rs : List MarkedByte) → Reads t base rs → UsesFrom base (base + positions t) rs }
 {}
 
 /// A text spells at most one tree, however patterns are read.

@@ -1,7 +1,7 @@
 -- The set of a class, element by element.
 use Rattle.std.proofs.Common.{◌≡◌, ℕ, zero, suc, ◌<◌, ◌≤◌, ◌^◌, Bool, true, false, not, ◌&&◌, ◌||◌, ◌==◌, if◌then◌else◌, List, [], ◌∷◌, length, drop, length-drop, Option, Some, None, refl, sym, ap, ◌∙◌, subst, nat_le, arith}
 use Rattle.std.specs.Prelude.{codes, is_none, unwrap_or}
-use Rattle.lex_semantics.specs.ByteSets.{ByteSet, has, set_of, empty_set, union, complement, range_set, is_word, classes, named_set}
+use Rattle.lex_semantics.specs.ByteSets.{ByteSet, has, set_of, empty_set, union, complement, range_set, same_bytes, classes, named_set}
 use Rattle.lex_semantics.specs.Reading.{◌>>=◌, begins}
 use Rattle.lexre_bytes.specs.Lexical.{span, after_word, folded, class_name_at, enclosed_by, bracketed_at, element_at, range_at, elements_at, class_at, class_set, escape_at}
 use Rattle.lexre_bytes.specs.Elements.{Element, named, unsupported, is_range}
@@ -146,7 +146,7 @@ no_set s e = cc
 
 named_set-lt : (n : List ℕ) → IsOfBytes (named_set n)
 unfolding named_set
-named_set-lt n = go (lookup (is_word n) classes)
+named_set-lt n = go (lookup (same_bytes n) classes)
   where
     go : (o : Option (ℕ → Bool)) → IsOfBytes (option_map set_of o)
     go None s e = cc

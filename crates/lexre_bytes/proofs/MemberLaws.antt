@@ -5,7 +5,7 @@ use Rattle.std.specs.Prelude.{cond}
 use Rattle.std.specs.List.{AllByRecursion}
 use Rattle.std.specs.Map.{lookup}
 use Rattle.std.specs.Option.{option_map}
-use Rattle.lex_semantics.specs.ByteSets.{ByteSet, has, set_of, empty_set, single, range_set, union, complement, fold_case, other_case, is_word, classes, named_set, is_alpha, is_digit, is_alnum, is_blank, is_xdigit, HasByte}
+use Rattle.lex_semantics.specs.ByteSets.{ByteSet, has, set_of, empty_set, single, range_set, union, complement, fold_case, other_case, same_bytes, classes, named_set, is_alpha, is_digit, is_alnum, is_blank, is_xdigit, HasByte}
 use Rattle.lexre_bytes.specs.Lexical.{folded}
 use Rattle.lexre_bytes.proofs.SetLaws.{has-set_of, set_of-lt, is_set_of}
 
@@ -50,9 +50,9 @@ no_set : SomeByte None
 no_set s e = cc
 
 -- where each of these classes has a byte, the one of a name has
-some_class : (n : List ℕ) (cs : List (List ℕ × (ℕ → Bool))) → AllByRecursion (λ c. (b : ℕ) × (b < 256) × (c.1 b ≡ true)) cs → SomeByte (lookup (is_word n) cs)
+some_class : (n : List ℕ) (cs : List (List ℕ × (ℕ → Bool))) → AllByRecursion (λ c. (b : ℕ) × (b < 256) × (c.1 b ≡ true)) cs → SomeByte (lookup (same_bytes n) cs)
 some_class n [] h = no_set
-some_class n (c ∷ cs) h = either (is_word n c.0) c.1 h.0.0 (lookup (is_word n) cs) h.0.1 h.0.2 (some_class n cs h.1)
+some_class n (c ∷ cs) h = either (same_bytes n c.0) c.1 h.0.0 (lookup (same_bytes n) cs) h.0.1 h.0.2 (some_class n cs h.1)
 
 pub named_some : (n : List ℕ) (s : ByteSet) → named_set n ≡ Some s → HasByte s
 unfolding named_set is_alpha is_digit is_alnum is_blank is_xdigit

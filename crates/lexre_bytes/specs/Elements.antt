@@ -5,7 +5,7 @@ use Rattle.lexre_bytes.specs.Lexical.{span}
 use Rattle.lexre_bytes.specs.declared.class_item.ClassItem.{ClassItem}
 use Rattle.lex_semantics.specs.Reading.{begins}
 use Rattle.std.specs.List.{list_any}
-use Rattle.lex_semantics.specs.Active.{lists}
+use Rattle.lex_semantics.specs.Active.{contains}
 
 -- the set of an element, if it has one
 abbrev pub Element : Type 0
@@ -26,4 +26,4 @@ element_of (ClassItem.Refused fault) = unsupported
 
 -- a `-` that is followed by anything but an unescaped `]`
 abbrev pub is_range : List ℕ → Bool
-is_range t = begins (codes "-") t && list_any (λ c. not (lists (codes "]") c)) (take 1 (drop 1 t))
+is_range t = begins (codes "-") t && list_any (λ c. not (contains (codes "]") c)) (take 1 (drop 1 t))

@@ -5,7 +5,7 @@ use Rattle.std.specs.List.{ends_with, list_any}
 use Rattle.std.specs.Option.{option_or}
 use Rattle.lex_semantics.specs.ByteSets.{ByteSet, single, complement, named_set, is_alpha, is_digit, set_of, has, within, other_case}
 use Rattle.lex_semantics.specs.Reading.{◌>>=◌, Reader, is_empty, begins, take_run, starts_name, goes_on_name, value}
-use Rattle.lex_semantics.specs.Active.{lists}
+use Rattle.lex_semantics.specs.Active.{contains}
 use Rattle.lex_semantics.specs.Escapes.{simple_escape, is_octal, octal_at, hexadecimal_at, byte_with, until_quote}
 use Rattle.lex_semantics.specs.Tree.{Tree, Set, Cat, Star, Repeat}
 use Rattle.lexre_bytes.specs.Symbols.{Symbol, item, name, opening, closing, bar, sign, grouped}
@@ -36,7 +36,7 @@ folded fold s = if fold then set_of (λ b. has s b || has s (other_case b)) else
 -- After a backslash: the byte, and what follows it. A newline cannot be escaped, and `x` without a digit is itself.
 unfoldable pub escape_at : Reader ℕ
 escape_at t = slice_get t 0 >>= λ c.
-    if lists (codes "\n") c then None
+    if contains (codes "\n") c then None
     else if is_octal c then octal_at t
     else option_or (after_word (codes "x") t >>= hexadecimal_at) (Some (simple_escape c, drop 1 t))
 
@@ -67,7 +67,7 @@ class_name_at front t = after_word front t >>= λ u. run_at is_alpha u >>= λ (l
 -- `[` and this mark, at least one byte that is no `]` and no newline, then the mark and `]`: what follows
 unfoldable pub enclosed_by : List ℕ → List ℕ → Option (List ℕ)
 enclosed_by mark t = after_word (codes "[" ++ mark) t >>= λ u.
-    let (bytes, rest) = take_run (λ b. not (lists (codes "]\n") b)) u in
+    let (bytes, rest) = take_run (λ b. not (contains (codes "]\n") b)) u in
     if nat_lt 1 (length bytes) && ends_with nat_eq bytes mark then after_word (codes "]") rest else None
 
 -- An element between brackets, and what follows it: `[:name:]` has the set of that class, and `[:^name:]`, `[=a=]` and `[.a.]`
@@ -84,7 +84,7 @@ range_at lo t = option_or (bracketed_at t >>= λ (e, rest). Some (None, rest)) (
 -- An element between brackets, a range, or a byte. A range is a byte and a `-` before anything but an unescaped `]`.
 unfoldable pub element_at : Reader (Option ByteSet)
 element_at t = option_or (bracketed_at t) (byte_with escape_at t >>= λ (lo, rest).
-    if begins (codes "-") rest && list_any (λ c. not (lists (codes "]") c)) (take 1 (drop 1 rest)) then range_at lo (drop 1 rest)
+    if begins (codes "-") rest && list_any (λ c. not (contains (codes "]") c)) (take 1 (drop 1 rest)) then range_at lo (drop 1 rest)
     else Some (span lo lo, rest))
 
 -- The elements up to the closing bracket, and what follows it. A `]` that comes first is an element. The number bounds them.
@@ -137,8 +137,8 @@ symbol_at fold (c ∷ t) =
     let signs = zip (codes "()|*+?.") (opening ∷ closing ∷ bar ∷ sign false Star ∷ sign false (λ t. Repeat t 1 None)
     ∷ sign false (λ t. Repeat t 0 (Some 1)) ∷ item (Set (complement (single 10))) ∷ []) in
     option_or (find (λ row. c == row.0) signs >>= λ row. Some (row.1, t))
-    (if lists (codes "\"") c then (quoted_bytes t >>= λ (bs, rest). Some (item (quoted_tree fold bs), rest))
-    else if lists (codes "[") c then (class_at t >>= λ (negated, es, rest). class_set fold negated es >>= λ s. Some (item (Set s), rest))
-    else if lists (codes "{") c then braces_at t
-    else if lists (codes "/ \t") c then None
+    (if contains (codes "\"") c then (quoted_bytes t >>= λ (bs, rest). Some (item (quoted_tree fold bs), rest))
+    else if contains (codes "[") c then (class_at t >>= λ (negated, es, rest). class_set fold negated es >>= λ s. Some (item (Set s), rest))
+    else if contains (codes "{") c then braces_at t
+    else if contains (codes "/ \t") c then None
     else byte_with escape_at (c ∷ t) >>= λ (b, rest). Some (item (Set (folded fold (single b))), rest))

@@ -27,4 +27,4 @@ Lexer = Reader Symbol
 
 -- the text is these symbols, one after another
 abbrev pub IsCut : Reader Symbol → List ℕ → List Symbol → Type 0
-IsCut symbol_at text ss = reading.IsCut symbol_at (λ t. t ≡ []) text ss
+IsCut symbol_at text ss = reading.IsReadAs symbol_at (λ t. t ≡ []) text ss

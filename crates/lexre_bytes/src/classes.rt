@@ -1,6 +1,6 @@
 //! The character classes of the POSIX locale, on bytes. (POSIX, Base Definitions, LC_CTYPE.)
 ghost use Rattle.std.specs.Prelude.{◌≡◌, option_map};
-ghost use Rattle.lex_semantics.specs.ByteSets.{is_word, named_set, other_case, set_of};
+ghost use Rattle.lex_semantics.specs.ByteSets.{same_bytes, named_set, other_case, set_of};
 ghost use Rattle.lexre_bytes.specs.Classes.{test_of};
 
 /// A character class.
@@ -21,8 +21,8 @@ pub enum Class {
 }
 
 /// Whether a name is this word.
-fn is_word(name: &[u8], word: &str) -> bool
-    ensures { result ≡ is_word name.now word.now }
+fn same_bytes(name: &[u8], word: &str) -> bool
+    ensures { result ≡ same_bytes name.now word.now }
 {
     name == word.as_bytes()
 }
@@ -33,29 +33,29 @@ impl Class {
     pub fn named(name: &[u8]) -> Option<Class>
         ensures { named_set name.now ≡ option_map (λ c. set_of (test_of c)) result }
     {
-        if is_word(name, "alpha") {
+        if same_bytes(name, "alpha") {
             Some(Class::Alpha)
-        } else if is_word(name, "digit") {
+        } else if same_bytes(name, "digit") {
             Some(Class::Digit)
-        } else if is_word(name, "alnum") {
+        } else if same_bytes(name, "alnum") {
             Some(Class::Alnum)
-        } else if is_word(name, "upper") {
+        } else if same_bytes(name, "upper") {
             Some(Class::Upper)
-        } else if is_word(name, "lower") {
+        } else if same_bytes(name, "lower") {
             Some(Class::Lower)
-        } else if is_word(name, "space") {
+        } else if same_bytes(name, "space") {
             Some(Class::Space)
-        } else if is_word(name, "blank") {
+        } else if same_bytes(name, "blank") {
             Some(Class::Blank)
-        } else if is_word(name, "cntrl") {
+        } else if same_bytes(name, "cntrl") {
             Some(Class::Cntrl)
-        } else if is_word(name, "graph") {
+        } else if same_bytes(name, "graph") {
             Some(Class::Graph)
-        } else if is_word(name, "print") {
+        } else if same_bytes(name, "print") {
             Some(Class::Print)
-        } else if is_word(name, "punct") {
+        } else if same_bytes(name, "punct") {
             Some(Class::Punct)
-        } else if is_word(name, "xdigit") {
+        } else if same_bytes(name, "xdigit") {
             Some(Class::Xdigit)
         } else {
             None

@@ -3,7 +3,7 @@ use Rattle.std.proofs.Common.{◌≡◌, ℕ, zero, suc, ◌-◌, ◌<◌, ◌==
 use Rattle.std.specs.Prelude.{codes, slice_get}
 use Rattle.std.proofs.lemmas.Bool.{ne_eqb}
 use Rattle.std.proofs.lemmas.List.{append_assoc, take_at}
-use Rattle.lex_semantics.specs.Active.{lists}
+use Rattle.lex_semantics.specs.Active.{contains}
 use Rattle.lex_semantics.specs.Escapes.{byte_with, until_quote}
 use Rattle.lex_semantics.specs.Reading.{◌>>=◌, take_up_to}
 use Rattle.lexspec_lines.specs.Runs.{split_before}
@@ -60,7 +60,7 @@ escaped_open (suc n) = refl
 
 -- a byte of a string, or a backslash and any byte but a newline
 abbrev byte_at : List ℕ → Option (ℕ × List ℕ)
-byte_at t = byte_with (λ u. slice_get u 0 >>= λ c. if lists (codes "\n") c then None else Some (c, drop 1 u)) t
+byte_at t = byte_with (λ u. slice_get u 0 >>= λ c. if contains (codes "\n") c then None else Some (c, drop 1 u)) t
 
 abbrev rest_of : Option Split → Option (List ℕ)
 rest_of o = o >>= λ (bytes, rest). Some rest
@@ -147,7 +147,7 @@ at_line : (n c : ℕ) (t : List ℕ) → action_in (code line) n (c ∷ t) ≡ (
 at_line zero c t = refl
 at_line (suc n) c t = refl
 
-lines : (n : ℕ) (t : List ℕ) → Passed (code line) n t (Some (split_before (lists (codes "\n")) t).1)
+lines : (n : ℕ) (t : List ℕ) → Passed (code line) n t (Some (split_before (contains (codes "\n")) t).1)
 unfolding take_up_to
 lines n [] = done n (code line) [] (ends n)
   where
@@ -156,11 +156,11 @@ lines n [] = done n (code line) [] (ends n)
     ends (suc n) = refl
 lines n (c ∷ t) = from (lines n t) (decide 10 c)
   where
-    from : Passed (code line) n t (Some (split_before (lists (codes "\n")) t).1) → (10 ≡ c) ⊎ Other 10 c → Passed (code line) n (c ∷ t) (Some (split_before (lists (codes "\n")) (c ∷ t)).1)
-    from later (inl e) = subst (λ z. Passed (code line) n (z ∷ t) (Some (split_before (lists (codes "\n")) (z ∷ t)).1)) e (done n (code line) (10 ∷ t) (at_line n 10 t ∙ sym (at_outside n 10 t)))
+    from : Passed (code line) n t (Some (split_before (contains (codes "\n")) t).1) → (10 ≡ c) ⊎ Other 10 c → Passed (code line) n (c ∷ t) (Some (split_before (contains (codes "\n")) (c ∷ t)).1)
+    from later (inl e) = subst (λ z. Passed (code line) n (z ∷ t) (Some (split_before (contains (codes "\n")) (z ∷ t)).1)) e (done n (code line) (10 ∷ t) (at_line n 10 t ∙ sym (at_outside n 10 t)))
     from later (inr e) =
-        let read : (split_before (lists (codes "\n")) (c ∷ t)).1 ≡ (split_before (lists (codes "\n")) t).1 = rw e.0 refl in
-        subst (λ z. Passed (code line) n (c ∷ t) (Some z)) (sym read) (more c n (code line) (code line) t (Some (split_before (lists (codes "\n")) t).1) (at_line n c t ∙ rw e.1 refl) later)
+        let read : (split_before (contains (codes "\n")) (c ∷ t)).1 ≡ (split_before (contains (codes "\n")) t).1 = rw e.0 refl in
+        subst (λ z. Passed (code line) n (c ∷ t) (Some z)) (sym read) (more c n (code line) (code line) t (Some (split_before (contains (codes "\n")) t).1) (at_line n c t ∙ rw e.1 refl) later)
 
 -- whole actions
 
@@ -233,7 +233,7 @@ ends_pass (suc bound) n (c ∷ t) h = from (λ m u k. ends_pass bound m u k) (de
             (piece later (code slash) 47 (42 ∷ r) (after_star r) (omega arith) (at_outside n 47 (42 ∷ r)) (more 42 n (code block) (code slash) r (after_star r) (slash_star n r) (blocks n r).0))
         after (inr a) (inl e) =
             subst (λ d. Found n (47 ∷ d ∷ r) (action_end (suc bound) n (47 ∷ d ∷ r))) e
-            (piece later (code slash) 47 (47 ∷ r) (Some (split_before (lists (codes "\n")) r).1) (omega arith) (at_outside n 47 (47 ∷ r)) (more 47 n (code line) (code slash) r (Some (split_before (lists (codes "\n")) r).1) (slash_slash n r) (lines n r)))
+            (piece later (code slash) 47 (47 ∷ r) (Some (split_before (contains (codes "\n")) r).1) (omega arith) (at_outside n 47 (47 ∷ r)) (more 47 n (code line) (code slash) r (Some (split_before (contains (codes "\n")) r).1) (slash_slash n r) (lines n r)))
         after (inr a) (inr b) =
             let read : action_end (suc bound) n (47 ∷ d ∷ r) ≡ action_end bound n (d ∷ r) = rw (a.0, b.0) refl in
             subst (Found n (47 ∷ d ∷ r)) (sym read) (one 47 n n (d ∷ r) (action_end bound n (d ∷ r)) (at_outside n 47 (d ∷ r) ∙ ap (with_byte 47) (at_slash n d r a b)) (later n (d ∷ r) k))

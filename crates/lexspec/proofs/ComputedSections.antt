@@ -9,7 +9,7 @@ use Rattle.lexre_bytes.specs.Quotes.{after_quotes}
 use Rattle.lexre.specs.Cutting.{IsCutting, piece_at}
 use Rattle.lexre.specs.Pieces.{Piece, IsPieces, dollar, other, slash, kind_at, slashes, ends_with_dollar}
 use Rattle.lexre.proofs.PieceLaws.{cutting_of}
-use Rattle.lexspec_lines.specs.DefinitionLines.{Definition, code_line, code_block, declares, options, ignored, defines, definition_at, definition_in, percent_line, IsUpTo}
+use Rattle.lexspec_lines.specs.DefinitionLines.{DefinitionLine, code_line, code_block, declares, options, ignored, defines, definition_at, definition_in, percent_line, IsUpTo}
 use Rattle.lexspec_lines.specs.Skips.{IsDefinition, AreNumbered, AreFrom}
 use Rattle.lexspec.specs.ItemRuns.{Item, skipped, skipped_line, skipped_block, rule, IsLine, no_trail, line_end, pattern_after, at_end, matching, IsSides}
 use Rattle.lexspec.proofs.ItemRunLaws.{all_as, numbered_items, numbered_lines}
@@ -49,12 +49,12 @@ from_comment = codes "/* Digits,\n   and comments. */\n" ++ from_code
 abbrev pub from_separator : List ℕ
 from_separator = codes "%%\n" ++ rules_section ++ codes "%%\n" ++ user_code
 
-abbrev pub whole_definitions : List Definition
+abbrev pub whole_definitions : List DefinitionLine
 whole_definitions =
     code_block ∷ ignored ∷ code_line ∷ defines (codes "D") (codes "[0-9]") ∷ declares false (codes "A" ∷ [])
     ∷ declares true (codes "B" ∷ codes "C" ∷ []) ∷ options (codes "stack" ∷ []) ∷ ignored ∷ []
 
-abbrev numbered_definitions : List (ℕ × Definition)
+abbrev numbered_definitions : List (ℕ × DefinitionLine)
 numbered_definitions =
     (1, code_block) ∷ (4, ignored) ∷ (6, code_line) ∷ (7, defines (codes "D") (codes "[0-9]")) ∷ (8, declares false (codes "A" ∷ []))
     ∷ (9, declares true (codes "B" ∷ codes "C" ∷ [])) ∷ (10, options (codes "stack" ∷ [])) ∷ (11, ignored) ∷ []

@@ -10,7 +10,7 @@ use Rattle.lexspec.specs.ItemRuns.{Item, skipped, skipped_line, skipped_block, r
 use Rattle.lexspec.specs.ActionSteps.{ActionPlace, code, outside, string, escaped, action_in, with_byte, next_place, depth_after}
 use Rattle.lexspec.proofs.ActionPieces.{action_is}
 use Rattle.lexspec.proofs.SubjectLaws.{to_cut}
-use Rattle.lex_semantics.specs.Active.{lists}
+use Rattle.lex_semantics.specs.Active.{contains}
 use Rattle.lexspec_lines.specs.Runs.{split_before}
 use Rattle.lexspec.specs.Items.{Conditions, unlisted, conditions_at}
 use Rattle.lexspec_lines.proofs.SectionLaws.{EndsWith, ends_on, after_line, after_block_ends, dropped, Each, each_some, each_none, each_if}
@@ -91,7 +91,7 @@ pub conditions_end : (t : List ℕ) → Each (conditions_at t) (λ (x : Conditio
 unfolding conditions_at
 conditions_end t =
     let P : Conditions × List ℕ → Type 0 = λ x. EndsWith t x.1 in
-    let rest = (split_before (lists (codes ">\n")) (drop 1 t)).1 in
+    let rest = (split_before (contains (codes ">\n")) (drop 1 t)).1 in
     each_if P (begins (codes "<<EOF>>") t || not (begins (codes "<") t)) _ _ (each_some P (unlisted, t) ([], refl))
     (each_if P (not (begins (codes ">") rest)) _ _ (each_none P)
     (each_some P (_, drop 1 rest) (ends_on t (drop 1 t) (drop 1 rest) (dropped 1 t) (ends_on (drop 1 t) rest (drop 1 rest) (run_ends _ (drop 1 t)) (dropped 1 rest)))))

@@ -3,7 +3,7 @@ use Rattle.std.proofs.Common.{◌≡◌, ℕ, zero, suc, ◌+◌, ◌≤◌, ◌
 use Rattle.std.specs.Prelude.{find, option_map, unwrap_or, filter_map, is_some, nat_le, nat_lt, if◌then◌else◌}
 use Rattle.std.specs.List.{filter, list_any, list_all, range_with_len}
 use Rattle.lex_semantics.proofs.Listed.{listed_is, range_is}
-use Rattle.lex_semantics.specs.Active.{lists}
+use Rattle.lex_semantics.specs.Active.{contains}
 use Rattle.std.proofs.lemmas.Bool.{and_parts, and_from, or_parts, eqb-true, eq-eqb, leb-true, ltb-true, le-leb, lt-ltb}
 use Rattle.std.proofs.lemmas.List.{drop_more, drop_all}
 use Rattle.std.proofs.lemmas.List.Sums.{sum_by-cons, sum_by-append}
@@ -219,8 +219,8 @@ numbers_ordered number n unlisted numbers h = ap (sound_list n) (sym (inner h))
 numbers_ordered number n every numbers h = ap (sound_list n) (sym (inner h)) ∙ ap (λ l. sound_list n (Some l)) (range_is 0 n) ∙ from_zero n (λ c. true)
 numbers_ordered number n (only names) numbers h = from (list_all (λ name. is_some (number name)) names) h
   where
-    from : (b : Bool) → (if b then Some (Some (filter (lists (filter_map number names)) (range_with_len 0 n))) else None) ≡ Some numbers → sound_list n numbers ≡ true
-    from true e = ap (sound_list n) (sym (inner e)) ∙ ap (λ l. sound_list n (Some l)) (listed_is (lists (filter_map number names)) 0 n) ∙ from_zero n (lists (filter_map number names))
+    from : (b : Bool) → (if b then Some (Some (filter (contains (filter_map number names)) (range_with_len 0 n))) else None) ≡ Some numbers → sound_list n numbers ≡ true
+    from true e = ap (sound_list n) (sym (inner e)) ∙ ap (λ l. sound_list n (Some l)) (listed_is (contains (filter_map number names)) 0 n) ∙ from_zero n (contains (filter_map number names))
     from false e = absurd (no e)
       where
         no : ◌≡◌ {A = Option (Option (List ℕ))} None (Some numbers) → ⊥

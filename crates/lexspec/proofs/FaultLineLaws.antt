@@ -38,7 +38,7 @@ use Rattle.lexspec.specs.declared.rules_so_far.RulesSoFar.{RulesSoFar}
 use Rattle.lexspec_actions.proofs.SameActions.{balanced}
 use Rattle.lexspec_actions.specs.Actions.{SpellsAction}
 use Rattle.lexspec_actions.specs.Bytes.{after_space, skip}
-use Rattle.lexspec_actions.specs.Names.{Known, known_in}
+use Rattle.lexspec_actions.specs.Names.{Scope, known_in}
 use Rattle.lexspec_lines.specs.Lines.{newlines}
 use Rattle.lexspec_lines.specs.declared.declarations.Declarations.{Declarations}
 
@@ -122,7 +122,7 @@ read_as false false defined = is_tree (record { fold = false; posix = false }) 2
 a_spells : (how : ReadOptions) (defined : Definitions) → Spells how defined (codes "a") (a_tree how.fold)
 a_spells how defined = read_as how.fold how.posix defined
 
-nothing_acts : (known : Known) → SpellsAction known [] []
+nothing_acts : (known : Scope) → SpellsAction known [] []
 unfolding skip after_space take_up_to
 nothing_acts known = (([], refl, balanced [] refl, refl), refl)
 

@@ -3,10 +3,10 @@ use Rattle.std.proofs.Common.{◌≡◌, ℕ, suc, ◌+◌, ◌-◌, ◌==◌, B
 use Rattle.std.specs.Prelude.{cond, codes, zip, if◌then◌else◌, ◌++◌}
 use Rattle.std.specs.List.{range_with_len}
 use Rattle.std.proofs.lemmas.List.Sums.{sum_by-cons}
-use Rattle.lex_semantics.specs.Reading.{Reader, IsCut, begins}
+use Rattle.lex_semantics.specs.Reading.{Reader, IsReadAs, begins}
 use Rattle.lex_semantics.specs.Spec.{Condition}
 use Rattle.lexspec_lines.specs.Lines.{without_returns, line_in, newlines}
-use Rattle.lexspec_lines.specs.DefinitionLines.{Definition, definition_at}
+use Rattle.lexspec_lines.specs.DefinitionLines.{DefinitionLine, definition_at}
 use Rattle.lexspec_lines.specs.Skips.{AreNumbered}
 use Rattle.lexspec_lines.proofs.SectionLaws.{EndsWith, ends_on}
 use Rattle.lexspec.specs.Items.{Item, AreItems}
@@ -19,22 +19,22 @@ use Rattle.lexspec.proofs.EndLaws.{item_ends}
 
 -- items up to a rest of which something is known
 
-pub cut_at : {A : Type 0} (item_at : Reader A) (Done : List ℕ → Type 0) (t : List ℕ) (xs : List A) → IsCut item_at Done t xs
-    → (after : List ℕ) × IsCut item_at (λ u. u ≡ after) t xs × Done after
+pub cut_at : {A : Type 0} (item_at : Reader A) (Done : List ℕ → Type 0) (t : List ℕ) (xs : List A) → IsReadAs item_at Done t xs
+    → (after : List ℕ) × IsReadAs item_at (λ u. u ≡ after) t xs × Done after
 cut_at item_at Done t [] done = (t, refl, done)
 cut_at item_at Done t (x ∷ xs) (next, here, more) =
     let later = cut_at item_at Done next xs more in
     (later.0, (next, here, later.1), later.2)
 
-pub cut_by : {A : Type 0} (item_at : Reader A) (Done : List ℕ → Type 0) (t : List ℕ) (xs : List A) (after : List ℕ) → IsCut item_at (λ u. u ≡ after) t xs → Done after
-    → IsCut item_at Done t xs
+pub cut_by : {A : Type 0} (item_at : Reader A) (Done : List ℕ → Type 0) (t : List ℕ) (xs : List A) (after : List ℕ) → IsReadAs item_at (λ u. u ≡ after) t xs → Done after
+    → IsReadAs item_at Done t xs
 cut_by item_at Done t [] after same done = subst Done (sym same) done
 cut_by item_at Done t (x ∷ xs) after (next, here, more) done = (next, here, cut_by item_at Done next xs after more done)
 
 -- the two sections of a file
-pub record Sections (file : List ℕ) (definitions : List Definition) (items : List (ℕ × Item)) : Type 0 where
+pub record Sections (file : List ℕ) (definitions : List DefinitionLine) (items : List (ℕ × Item)) : Type 0 where
   pub after : List ℕ
-  pub first : IsCut definition_at (λ t. t ≡ after) (without_returns file) definitions
+  pub first : IsReadAs definition_at (λ t. t ≡ after) (without_returns file) definitions
   pub separator : begins (codes "%%") after ≡ true
   pub rest : List ℕ
   pub second : AreItems (2 + newlines file - newlines after) (line_in after).1 items rest
@@ -43,12 +43,12 @@ pub record Sections (file : List ℕ) (definitions : List Definition) (items : L
 abbrev pub Second : List ℕ → List (ℕ × Item) → List ℕ → Type 0
 Second file items t = (begins (codes "%%") t ≡ true) × ((rest : List ℕ) × AreItems (2 + newlines file - newlines t) (line_in t).1 items rest)
 
-pub sections_of : (file : List ℕ) (ds : List Definition) (is : List (ℕ × Item)) → IsCut definition_at (Second file is) (without_returns file) ds → Sections file ds is
+pub sections_of : (file : List ℕ) (ds : List DefinitionLine) (is : List (ℕ × Item)) → IsReadAs definition_at (Second file is) (without_returns file) ds → Sections file ds is
 sections_of file ds is h =
     let (after, first, (separator, (rest, second))) = cut_at definition_at (Second file is) (without_returns file) ds h in
     record { after = after; first = first; separator = separator; rest = rest; second = second }
 
-pub from_sections : (file : List ℕ) (ds : List Definition) (is : List (ℕ × Item)) → Sections file ds is → IsCut definition_at (Second file is) (without_returns file) ds
+pub from_sections : (file : List ℕ) (ds : List DefinitionLine) (is : List (ℕ × Item)) → Sections file ds is → IsReadAs definition_at (Second file is) (without_returns file) ds
 from_sections file ds is s = cut_by definition_at (Second file is) (without_returns file) ds s.after s.first (s.separator, (s.rest, s.second))
 
 -- the conditions with their ends, by their numbers

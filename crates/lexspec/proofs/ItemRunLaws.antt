@@ -2,9 +2,9 @@
 use Rattle.std.proofs.Common.{◌≡◌, ℕ, suc, ◌+◌, ◌-◌, ◌<◌, ◌==◌, ◌&&◌, ◌||◌, not, Bool, true, false, if◌then◌else◌, List, [], ◌∷◌, ◌++◌, length, drop, Option, Some, None, inl, inr, refl, sym, ap, subst, ◌∙◌, arith}
 use Rattle.std.specs.Prelude.{codes, nat_eq, flat_map}
 use Rattle.lex_semantics.specs.ByteSets.{is_blank}
-use Rattle.lex_semantics.specs.Reading.{◌>>=◌, IsCut, begins, take_up_to}
+use Rattle.lex_semantics.specs.Reading.{◌>>=◌, IsReadAs, begins, take_up_to}
 use Rattle.lexspec_lines.specs.Lines.{newlines, line_in, line_at, after_block}
-use Rattle.lexspec_lines.specs.DefinitionLines.{Definition, ignored, code_line, code_block, definition_at}
+use Rattle.lexspec_lines.specs.DefinitionLines.{DefinitionLine, ignored, code_line, code_block, definition_at}
 use Rattle.lexspec_lines.specs.Skips.{IsDefinition, AreNumbered}
 use Rattle.lexspec_lines.proofs.OneSection.{no_true, some_pair}
 use Rattle.lexspec_lines.proofs.SectionLaws.{newlines_front}
@@ -54,10 +54,10 @@ abbrev Split : Type 0
 Split = List ℕ × List ℕ
 
 -- after `%{`
-abbrev with_block : Option (List ℕ) → Option (Definition × List ℕ)
+abbrev with_block : Option (List ℕ) → Option (DefinitionLine × List ℕ)
 with_block o = o >>= λ after. Some (code_block, after)
 
-abbrev block_of : List ℕ → Option (Definition × List ℕ)
+abbrev block_of : List ℕ → Option (DefinitionLine × List ℕ)
 block_of t = with_block (after_block (suc (length t)) t)
 
 block_here : (u : List ℕ) → (starts_rule (37 ∷ 123 ∷ u) ≡ false) × (definition_at (37 ∷ 123 ∷ u) ≡ block_of (line_in (37 ∷ 123 ∷ u)).1)
@@ -125,17 +125,17 @@ text_opens (c ∷ t) h = first (c == 10) h (λ k. second t k)
     first true e later = no_true e
     first false e later = later e
 
-abbrev Stands : List ℕ → Definition → List ℕ → Type 0
+abbrev Stands : List ℕ → DefinitionLine → List ℕ → Type 0
 Stands t d rest = (i : Item) × (kept_as i ≡ F.skipped d) × IsLine t i rest
 
 some_line : (c : ℕ) (t rest : List ℕ) → (line_in (c ∷ t)).1 ≡ rest → line_at (c ∷ t) ≡ Some ((line_in (c ∷ t)).0, rest)
 some_line c t rest e = ap (λ z. Some ((line_in (c ∷ t)).0, z)) e
 
-line_off : (t : List ℕ) (d : Definition) (rest : List ℕ) → F.IsLine t (F.skipped d) rest → Stands t d rest
+line_off : (t : List ℕ) (d : DefinitionLine) (rest : List ℕ) → F.IsLine t (F.skipped d) rest → Stands t d rest
 unfolding definition_at
 line_off [] d rest (off, here) = absurd (no here)
   where
-    no : ◌≡◌ {A = Option (Definition × List ℕ)} None (Some (d, rest)) → ⊥
+    no : ◌≡◌ {A = Option (DefinitionLine × List ℕ)} None (Some (d, rest)) → ⊥
     no e = cc
 line_off (c ∷ t) d rest (off, here) =
     from _ (AllBlank (c ∷ t)) (StartsBlank (c ∷ t)) (begins (codes "%%") (line_in (c ∷ t)).0) (OpensBlock (c ∷ t)) refl refl refl off here
@@ -143,7 +143,7 @@ line_off (c ∷ t) d rest (off, here) =
     beyond : List ℕ
     beyond = (line_in (c ∷ t)).1
 
-    none : {A : Type 0} → ◌≡◌ {A = Option (Definition × List ℕ)} None (Some (d, rest)) → A
+    none : {A : Type 0} → ◌≡◌ {A = Option (DefinitionLine × List ℕ)} None (Some (d, rest)) → A
     none e = cc
 
     blocks : (o : Option (List ℕ)) → after_block (suc (length beyond)) beyond ≡ o → OpensBlock (c ∷ t) ≡ true → with_block o ≡ Some (d, rest) → Stands (c ∷ t) d rest
@@ -153,7 +153,7 @@ line_off (c ∷ t) d rest (off, here) =
         let first : after_block (suc (length (c ∷ t))) beyond ≡ Some rest = after_opening (c ∷ t) (line_in (c ∷ t)).0 beyond (omega arith) refl ∙ e ∙ ap Some same.1 in
         (skipped_block, ap F.skipped same.0, (text_opens (c ∷ t) opens, first))
 
-    from : (more : Option (Definition × List ℕ)) (a b p o : Bool) → AllBlank (c ∷ t) ≡ a → StartsBlank (c ∷ t) ≡ b → OpensBlock (c ∷ t) ≡ o → Passes a b p o ≡ false
+    from : (more : Option (DefinitionLine × List ℕ)) (a b p o : Bool) → AllBlank (c ∷ t) ≡ a → StartsBlank (c ∷ t) ≡ b → OpensBlock (c ∷ t) ≡ o → Passes a b p o ≡ false
         → (if a then Some (ignored, beyond) else if b then Some (code_line, beyond) else if p then None else if o then block_of beyond else more) ≡ Some (d, rest) → Stands (c ∷ t) d rest
     from more true b p o blank starts opens passes is =
         let same = some_pair ignored d beyond rest is in (skipped, ap F.skipped same.0, ((line_in (c ∷ t)).0, some_line c t rest same.1, blank))
@@ -209,8 +209,8 @@ numbered_items end n t (i ∷ is) rest e over (next, line, here, more) =
     (next, first, line_on t i.1 next here, numbered_items end (n + (newlines t - newlines next)) next is rest behind over more)
 
 -- a line of the definitions section, with its number
-pub numbered_lines : (end : ℕ) (t : List ℕ) (ds : List (ℕ × Definition)) (rest : List ℕ) → AreNumbered IsDefinition end t ds rest
-    → IsCut (λ u. definition_at u >>= λ (d, after). Some ((end - newlines u, d), after)) (λ u. u ≡ rest) t ds
+pub numbered_lines : (end : ℕ) (t : List ℕ) (ds : List (ℕ × DefinitionLine)) (rest : List ℕ) → AreNumbered IsDefinition end t ds rest
+    → IsReadAs (λ u. definition_at u >>= λ (d, after). Some ((end - newlines u, d), after)) (λ u. u ≡ rest) t ds
 numbered_lines end t [] rest same = same
 numbered_lines end t (d ∷ ds) rest (next, line, here, more) =
     let first : end - newlines t ≡ d.0 = omega (arith, line) in (

@@ -3,7 +3,7 @@ use Rattle.std.proofs.Common.{◌≡◌, ℕ, zero, suc, ◌+◌, ◌-◌, ◌<�
 use Rattle.std.specs.Prelude.{codes, filter_map, replicate, slice_set, IfNone}
 use Rattle.std.proofs.lemmas.Bool.{eqb-true, eqb-false, eq-eqb}
 use Rattle.std.specs.List.{list_any, slice_split, onto_first, cons_option}
-use Rattle.lex_semantics.specs.Active.{lists}
+use Rattle.lex_semantics.specs.Active.{contains}
 use Rattle.lexspec_lines.proofs.TextLaws.{Other, decide}
 use Rattle.lex_semantics.specs.Reading.{take_up_to}
 use Rattle.lexspec_lines.specs.Runs.{split_before}
@@ -27,14 +27,14 @@ abbrev choose : Bool → Split → Split → Split
 choose b x y = if b then x else y
 
 -- a single sign is looked for as a byte
-same_byte : (d c : ℕ) → lists (d ∷ []) c ≡ (c == d)
+same_byte : (d c : ℕ) → contains (d ∷ []) c ≡ (c == d)
 same_byte d c = from (decide d c)
   where
-    from : (d ≡ c) ⊎ Other d c → lists (d ∷ []) c ≡ (c == d)
-    from (inl e) = subst (λ z. lists (d ∷ []) z ≡ (z == d)) e (ap (λ b. b || false) (eq-eqb d d refl) ∙ sym (eq-eqb d d refl))
+    from : (d ≡ c) ⊎ Other d c → contains (d ∷ []) c ≡ (c == d)
+    from (inl e) = subst (λ z. contains (d ∷ []) z ≡ (z == d)) e (ap (λ b. b || false) (eq-eqb d d refl) ∙ sym (eq-eqb d d refl))
     from (inr e) = ap (λ b. b || false) e.0 ∙ sym e.1
 
-comma : lists (codes ",") ≡ (λ c. c == 44)
+comma : contains (codes ",") ≡ (λ c. c == 44)
 comma i c = same_byte 44 c i
 
 parts_split : (t : List ℕ) → slice_split (λ c. c == 44) t ≡ (split_before (λ c. c == 44) t).0 ∷ after_part (split_before (λ c. c == 44) t).1
@@ -128,17 +128,17 @@ marks_next number names all rest name flags k m first here below = record {
 }
 
 -- some name has the number
-names_listed : (number : List ℕ → Option ℕ) (names : List (List ℕ)) (c : ℕ) → list_any (λ name. is_number (number name) c) names ≡ lists (filter_map number names) c
+names_listed : (number : List ℕ → Option ℕ) (names : List (List ℕ)) (c : ℕ) → list_any (λ name. is_number (number name) c) names ≡ contains (filter_map number names) c
 names_listed number [] c = refl
 names_listed number (name ∷ names) c = from (number name) (names_listed number names c)
   where
-    from : (o : Option ℕ) → list_any (λ name. is_number (number name) c) names ≡ lists (filter_map number names) c
-        → (is_number o c || list_any (λ name. is_number (number name) c) names) ≡ lists (cons_option o (filter_map number names)) c
+    from : (o : Option ℕ) → list_any (λ name. is_number (number name) c) names ≡ contains (filter_map number names) c
+        → (is_number o c || list_any (λ name. is_number (number name) c) names) ≡ contains (cons_option o (filter_map number names)) c
     from None h = h
     from (Some k) h = ap (λ b. (k == c) || b) h
 
 pub marks_all : (number : List ℕ → Option ℕ) (names : List (List ℕ)) (flags : List Bool) → Marks number names [] flags
-    → (all_numbered number names ≡ true) × ((c : ℕ) → c < max_conditions → get_or flags c false ≡ lists (filter_map number names) c)
+    → (all_numbered number names ≡ true) × ((c : ℕ) → c < max_conditions → get_or flags c false ≡ contains (filter_map number names) c)
 marks_all number names flags m = (sym m.numbered, λ c h. sym (or_none (get_or flags c false)) ∙ m.listed c h ∙ names_listed number names c)
   where
     or_none : (b : Bool) → (b || false) ≡ b

@@ -7,7 +7,7 @@ use Rattle.lex_semantics.specs.Spec.{Spec, EndAction, Statement, Cut, Whole, Hea
 use Rattle.lexre.specs.Definitions.{Definitions}
 use Rattle.lexre.specs.Spelling.{Spells}
 use Rattle.lexre.specs.Cutting.{IsCutting}
-use Rattle.lexspec_actions.specs.Names.{Known, known_in}
+use Rattle.lexspec_actions.specs.Names.{Scope, known_in}
 use Rattle.lexspec_actions.specs.Actions.{SpellsEndAction}
 use Rattle.lexspec_actions.specs.ActionSteps.{end_of}
 use Rattle.lexspec_actions.proofs.EndLemmas.{end_is}
@@ -55,7 +55,7 @@ module _ (tree_once : (how : ReadOptions) (definitions : Definitions) (text : Li
   one_trail how definitions (pattern_after text) (Some t) None h k = absurd k
   one_trail how definitions (pattern_after text) (Some t) (Some u) h k = ap Some (tree_once how definitions text t u h k)
 
-  one_action : (known : Known) (action : Option (List ℕ)) (rules : List Rule) (ss tt : List Statement) → IsActionOf known action rules ss → IsActionOf known action rules tt → ss ≡ tt
+  one_action : (known : Scope) (action : Option (List ℕ)) (rules : List Rule) (ss tt : List Statement) → IsActionOf known action rules ss → IsActionOf known action rules tt → ss ≡ tt
   one_action known (Some text) rules ss tt h k = one_statements known text ss tt h.0 k.0
   one_action known None [] ss tt h k = absurd h
   one_action known None (r ∷ rules) ss tt h k = h ∙ sym k
@@ -72,7 +72,7 @@ module _ (tree_once : (how : ReadOptions) (definitions : Definitions) (text : Li
       let statements : q.statements ≡ r.statements = one_action (known_in names stack) action rules q.statements r.statements h.2 k.2 in
       λ i. record { line = line i; conditions = conditions i; anchored = anchor i; head = same_head i; trail = same_trail i; cut = cut i; statements = statements i }
 
-  pub one_end : (known : Known) (text : List ℕ) (e f : EndAction) → SpellsEndAction known text e → SpellsEndAction known text f → e ≡ f
+  pub one_end : (known : Scope) (text : List ℕ) (e f : EndAction) → SpellsEndAction known text e → SpellsEndAction known text f → e ≡ f
   one_end known text e f (ss, h, few, is) (tt, k, few', is') =
       let same : ss ≡ tt = one_statements known text ss tt h k in
       some_is e f (sym (end_is ss e is) ∙ ap end_of same ∙ end_is tt f is')

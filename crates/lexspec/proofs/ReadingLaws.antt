@@ -6,9 +6,9 @@ use Rattle.std.proofs.lemmas.List.{length-map}
 use Rattle.std.proofs.lemmas.List.Sums.{sum_by-cons}
 use Rattle.std.proofs.lemmas.Bool.{and_parts, eqb-true}
 use Rattle.lex_semantics.specs.Spec.{Spec}
-use Rattle.lex_semantics.specs.Reading.{◌>>=◌, IsCut, begins}
+use Rattle.lex_semantics.specs.Reading.{◌>>=◌, IsReadAs, begins}
 use Rattle.lexspec_lines.specs.Lines.{without_returns, line_in, newlines}
-use Rattle.lexspec_lines.specs.DefinitionLines.{Definition, definition_at, IsUpTo, all_conditions, has_name, substitutes_of, all_options}
+use Rattle.lexspec_lines.specs.DefinitionLines.{DefinitionLine, definition_at, IsUpTo, all_conditions, has_name, substitutes_of, all_options}
 use Rattle.lexspec_lines.specs.Declaring.{names_of}
 use Rattle.lexspec_lines.specs.Declaring.{declared_of, AreAllowed}
 use Rattle.lexspec.specs.WaitingRules.{RulesFrom}
@@ -85,7 +85,7 @@ kept_short file kept few is = omega (arith, few, ap length is, not_longer file)
 
 -- the first section
 
-up_to_ends : (t : List ℕ) (ds : List Definition) (rest : List ℕ) → IsUpTo definition_at t ds rest → EndsWith t rest
+up_to_ends : (t : List ℕ) (ds : List DefinitionLine) (rest : List ℕ) → IsUpTo definition_at t ds rest → EndsWith t rest
 up_to_ends t [] rest h = ([], h)
 up_to_ends t (d ∷ ds) rest (next, here, later) = ends_on t next rest (definition_ends t (d, next) here) (up_to_ends next ds rest later)
 
@@ -165,7 +165,7 @@ rest_of how file s S h k =
     }
 
 -- where the first section is not spelled, the file is not
-pub no_section : (how : ReadOptions) (file : List ℕ) → ((ds : List Definition) (after : List ℕ) → IsUpTo definition_at (without_returns file) ds after → begins (codes "%%") after ≡ true → AreAllowed ds → ⊥)
+pub no_section : (how : ReadOptions) (file : List ℕ) → ((ds : List DefinitionLine) (after : List ℕ) → IsUpTo definition_at (without_returns file) ds after → begins (codes "%%") after ≡ true → AreAllowed ds → ⊥)
     → (S : Spec) → SpellsSpec how file S → ⊥
 no_section how file none S k =
     let few : length (all_conditions k.definitions) ≤ max_conditions = omega (arith, k.few_conditions, ap length (k.conditions ∙ conditions_are 0 (all_conditions k.definitions) k.ends), length_with 0 (all_conditions k.definitions) k.ends) in
@@ -189,24 +189,24 @@ tells_rules how file s e h fault short ds rest (cut, separator, may) =
     (subst (λ z. IsFirstFault (names_of (all_conditions h.definitions)) z d.stack d.definitions (s.line + 1) (line_in s.rest.now).1 e) h.declares.reads
     (subst (λ z. IsFirstFault z d.options d.stack d.definitions (s.line + 1) (line_in s.rest.now).1 e) names fault))))))
   where
-    fold_of : List Definition → ReadOptions
+    fold_of : List DefinitionLine → ReadOptions
     fold_of z = with_fold how (has_name (all_options z) (codes "case-insensitive"))
 
-    stack_of : List Definition → Bool
+    stack_of : List DefinitionLine → Bool
     stack_of z = has_name (all_options z) (codes "stack")
 
-    told : List Definition → List ℕ → Type 0
+    told : List DefinitionLine → List ℕ → Type 0
     told z rest = IsFirstFault (names_of (all_conditions z)) (fold_of z) (stack_of z) (from_entries (substitutes_of z)) (2 + newlines file - newlines rest) (line_in rest).1 e
 
 -- what may be declared, as a test
-allowed_of : (ds : List Definition) → MayDeclare ds → AreAllowed ds
+allowed_of : (ds : List DefinitionLine) → MayDeclare ds → AreAllowed ds
 allowed_of ds (distinct, few, once, known) = ((distinct_test (names_of (all_conditions ds)) distinct, few), distinct_test (map (λ (d : List ℕ × List ℕ). d.0) (substitutes_of ds)) once, known)
 
-may_of : (ds : List Definition) → AreAllowed ds → MayDeclare ds
+may_of : (ds : List DefinitionLine) → AreAllowed ds → MayDeclare ds
 may_of ds ((distinct, few), once, known) = (test_distinct (names_of (all_conditions ds)) distinct, few, test_distinct (map (λ (d : List ℕ × List ℕ). d.0) (substitutes_of ds)) once, known)
 
 abbrev NoSection : List ℕ → Type 0
-NoSection file = (ds : List Definition) (after : List ℕ) → IsUpTo definition_at (without_returns file) ds after → begins (codes "%%") after ≡ true → AreAllowed ds → ⊥
+NoSection file = (ds : List DefinitionLine) (after : List ℕ) → IsUpTo definition_at (without_returns file) ds after → begins (codes "%%") after ≡ true → AreAllowed ds → ⊥
 
 no_rules_told : (how : ReadOptions) (file : List ℕ) (e : SpecError) → NoSection file → TellsRules how file e
 no_rules_told how file e none short ds rest (cut, separator, may) = absurd (none ds rest cut separator (allowed_of ds may))
@@ -273,17 +273,17 @@ read_length_told (Ok x) file s short rest = tt
 read_length_told (Err e) file s short rest = unless_memory e.kind (IsRefusedRest s e) (TellsLength file e) (λ refused. length_told file e short refused.line) rest
 
 pub section_told : (how : ReadOptions) (file kept : File) (e : SpecError) → kept ≡ without_returns file
-    → UnlessMemory e.kind ((ds : List Definition) (after : List ℕ) → IsUpTo definition_at kept ds after → begins (codes "%%") after ≡ true → AreAllowed ds → ⊥)
+    → UnlessMemory e.kind ((ds : List DefinitionLine) (after : List ℕ) → IsUpTo definition_at kept ds after → begins (codes "%%") after ≡ true → AreAllowed ds → ⊥)
     → UnlessMemory e.kind (TellsRules how file e)
 section_told how file kept e is h =
-    unless_memory e.kind ((ds : List Definition) (after : List ℕ) → IsUpTo definition_at kept ds after → begins (codes "%%") after ≡ true → AreAllowed ds → ⊥) (TellsRules how file e)
+    unless_memory e.kind ((ds : List DefinitionLine) (after : List ℕ) → IsUpTo definition_at kept ds after → begins (codes "%%") after ≡ true → AreAllowed ds → ⊥) (TellsRules how file e)
     (λ none. no_rules_told how file e (λ ds after up. none ds after (subst (λ z. IsUpTo definition_at z ds after) (sym is) up))) h
 
 pub section_none : (how : ReadOptions) (file kept : File) (kind : SpecErrorKind) → kept ≡ without_returns file
-    → UnlessMemory kind ((ds : List Definition) (after : List ℕ) → IsUpTo definition_at kept ds after → begins (codes "%%") after ≡ true → AreAllowed ds → ⊥)
+    → UnlessMemory kind ((ds : List DefinitionLine) (after : List ℕ) → IsUpTo definition_at kept ds after → begins (codes "%%") after ≡ true → AreAllowed ds → ⊥)
     → UnlessMemory kind ((S : Spec) → SpellsSpec how file S → ⊥)
 section_none how file kept kind is h =
-    unless_memory kind ((ds : List Definition) (after : List ℕ) → IsUpTo definition_at kept ds after → begins (codes "%%") after ≡ true → AreAllowed ds → ⊥) ((S : Spec) → SpellsSpec how file S → ⊥)
+    unless_memory kind ((ds : List DefinitionLine) (after : List ℕ) → IsUpTo definition_at kept ds after → begins (codes "%%") after ≡ true → AreAllowed ds → ⊥) ((S : Spec) → SpellsSpec how file S → ⊥)
     (λ none. no_section how file (λ ds after up. none ds after (subst (λ z. IsUpTo definition_at z ds after) (sym is) up))) h
 
 -- the lines at which code was skipped
@@ -314,7 +314,7 @@ skipped_all how file lines s h r =
       definitions = definitions;
       items = all_as r.items;
       rest = r.rest;
-      sections = cut_by _ _ (without_returns file) definitions s.rest.now (subst (λ z. IsCut (λ t. definition_at t >>= λ (d, rest). Some ((1 + z - newlines t, d), rest)) (λ t. t ≡ s.rest.now) (without_returns file) definitions)
+      sections = cut_by _ _ (without_returns file) definitions s.rest.now (subst (λ z. IsReadAs (λ t. definition_at t >>= λ (d, rest). Some ((1 + z - newlines t, d), rest)) (λ t. t ≡ s.rest.now) (without_returns file) definitions)
           (newlines_kept file) (numbered_lines (1 + newlines (without_returns file)) (without_returns file) definitions s.rest.now h.code.numbered)) (
             h.separator,
             subst (λ z. AreItems z (line_in s.rest.now).1 (all_as r.items) r.rest) line

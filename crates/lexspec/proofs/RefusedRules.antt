@@ -3,7 +3,7 @@ use Rattle.std.proofs.Common.{◌≡◌, ℕ, suc, ◌+◌, ◌-◌, true, false
 use Rattle.std.specs.Prelude.{codes, IsSomeAnd, ◌||◌}
 use Rattle.std.specs.FinMap.{get, from_entries}
 use Rattle.lex_semantics.specs.ByteSets.{has, set_of, single, is_alpha, is_upper, is_lower, is_alnum, is_blank, is_digit}
-use Rattle.lex_semantics.specs.Reading.{IsCut, begins, take_up_to, after_blanks}
+use Rattle.lex_semantics.specs.Reading.{IsReadAs, begins, take_up_to, after_blanks}
 use Rattle.lex_semantics.specs.Sound.{IsCutOf}
 use Rattle.lex_semantics.specs.Spec.{Rule, Spec, Cut, Whole, Head, Trail}
 use Rattle.lex_semantics.specs.Tree.{Tree, Star}
@@ -258,7 +258,7 @@ both_vary S h =
             (subst (λ is. AreRules (map (λ c. c.1) (all_conditions h.definitions)) (record { fold = plain.fold || has_name (all_options h.definitions) (codes "case-insensitive"); posix = plain.posix }) (has_name (all_options h.definitions) (codes "stack")) (from_entries (substitutes_of h.definitions)) is S.rules h.ends false) all h.rules))
 
 -- the text of a statement of the stack, where the option is not set
-no_piece : (names : List (List ℕ)) (defined : Definitions) (ps : List Piece) → IsCut (next_piece (known names plain false defined)) (λ t. skip t ≡ []) (codes "yy_pop_state();") ps → ⊥
+no_piece : (names : List (List ℕ)) (defined : Definitions) (ps : List Piece) → IsReadAs (next_piece (known names plain false defined)) (λ t. skip t ≡ []) (codes "yy_pop_state();") ps → ⊥
 unfolding take_up_to is_alpha is_upper is_lower is_alnum is_blank is_digit after_word name_at after_space skip next_piece statement_at
 no_piece names defined [] cut = cc
 no_piece names defined (p ∷ ps) (rest, here, cut) = no here

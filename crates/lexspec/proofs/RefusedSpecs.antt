@@ -10,7 +10,7 @@ use Rattle.lexre.specs.Cutting.{IsCutting}
 use Rattle.lexre.specs.PatternExamples.{plain}
 use Rattle.lexre.proofs.CuttingLaws.{one_cutting}
 use Rattle.lexre_bytes.specs.Lexical.{name_at}
-use Rattle.lexspec_lines.specs.DefinitionLines.{Definition, declares, options, defines, definition_at, definition_in, percent_line, IsUpTo, all_conditions, has_name, substitutes_of, all_options}
+use Rattle.lexspec_lines.specs.DefinitionLines.{DefinitionLine, declares, options, defines, definition_at, definition_in, percent_line, IsUpTo, all_conditions, has_name, substitutes_of, all_options}
 use Rattle.lexspec_lines.specs.Declaring.{names_of, are_distinct}
 use Rattle.lexspec_lines.specs.DefinitionViews.{are_known}
 use Rattle.lexspec_lines.specs.Folding.{with_fold}
@@ -31,7 +31,7 @@ use Rattle.lexspec.proofs.ItemRunLaws.{without_rest}
 use Rattle.lexspec.proofs.FileSections.{sections_of}
 
 -- the definitions of a file are those up to a text where there is none
-one_section : (file after : List ℕ) (ds : List Definition) → IsUpTo definition_at (without_returns file) ds after → definition_at after ≡ None
+one_section : (file after : List ℕ) (ds : List DefinitionLine) → IsUpTo definition_at (without_returns file) ds after → definition_at after ≡ None
     → (S : Spec) (h : SpellsSpec plain file S) → (h.definitions ≡ ds) × ((sections_of file h.definitions h.items h.sections).after ≡ after)
 one_section file after ds first stop S h =
     let cut = sections_of file h.definitions h.items h.sections in

@@ -10,7 +10,7 @@ use Rattle.lexspec_lines.specs.Declaring.{names_of}
 use Rattle.lexspec_lines.specs.Folding.{with_fold}
 use Rattle.lexspec.specs.ItemRuns.{Item, skipped, skipped_line, skipped_block, rule, Trailing, no_trail, line_end, pattern_after, at_end, matching}
 use Rattle.lexspec.specs.Files.{SpellsSpec}
-use Rattle.lex_semantics.specs.ByteSets.{is_word, has, set_below, set_of, single, fold_case, other_case}
+use Rattle.lex_semantics.specs.ByteSets.{same_bytes, has, set_below, set_of, single, fold_case, other_case}
 use Rattle.lex_semantics.specs.Escapes.{simple_escape}
 use Rattle.lex_semantics.specs.Reading.{take_up_to}
 use Rattle.lex_semantics.specs.Tree.{Tree, Set}
@@ -23,7 +23,7 @@ use Rattle.lexre.proofs.PatternTries.{tried}
 use Rattle.lexre.proofs.PatternsComputed.{is_tree}
 use Rattle.lexre.specs.Definitions.{Definitions}
 use Rattle.lexre.specs.declared.options.ReadOptions.{ReadOptions}
-use Rattle.lexspec_actions.specs.Names.{number_from, Known, known_in}
+use Rattle.lexspec_actions.specs.Names.{number_from, Scope, known_in}
 use Rattle.lexspec_actions.specs.Actions.{SpellsAction, SpellsEndAction}
 use Rattle.lexspec.specs.Items as F
 use Rattle.lexspec.specs.Items.{Conditions}
@@ -75,12 +75,12 @@ both_more m l = from (nat_lt m l) refl
 
 -- the number of a name is the place of the first that is it
 placed : (k : ℕ) (ns : List (List ℕ)) (name : List ℕ) → number_from k ns name
-    ≡ cond (nat_lt (position_or_len (λ n. is_word n name) ns) (length ns)) (Some (k + position_or_len (λ n. is_word n name) ns)) None
+    ≡ cond (nat_lt (position_or_len (λ n. same_bytes n name) ns) (length ns)) (Some (k + position_or_len (λ n. same_bytes n name) ns)) None
 placed k [] name = refl
-placed k (m ∷ ns) name = from (is_word m name) (placed (suc k) ns name)
+placed k (m ∷ ns) name = from (same_bytes m name) (placed (suc k) ns name)
   where
     place : ℕ
-    place = position_or_len (λ n. is_word n name) ns
+    place = position_or_len (λ n. same_bytes n name) ns
 
     from : (b : Bool) → number_from (suc k) ns name ≡ cond (nat_lt place (length ns)) (Some (suc k + place)) None
         → (if b then Some k else number_from (suc k) ns name) ≡ cond (nat_lt (cond (not b) (1 + place) 0) (suc (length ns))) (Some (k + cond (not b) (1 + place) 0)) None
@@ -88,9 +88,9 @@ placed k (m ∷ ns) name = from (is_word m name) (placed (suc k) ns name)
     from false h = let e : suc k + place ≡ k + (1 + place) = omega arith in
         h ∙ ap (λ z. cond (nat_lt place (length ns)) (Some z) None) e ∙ ap (λ t. cond t (Some (k + (1 + place))) None) (both_more place (length ns))
 
-is_place : (ns : List (List ℕ)) (name : List ℕ) → number_from 0 ns name ≡ position (λ n. is_word n name) ns
+is_place : (ns : List (List ℕ)) (name : List ℕ) → number_from 0 ns name ≡ position (λ n. same_bytes n name) ns
 is_place ns name =
-    let place = position_or_len (λ n. is_word n name) ns in
+    let place = position_or_len (λ n. same_bytes n name) ns in
     let e : 0 + place ≡ place = omega arith in
     placed 0 ns name ∙ ap (λ z. cond (nat_lt place (length ns)) (Some z) None) e
 
@@ -103,11 +103,11 @@ module _ (names : List (List ℕ)) (how : ReadOptions) (stack : Bool) (defined :
 
   numbers_on : (asked : Conditions) (numbers : Option (List ℕ)) → numbers_of (number_from 0 names) (length names) asked ≡ Some numbers
       → numbers_of (Of.known names how stack defined).number (length names) asked ≡ Some numbers
-  numbers_on asked numbers h = subst (λ (k : Known). numbers_of k.number (length names) asked ≡ Some numbers) known_same h
+  numbers_on asked numbers h = subst (λ (k : Scope). numbers_of k.number (length names) asked ≡ Some numbers) known_same h
 
   numbers_off : (asked : Conditions) (numbers : Option (List ℕ)) → numbers_of (Of.known names how stack defined).number (length names) asked ≡ Some numbers
       → numbers_of (number_from 0 names) (length names) asked ≡ Some numbers
-  numbers_off asked numbers h = subst (λ (k : Known). numbers_of k.number (length names) asked ≡ Some numbers) (sym known_same) h
+  numbers_off asked numbers h = subst (λ (k : Scope). numbers_of k.number (length names) asked ≡ Some numbers) (sym known_same) h
 
   head_on : (n : ℕ) (asked : Conditions) (anchored : Bool) (head : List ℕ) (after : Trailing) (r : Rule) → HasHead names how stack defined n asked anchored head after r
       → Of.HasHead names how stack defined n asked anchored head (trail_as after) r

@@ -1,7 +1,7 @@
 -- What stands before the action of a rule.
 use Rattle.std.proofs.Common.{◌≡◌, ℕ, zero, suc, ◌+◌, ◌-◌, ◌==◌, ◌||◌, Bool, true, false, not, if◌then◌else◌, List, [], ◌∷◌, length, take, drop, Option, Some, None, ◌⊎◌, inl, inr, refl, sym, ap, subst, ◌∙◌, arith}
 use Rattle.std.specs.Prelude.{codes}
-use Rattle.lex_semantics.specs.ByteSets.{is_word}
+use Rattle.lex_semantics.specs.ByteSets.{same_bytes}
 use Rattle.lex_semantics.specs.Reading.{begins, is_empty, take_up_to}
 use Rattle.lexspec_lines.specs.Lines.{line_in}
 use Rattle.lexspec_lines.specs.Runs.{split_before}
@@ -12,7 +12,7 @@ use Rattle.lexspec.specs.Items.{Conditions, unlisted, every, only, conditions_at
 use Rattle.lexspec_lines.proofs.OneSection.{no_true}
 use Rattle.lexspec.specs.SubjectViews.{parts, sides}
 use Rattle.lexspec_lines.proofs.TextLaws.{Other, decide}
-use Rattle.lex_semantics.specs.Active.{lists}
+use Rattle.lex_semantics.specs.Active.{contains}
 use Rattle.std.proofs.lemmas.List.{drop-drop}
 
 abbrev Split : Type 0
@@ -48,7 +48,7 @@ abbrev line_list : List ℕ → Split
 line_list u = split_before (λ c. c == 62) (line_in u).0
 
 abbrev sign_list : List ℕ → Split
-sign_list u = split_before (lists (codes ">\n")) u
+sign_list u = split_before (contains (codes ">\n")) u
 
 abbrev IsListed : List ℕ → Type 0
 IsListed u = ((sign_list u).0 ≡ (line_list u).0) × (begins (codes ">") (sign_list u).1 ≡ not (is_empty (line_list u).1)) × ((sign_list u).1 ≡ drop (length (line_list u).0) u)
@@ -71,7 +71,7 @@ list_listed (c ∷ t) = from (list_listed t) (decide 10 c) (decide 62 c)
 
 abbrev listed_after : List ℕ → Split → Option (Conditions × List ℕ)
 listed_after t (inside, []) = None
-listed_after t (inside, c ∷ closing) = Some (if is_word inside (codes "*") then every else only (parts inside), drop (length inside + 2) t)
+listed_after t (inside, c ∷ closing) = Some (if same_bytes inside (codes "*") then every else only (parts inside), drop (length inside + 2) t)
 
 -- the text begins with a list, and this stands before its end, if it has one on its line
 pub record OpensList (t inside closing : List ℕ) : Type 0 where
@@ -86,7 +86,7 @@ abbrev asked_for : List ℕ → Bool → Bool → List ℕ → Bool → List ℕ
 asked_for t no_eof opens inside closed rest =
     if no_eof || not opens then Some (unlisted, t)
     else if not closed then None
-    else Some (if is_word inside (codes "*") then every else only (parts inside), drop 1 rest)
+    else Some (if same_bytes inside (codes "*") then every else only (parts inside), drop 1 rest)
 
 list_step : (t inside closing : List ℕ) → OpensList t inside closing → conditions_at t ≡ listed_after t (inside, closing)
 unfolding conditions_at
@@ -117,20 +117,20 @@ list_step t inside closing h = whole ∙ by_closing closing
 
     by_closing : (closing : List ℕ) → asked_for t false true inside (not (is_empty closing)) (drop (length inside + 1) t) ≡ listed_after t (inside, closing)
     by_closing [] = refl
-    by_closing (c ∷ closing) = ap (λ z. Some (if is_word inside (codes "*") then every else only (parts inside), z)) (after_two (length inside) t)
+    by_closing (c ∷ closing) = ap (λ z. Some (if same_bytes inside (codes "*") then every else only (parts inside), z)) (after_two (length inside) t)
 
 pub list_open : (t inside closing : List ℕ) → OpensList t inside closing → length closing ≡ 0 → conditions_at t ≡ None
 list_open t inside [] h e = list_step t inside [] h
 list_open t inside (c ∷ closing) h e = absurd (omega arith)
 
-pub list_every : (t inside closing rest : List ℕ) → OpensList t inside closing → (length closing ≡ 0 → ⊥) → rest ≡ drop (length inside + 2) t → is_word inside (codes "*") ≡ true
+pub list_every : (t inside closing rest : List ℕ) → OpensList t inside closing → (length closing ≡ 0 → ⊥) → rest ≡ drop (length inside + 2) t → same_bytes inside (codes "*") ≡ true
     → conditions_at t ≡ Some (every, rest)
 list_every t inside [] rest h some e star = absurd (some refl)
 list_every t inside (c ∷ closing) rest h some e star =
     list_step t inside (c ∷ closing) h
     ∙ ap (λ b. Some (if b then every else only (parts inside), drop (length inside + 2) t)) star ∙ ap (λ z. Some (every, z)) (sym e)
 
-pub list_only : (t inside closing rest : List ℕ) → OpensList t inside closing → (length closing ≡ 0 → ⊥) → rest ≡ drop (length inside + 2) t → is_word inside (codes "*") ≡ false
+pub list_only : (t inside closing rest : List ℕ) → OpensList t inside closing → (length closing ≡ 0 → ⊥) → rest ≡ drop (length inside + 2) t → same_bytes inside (codes "*") ≡ false
     → conditions_at t ≡ Some (only (parts inside), rest)
 list_only t inside [] rest h some e off = absurd (some refl)
 list_only t inside (c ∷ closing) rest h some e off =

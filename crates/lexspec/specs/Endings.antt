@@ -3,7 +3,7 @@ use Rattle.std.specs.Prelude.{ℕ, suc, Bool, true, false, if◌then◌else◌, 
 use Rattle.std.specs.List.{list_any}
 use Rattle.lex_semantics.specs.Spec.{EndAction, Condition}
 use Rattle.lexspec.specs.Files.{end_in}
-use Rattle.lex_semantics.specs.Active.{lists}
+use Rattle.lex_semantics.specs.Active.{contains}
 use Rattle.lexspec.specs.RuleItems.{EndRule}
 use Rattle.lexspec.specs.declared.endings.EndRule.{EndRule as EndRuleKept}
 
@@ -13,7 +13,7 @@ numbers_kept e = option_map (λ v. v.items) e.conditions
 
 -- whether a condition stands in the list of an `<<EOF>>` rule
 abbrev pub lists_number : Option (List ℕ) → ℕ → Bool
-lists_number asked c = lists (unwrap_or asked []) c
+lists_number asked c = contains (unwrap_or asked []) c
 
 -- some condition stands in both lists, or neither has a list
 abbrev pub clashes : Option (List ℕ) → Option (List ℕ) → Bool

@@ -4,7 +4,7 @@ use Rattle.std.specs.Prelude.{◌≡◌, ◌≢◌, ◌↔◌, ℕ, ◌+◌, ◌
 use Rattle.std.specs.FinMap.{from_entries}
 use Rattle.std.specs.List.{list_all}
 use Rattle.lex_semantics.specs.Limits.{max_conditions, max_file_bytes, max_rules}
-use Rattle.lex_semantics.specs.Reading.{IsCut, begins}
+use Rattle.lex_semantics.specs.Reading.{IsReadAs, begins}
 use Rattle.lex_semantics.specs.Spec.{Rule}
 use Rattle.lex_semantics.specs.Text.{Pairwise}
 use Rattle.lexre.specs.Definitions.{Definitions}
@@ -14,7 +14,7 @@ use Rattle.lexre_bytes.specs.declared.refusals.SpecErrorKind.TheVariants.{Dangli
 use Rattle.lexspec.specs.Files.{AreSingle}
 use Rattle.lexspec.specs.Items.{Item, IsLine, rule, matching}
 use Rattle.lexspec.specs.RuleItems.{EndRule, AreRules}
-use Rattle.lexspec_lines.specs.DefinitionLines.{Definition, definition_at, all_conditions, has_name, substitutes_of, all_options, known_options}
+use Rattle.lexspec_lines.specs.DefinitionLines.{DefinitionLine, definition_at, all_conditions, has_name, substitutes_of, all_options, known_options}
 use Rattle.lexspec_lines.specs.Lines.{without_returns, line_in, newlines}
 use Rattle.lexspec_lines.specs.Sections.{IsFaultyLine}
 
@@ -67,21 +67,21 @@ module _ (names : List (List ℕ)) (how : ReadOptions) (stack : Bool) (defined :
     pub bar : e.kind ≡ DanglingBar → ((rules : List Rule) (ends : List EndRule) → AreRules names how stack defined items rules ends false → ⊥) → e.line ≡ last_of place (rule_lines items)
 
 -- No condition is declared twice, and there are not too many; no name is defined twice; and options are known.
-abbrev pub MayDeclare : List Definition → Type 0
+abbrev pub MayDeclare : List DefinitionLine → Type 0
 MayDeclare ds = Pairwise ◌≢◌ (map (λ c. c.1) (all_conditions ds)) × (length (all_conditions ds) ≤ max_conditions)
     × Pairwise ◌≢◌ (map (λ d. d.0) (substitutes_of ds)) × (list_all (has_name known_options) (all_options ds) ≡ true)
 
 -- the file has a definitions section, and this is left from the line on that begins with `%%`
-abbrev pub HasDefinitions : List ℕ → List Definition → List ℕ → Type 0
-HasDefinitions file ds rest = IsCut definition_at (λ t. t ≡ rest) (without_returns file) ds × (begins (codes "%%") rest ≡ true) × MayDeclare ds
+abbrev pub HasDefinitions : List ℕ → List DefinitionLine → List ℕ → Type 0
+HasDefinitions file ds rest = IsReadAs definition_at (λ t. t ≡ rest) (without_returns file) ds × (begins (codes "%%") rest ≡ true) × MayDeclare ds
 
 -- in a file that is not too long and has no definitions section, the first faulty line of that is told
 abbrev pub TellsDefinitions : List ℕ → SpecError → Type 0
-TellsDefinitions file e = length file ≤ max_file_bytes → ((ds : List Definition) (rest : List ℕ) → HasDefinitions file ds rest → ⊥)
+TellsDefinitions file e = length file ≤ max_file_bytes → ((ds : List DefinitionLine) (rest : List ℕ) → HasDefinitions file ds rest → ⊥)
     → IsFaultyLine MayDeclare (without_returns file) e
 
 -- in one that has such a section, the first faulty line behind it is told
 abbrev pub TellsRules : ReadOptions → List ℕ → SpecError → Type 0
-TellsRules how file e = length file ≤ max_file_bytes → (ds : List Definition) (rest : List ℕ) → HasDefinitions file ds rest
+TellsRules how file e = length file ≤ max_file_bytes → (ds : List DefinitionLine) (rest : List ℕ) → HasDefinitions file ds rest
     → IsFirstFault (map (λ c. c.1) (all_conditions ds)) (record { fold = how.fold || has_name (all_options ds) (codes "case-insensitive"); posix = how.posix })
     (has_name (all_options ds) (codes "stack")) (from_entries (substitutes_of ds)) (2 + newlines file - newlines rest) (line_in rest).1 e

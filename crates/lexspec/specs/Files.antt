@@ -5,11 +5,11 @@ use Rattle.std.specs.List.{list_all, range_with_len}
 use Rattle.std.specs.Option.{option_or}
 use Rattle.std.specs.FinMap.{from_entries}
 use Rattle.lex_semantics.specs.Spec.{Spec, EndAction}
-use Rattle.lex_semantics.specs.Active.{lists}
-use Rattle.lex_semantics.specs.Reading.{IsCut, begins}
+use Rattle.lex_semantics.specs.Active.{contains}
+use Rattle.lex_semantics.specs.Reading.{IsReadAs, begins}
 use Rattle.lex_semantics.specs.Text.{Pairwise}
 use Rattle.lexspec_lines.specs.Lines.{without_returns, line_in, newlines}
-use Rattle.lexspec_lines.specs.DefinitionLines.{Definition, definition_at, all_conditions, has_name, substitutes_of, all_options, known_options}
+use Rattle.lexspec_lines.specs.DefinitionLines.{DefinitionLine, definition_at, all_conditions, has_name, substitutes_of, all_options, known_options}
 use Rattle.lexspec.specs.Items.{Item, AreItems}
 use Rattle.lexspec.specs.RuleItems.{EndRule, AreRules}
 use Rattle.lex_semantics.specs.Limits.{max_conditions, max_file_bytes, max_rules}
@@ -17,22 +17,22 @@ pub use Rattle.lexre.specs.declared.options.ReadOptions.{ReadOptions}
 
 -- no condition is listed by two `<<EOF>>` rules, and one of them at most has no list
 abbrev pub AreSingle : ℕ → List EndRule → Type 0
-AreSingle count ends = ((c : ℕ) → c < count → count_by (λ (e : EndRule). lists (unwrap_or e.0 []) c) ends ≤ 1)
+AreSingle count ends = ((c : ℕ) → c < count → count_by (λ (e : EndRule). contains (unwrap_or e.0 []) c) ends ≤ 1)
     × (count_by (λ (e : EndRule). is_none e.0) ends ≤ 1)
 
 -- the end of condition c: that of the rule that lists it, else that of the rule without a list, else nothing, with
 -- status 0
 abbrev pub end_in : List EndRule → ℕ → EndAction
 end_in ends c = unwrap_or (option_map (λ (e : EndRule). e.1)
-    (option_or (find (λ (e : EndRule). lists (unwrap_or e.0 []) c) ends) (find (λ (e : EndRule). is_none e.0) ends)))
+    (option_or (find (λ (e : EndRule). contains (unwrap_or e.0 []) c) ends) (find (λ (e : EndRule). is_none e.0) ends)))
     (record { print = []; status = 0 })
 
 -- The text is a file of this specification: definitions up to a line that begins with `%%`, and items behind that line.
 pub record SpellsSpec (how : ReadOptions) (file : List ℕ) (S : Spec) : Type 0 where
   pub short : length file ≤ max_file_bytes
-  pub definitions : List Definition
+  pub definitions : List DefinitionLine
   pub items : List (ℕ × Item)
-  pub sections : IsCut definition_at (λ t. (begins (codes "%%") t ≡ true)
+  pub sections : IsReadAs definition_at (λ t. (begins (codes "%%") t ≡ true)
       × ((rest : List ℕ) × AreItems (2 + newlines file - newlines t) (line_in t).1 items rest)) (without_returns file) definitions
   pub names : Pairwise ◌≢◌ (map (λ c. c.1) (all_conditions definitions))
   pub defined_once : Pairwise ◌≢◌ (map (λ d. d.0) (substitutes_of definitions))

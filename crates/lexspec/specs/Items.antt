@@ -3,13 +3,13 @@
 use Rattle.std.specs.Prelude.{◌≡◌, ℕ, zero, suc, ◌+◌, ◌-◌, Bool, true, false, not, ◌&&◌, ◌||◌, ◌==◌, if◌then◌else◌, List, [], ◌∷◌, slice_get, length, take, drop, Option, Some, None, codes, ◌⊎◌}
 use Rattle.std.specs.List.{list_any, slice_split}
 use Rattle.lexre.specs.Cutting.{IsCutting, ends_pattern}
-use Rattle.lex_semantics.specs.Active.{lists}
-use Rattle.lex_semantics.specs.ByteSets.{is_word, is_blank}
+use Rattle.lex_semantics.specs.Active.{contains}
+use Rattle.lex_semantics.specs.ByteSets.{same_bytes, is_blank}
 use Rattle.lex_semantics.specs.Escapes.{byte_with, until_quote}
 use Rattle.lex_semantics.specs.Reading.{◌>>=◌, Reader, after_blanks, is_empty, begins}
 use Rattle.lexspec_actions.specs.Comments.{after_star}
 use Rattle.lexspec_lines.specs.Runs.{split_before}
-use Rattle.lexspec_lines.specs.DefinitionLines.{Definition, definition_at}
+use Rattle.lexspec_lines.specs.DefinitionLines.{DefinitionLine, definition_at}
 use Rattle.lexspec_lines.specs.Lines.{line_in, is_all_blank, newlines}
 
 -- the condition list: none, `<*>`, or names
@@ -28,21 +28,21 @@ pub data Subject : Type 0 where
 -- A line of the rules section, with what follows that belongs to it: one that is skipped, or a rule. Its action is a text, or
 -- None for a `|`, which stands for the action of the next rule.
 pub data Item : Type 0 where
-  skipped : Definition → Item
+  skipped : DefinitionLine → Item
   rule : Conditions → Subject → Option (List ℕ) → Item
 
 -- `<..>`, on one line, with names between commas; a `<` always opens a list, unless it opens `<<EOF>>`
 unfoldable pub conditions_at : Reader Conditions
 conditions_at t =
-    let (inside, rest) = split_before (lists (codes ">\n")) (drop 1 t) in
+    let (inside, rest) = split_before (contains (codes ">\n")) (drop 1 t) in
     if begins (codes "<<EOF>>") t || not (begins (codes "<") t) then Some (unlisted, t)
     else if not (begins (codes ">") rest) then None
-    else Some (if is_word inside (codes "*") then every else only (slice_split (lists (codes ",")) inside), drop 1 rest)
+    else Some (if same_bytes inside (codes "*") then every else only (slice_split (contains (codes ",")) inside), drop 1 rest)
 
 -- after the opening quote of a string of C: what follows its closing quote. A backslash passes any byte but a newline.
 unfoldable pub after_string : List ℕ → Option (List ℕ)
 after_string t =
-    until_quote (byte_with (λ u. slice_get u 0 >>= λ c. if lists (codes "\n") c then None else Some (c, drop 1 u))) (suc (length t)) t
+    until_quote (byte_with (λ u. slice_get u 0 >>= λ c. if contains (codes "\n") c then None else Some (c, drop 1 u))) (suc (length t)) t
     >>= λ (bytes, rest). Some rest
 
 -- what follows a piece of C: a string, a comment `/* .. */`, a comment `//` up to its newline, or any other byte
@@ -51,7 +51,7 @@ after_piece t =
     if is_empty t then None
     else if begins (codes "\"") t then after_string (drop 1 t)
     else if begins (codes "/*") t then after_star (drop 2 t)
-    else if begins (codes "//") t then Some (split_before (lists (codes "\n")) (drop 2 t)).1
+    else if begins (codes "//") t then Some (split_before (contains (codes "\n")) (drop 2 t)).1
     else Some (drop 1 t)
 
 -- What is left from the end of an action on, where n braces are open: it ends at the first newline outside pieces and

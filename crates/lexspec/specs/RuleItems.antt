@@ -2,13 +2,13 @@
 -- (POSIX, lex, Rules in lex and Actions in lex; flex, Patterns: trailing context, End-of-File Rules.)
 use Rattle.std.specs.Prelude.{◌≡◌, ⊤, ℕ, position, Bool, true, false, if◌then◌else◌, List, [], ◌∷◌, length, filter_map, Option, Some, None, is_some, IsSomeAnd, MatchOption}
 use Rattle.std.specs.List.{filter, list_all, range_with_len}
-use Rattle.lex_semantics.specs.ByteSets.{is_word}
-use Rattle.lex_semantics.specs.Active.{lists}
+use Rattle.lex_semantics.specs.ByteSets.{same_bytes}
+use Rattle.lex_semantics.specs.Active.{contains}
 use Rattle.lex_semantics.specs.Spec.{EndAction, Rule}
 use Rattle.lex_semantics.specs.Sound.{IsCutOf}
 use Rattle.lexre.specs.Definitions.{Definitions}
 use Rattle.lexre.specs.Spelling.{Spells}
-use Rattle.lexspec_actions.specs.Names.{Known}
+use Rattle.lexspec_actions.specs.Names.{Scope}
 use Rattle.lexspec_actions.specs.Actions.{SpellsAction, SpellsEndAction}
 use Rattle.lexspec.specs.Items.{Conditions, unlisted, every, only, at_end, matching, Item, skipped, rule}
 use Rattle.lexre.specs.declared.options.ReadOptions.{ReadOptions}
@@ -19,7 +19,7 @@ numbers_of number n unlisted = Some None
 numbers_of number n every = Some (Some (range_with_len 0 n))
 numbers_of number n (only names) =
     if list_all (λ name. is_some (number name)) names
-    then Some (Some (filter (lists (filter_map number names)) (range_with_len 0 n))) else None
+    then Some (Some (filter (contains (filter_map number names)) (range_with_len 0 n))) else None
 
 -- an `<<EOF>>` rule, by the numbers of its conditions and its action
 abbrev pub EndRule : Type 0
@@ -28,8 +28,8 @@ EndRule = Option (List ℕ) × EndAction
 -- `names` are those of the conditions, by number, and `stack` says whether actions may push and pop
 module _ (names : List (List ℕ)) (how : ReadOptions) (stack : Bool) (defined : Definitions) where
   -- what lists and actions may name: the number of a condition is the place of the first that has its name
-  abbrev pub known : Known
-  known = record { number = λ name. position (λ n. is_word n name) names; stack = stack }
+  abbrev pub known : Scope
+  known = record { number = λ name. position (λ n. same_bytes n name) names; stack = stack }
 
   -- a rule but for its statements
   pub record HasHead (n : ℕ) (asked : Conditions) (anchored : Bool) (head : List ℕ) (trail : Option (List ℕ))

@@ -1,7 +1,7 @@
 -- What condition lists and patterns of the code stand for.
 use Rattle.std.specs.Prelude.{ℕ, suc, ◌-◌, Bool, true, false, List, take, drop, Option, Some, None, is_some, codes}
 use Rattle.std.specs.List.{list_all, slice_split}
-use Rattle.lex_semantics.specs.Active.{lists}
+use Rattle.lex_semantics.specs.Active.{contains}
 use Rattle.lexspec.specs.Items as I
 use Rattle.lexspec.specs.ItemRuns as R
 use Rattle.lexspec.specs.declared.subject.Conditions.{Conditions}
@@ -13,7 +13,7 @@ use Rattle.lexspec.specs.declared.subject.Subject.TheVariants.{AtEnd, Matching}
 
 -- the names between commas
 abbrev pub parts : List ℕ → List (List ℕ)
-parts t = slice_split (lists (codes ",")) t
+parts t = slice_split (contains (codes ",")) t
 
 -- whether every name of a list has a number
 abbrev pub all_numbered : (List ℕ → Option ℕ) → List (List ℕ) → Bool

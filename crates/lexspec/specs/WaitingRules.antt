@@ -3,7 +3,7 @@ use Rattle.std.specs.Prelude.{◌≡◌, ℕ, Bool, true, false, List, [], ◌�
 use Rattle.lex_semantics.specs.Spec.{Statement, EndAction, Rule}
 use Rattle.lexre.specs.Definitions.{Definitions}
 use Rattle.lexspec.specs.Items.{Conditions}
-use Rattle.lexspec_actions.specs.Names.{number_from, Known, known_in}
+use Rattle.lexspec_actions.specs.Names.{number_from, Scope, known_in}
 use Rattle.lexspec_actions.specs.Actions.{SpellsAction, SpellsEndAction}
 use Rattle.lexspec.specs.RuleItems.{numbers_of, EndRule}
 use Rattle.lex_semantics.specs.ByteSets.{single}
@@ -32,7 +32,7 @@ IsTrail how defined line_end t = t ≡ Some (Set (single 10))
 IsTrail how defined (pattern_after text) t = IsSomeAnd t (Spells how defined text)
 
 -- the statements of an action: those that its text spells, or those of the next rule
-abbrev pub IsActionOf : Known → Option (List ℕ) → List Rule → List Statement → Type 0
+abbrev pub IsActionOf : Scope → Option (List ℕ) → List Rule → List Statement → Type 0
 IsActionOf known (Some text) rules ss = SpellsAction known text ss
 IsActionOf known None rules ss = IsSomeAnd (slice_get rules 0) (λ r. ss ≡ r.statements)
 

@@ -1,7 +1,7 @@
 //! The numbers of the conditions that a rule lists. (POSIX, lex, Rules in lex; flex, Start Conditions.)
 ghost use Rattle.std.specs.Prelude.{◌≡◌, ◌≤◌, ◌<◌, ℕ, List, Bool, true, false, Option, Some, None};
 ghost use Rattle.std.specs.Prelude.{option_map, filter_map, length, slice_index_or, IfOk, IfErr, IfSome, IfNone};
-ghost use Rattle.lex_semantics.specs.Active.{lists};
+ghost use Rattle.lex_semantics.specs.Active.{contains};
 ghost use Rattle.lexspec_actions.specs.Names.{number_from, names_of};
 ghost use Rattle.lexspec.specs.RuleItems.{numbers_of};
 ghost use Rattle.std.specs.List.{filter, range_with_len};
@@ -22,7 +22,7 @@ fn listed(conditions: &[Condition], names: &[u8]) -> Option<[bool; MAX_CONDITION
     ensures numbered { IfSome result
         (λ _. all_numbered (number_from 0 (names_of conditions.now)) (parts names.now) ≡ true) }
     ensures listed { IfSome result (λ flags. (c : ℕ) → c < max_conditions
-        → slice_index_or flags c false ≡ lists
+        → slice_index_or flags c false ≡ contains
         (filter_map (number_from 0 (names_of conditions.now)) (parts names.now)) c) }
     ensures none { IfNone result (all_numbered (number_from 0 (names_of conditions.now)) (parts names.now) ≡ false) }
 {

@@ -1,10 +1,10 @@
 -- Steps of the reader of statements, against whole texts.
 use Rattle.std.proofs.Common.{◌≡◌, ℕ, zero, suc, ◌+◌, ◌-◌, ◌<◌, length, true, false, List, [], ◌∷◌, ◌++◌, Option, Some, None, refl, sym, ap, ◌∙◌, subst, arith}
-use Rattle.lex_semantics.specs.Reading.{IsCut}
+use Rattle.lex_semantics.specs.Reading.{IsReadAs}
 use Rattle.lexspec_actions.specs.Bytes.{skip}
 use Rattle.lex_semantics.specs.Spec.{Statement}
 use Rattle.lexspec_actions.specs.Statements.{then_all}
-use Rattle.lexspec_actions.specs.Names.{Known}
+use Rattle.lexspec_actions.specs.Names.{Scope}
 use Rattle.lexspec_actions.specs.ActionSteps.{Piece, semicolon, opens, closes, says, Said, said_by, statement_at, piece_from, piece_at, are_balanced, statements_of, NoPiece}
 use Rattle.lexspec_actions.specs.Actions.{SpellsStatements}
 use Rattle.lexspec_actions.proofs.SameActions.{to_steps, from_steps}
@@ -29,11 +29,11 @@ pub nothing_left : (s : List ℕ) → length s ≡ 0 → s ≡ []
 nothing_left [] h = refl
 nothing_left (b ∷ bs) h = absurd (omega arith)
 
-module _ (known : Known) where
+module _ (known : Scope) where
   -- n braces are open, these statements stand before, and the text has only pieces that give the whole
   abbrev pub Goes : ℕ → List Statement → List ℕ → List Statement → Type 0
   Goes n before text ss =
-      (ps : List Piece) × IsCut (piece_at known) NoPiece text ps × (are_balanced n ps ≡ true) × (ss ≡ then_all before (statements_of ps))
+      (ps : List Piece) × IsReadAs (piece_at known) NoPiece text ps × (are_balanced n ps ≡ true) × (ss ≡ then_all before (statements_of ps))
 
   pub record Agree (n : ℕ) (before : List Statement) (rest text : List ℕ) : Type 0 where
     pub on : (ss : List Statement) → Goes n before rest ss → SpellsStatements known text ss
@@ -72,7 +72,7 @@ module _ (known : Known) where
   goes_back n n' before before' rest after p ss here step (q ∷ ps, (left, there, cut), balanced, same) =
       let is = pair_is q p left after (sym there ∙ here) in
       let piece = is.0 in
-      let P : List ℕ → Type 0 = λ x. IsCut (piece_at known) NoPiece x ps in
+      let P : List ℕ → Type 0 = λ x. IsReadAs (piece_at known) NoPiece x ps in
       let Q : Piece → Type 0 = λ x. are_balanced n (x ∷ ps) ≡ true in
       let R : Piece → Type 0 = λ x. ss ≡ then_all before (statements_of (x ∷ ps)) in
       (ps, subst P is.1 cut, sym (step.braces ps) ∙ subst Q piece balanced, subst R piece same ∙ step.said ps)

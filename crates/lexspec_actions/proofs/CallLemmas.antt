@@ -3,7 +3,7 @@ use Rattle.std.proofs.Common.{codes, sym, option_map, ◌≡◌, ℕ, List, Opti
 use Rattle.lexspec_actions.specs.Bytes.{expect}
 use Rattle.lexre_bytes.specs.Lexical.{name_at}
 use Rattle.lex_semantics.specs.Spec.{Begin, Push}
-use Rattle.lexspec_actions.specs.Names.{Known}
+use Rattle.lexspec_actions.specs.Names.{Scope}
 use Rattle.lexspec_actions.specs.ActionSteps.{Said, does, begin_at, begin_from, begins, push_at, push_from, pushes, closed_condition, condition_at, after_word, after_statement, statement_at}
 use Rattle.lexspec_actions.specs.Calls.{with_rest}
 use Rattle.lexspec_actions.specs.Outcome.{UnlessMemory}
@@ -37,7 +37,7 @@ module _ (condition : List ℕ → Option ℕ) where
   push_closed t inside rest number said first here is =
       ap (push_from condition) first ∙ ap (pushes condition) here ∙ pushed number rest ∙ ap (option_map (with_rest rest)) (sym is)
 
-module _ (known : Known) where
+module _ (known : Scope) where
   none_of : (t word rest : List ℕ) → ◌≡◌ {A = Option (List ℕ × List ℕ)} (name_at t) (Some (word, rest)) → after_word known word rest ≡ None → statement_at known t ≡ None
   unfolding statement_at
   none_of t word rest name h = rw (name, h) refl

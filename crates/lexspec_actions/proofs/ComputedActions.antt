@@ -2,7 +2,7 @@
 use Rattle.std.proofs.Common.{◌≡◌, ℕ, true, false, List, [], ◌∷◌, Option, Some, None, refl, sym, ap, ◌∙◌, subst, arith, ◌⊎◌, inl, inr}
 use Rattle.std.specs.Prelude.{codes, flat_map}
 use Rattle.lex_semantics.specs.ByteSets.{is_alpha, is_upper, is_lower, is_alnum, is_blank, is_digit, is_xdigit}
-use Rattle.lex_semantics.specs.Reading.{take_up_to, IsCut}
+use Rattle.lex_semantics.specs.Reading.{take_up_to, IsReadAs}
 use Rattle.lex_semantics.specs.Escapes.{simple_escape, octal_at, hexadecimal_at, until_quote}
 use Rattle.lex_semantics.specs.Literals.{normal}
 use Rattle.lex_semantics.specs.Spec.{EndAction, Statement, Echo, Print, Begin, More, Less, Reject, End, Push, Pop}
@@ -66,7 +66,7 @@ no_more t p rest done here = no (sym (none_left (known false) t done) ∙ here)
     no e = cc
 
 -- a text that is cut so, and then is no action
-unlike : (text : List ℕ) (qs : List Piece) → IsCut (next_piece (known false)) (λ t. skip t ≡ []) text qs → (AreBalanced qs → may_stand (normal (flat_map (λ (q : Piece). q.1) qs)) ≡ true → ⊥)
+unlike : (text : List ℕ) (qs : List Piece) → IsReadAs (next_piece (known false)) (λ t. skip t ≡ []) text qs → (AreBalanced qs → may_stand (normal (flat_map (λ (q : Piece). q.1) qs)) ≡ true → ⊥)
     → (ss : List Statement) → SpellsAction (known false) text ss → ⊥
 unlike text qs is not ss ((ps, cut, balanced, same), stands) =
     let e : ps ≡ qs = one_cut (next_piece (known false)) (λ t. skip t ≡ []) no_more text ps qs cut is in
@@ -116,7 +116,7 @@ echo_no_literal (b ∷ bs) e = cc
 echo_at_end : (e : EndAction) → SpellsEndAction (known false) (codes "ECHO;") e → ⊥
 unfolding take_up_to is_alpha is_upper is_lower is_alnum is_blank is_digit is_xdigit octal_at hexadecimal_at until_quote simple_escape after_word run_at number_at name_at escape_at after_space skip expect string_escape_at literal_at next_piece statement_at parts_of in_parentheses number_within second_word format_at after_statement condition_at
 echo_at_end e (ss, (ps, cut, balanced, same), few, says) =
-    let is : IsCut (next_piece (known false)) (λ t. skip t ≡ []) (codes "ECHO;") (([], Echo ∷ []) ∷ []) = ([], refl, refl) in
+    let is : IsReadAs (next_piece (known false)) (λ t. skip t ≡ []) (codes "ECHO;") (([], Echo ∷ []) ∷ []) = ([], refl, refl) in
     let f : ps ≡ ([], Echo ∷ []) ∷ [] = one_cut (next_piece (known false)) (λ t. skip t ≡ []) no_more (codes "ECHO;") ps (([], Echo ∷ []) ∷ []) cut is in
     let echoes : ss ≡ Echo ∷ [] = same ∙ ap (λ (qs : List Piece). normal (flat_map (λ (q : Piece). q.1) qs)) f in
     ends_no_way says echoes

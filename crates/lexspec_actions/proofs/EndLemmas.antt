@@ -1,7 +1,7 @@
 -- The statements of an end action, by their cases.
 use Rattle.std.proofs.Common.{◌≡◌, ℕ, List, [], ◌∷◌, ◌⊎◌, inl, inr, Some, None, refl, sym, ap, ◌∙◌, subst}
 use Rattle.lex_semantics.specs.Spec.{EndAction, Statement, Print, End}
-use Rattle.lex_semantics.specs.Literals.{before, normal}
+use Rattle.lex_semantics.specs.Literals.{prepend, normal}
 use Rattle.lexspec_actions.specs.ActionSteps.{end_of}
 
 -- a literal and an end, or a literal alone
@@ -21,7 +21,7 @@ end_is ss e (inl h) = ap end_of h ∙ with_end e.print e.status
 end_is ss e (inr (h, zero)) = ap end_of h ∙ without_end e.print ∙ ap (λ n. Some (record { print = e.print; status = n })) (sym zero)
 
 -- no literal is empty in normal form
-full_first : (s : Statement) (ss rest : List Statement) → ((left : List Statement) → ss ≡ Print [] ∷ left → ⊥) → before s ss ≡ Print [] ∷ rest → ⊥
+full_first : (s : Statement) (ss rest : List Statement) → ((left : List Statement) → ss ≡ Print [] ∷ left → ⊥) → prepend s ss ≡ Print [] ∷ rest → ⊥
 full_first (Print []) ss rest h e = h rest e
 full_first (Print (b ∷ bs)) [] rest h e = cc
 full_first (Print (b ∷ bs)) (Print more ∷ ss) rest h e = cc

@@ -5,7 +5,7 @@ use Rattle.std.proofs.lemmas.Bool.{and_parts, and_from, le-leb, leb-true}
 use Rattle.lex_semantics.proofs.Legals.{normal_of_joined}
 use Rattle.lex_semantics.specs.Spec.{EndAction, Statement, Echo, Print, Begin, More, Less, Reject, End, Push, Pop}
 use Rattle.lex_semantics.specs.Legal.{in_range, all_in_range, is_literal, are_joined, ends_last, are_compatible, IsLegal}
-use Rattle.lexspec_actions.specs.Names.{Known, number_from, known_in}
+use Rattle.lexspec_actions.specs.Names.{Scope, number_from, known_in}
 use Rattle.lexspec_actions.specs.Statements.{then_print, then_one, then_all}
 use Rattle.lexspec_actions.specs.Actions.{are_few, SpellsStatements, SpellsAction, SpellsEndAction}
 use Rattle.lexspec_actions.specs.ActionSteps as Steps
@@ -162,7 +162,7 @@ steps_range names stack text ss some (ps, cut, balanced, same) =
     below : (name : List ℕ) → IfSome (number_from 0 names name) (λ c. c < length names)
     below name = let e : 0 + length names ≡ length names = omega arith in subst (λ m. IfSome (number_from 0 names name) (λ c. c < m)) e (number_below 0 names name)
 
-steps_joined : (known : Known) (text : List ℕ) (ss : List Statement) → Steps.SpellsStatements known text ss → are_joined ss ≡ true
+steps_joined : (known : Scope) (text : List ℕ) (ss : List Statement) → Steps.SpellsStatements known text ss → are_joined ss ≡ true
 steps_joined known text ss (ps, cut, balanced, same) = subst (λ z. are_joined z ≡ true) (sym same) (all_joined [] (statements_of ps) refl)
 
 pub spelled_range : (names : List (List ℕ)) (stack : Bool) (text : List ℕ) (ss : List Statement) → 1 ≤ length names → SpellsStatements (known_in names stack) text ss → all_in_range (length names) ss ≡ true

@@ -4,9 +4,9 @@ use Rattle.std.specs.Prelude.{codes, ◌&&◌, nat_le, nat_lt}
 use Rattle.std.proofs.lemmas.Bool.{and_parts, and_from, lt-ltb}
 use Rattle.lex_semantics.specs.Spec.{Statement, Print}
 use Rattle.lex_semantics.specs.Legal.{in_range}
-use Rattle.lex_semantics.specs.ByteSets.{is_word, within}
-use Rattle.lex_semantics.specs.Reading.{◌>>=◌, IsCut}
-use Rattle.lexspec_actions.specs.Names.{number_from, Known}
+use Rattle.lex_semantics.specs.ByteSets.{same_bytes, within}
+use Rattle.lex_semantics.specs.Reading.{◌>>=◌, IsReadAs}
+use Rattle.lexspec_actions.specs.Names.{number_from, Scope}
 use Rattle.lexspec_actions.specs.Bytes.{expect, literal_at, skip}
 use Rattle.lexspec_actions.specs.ByteSteps.{digits_at}
 use Rattle.lexre_bytes.specs.Lexical.{name_at}
@@ -101,7 +101,7 @@ exit_good n t = if_bind (Good n) (number_argument t) _ (λ found e. if_chosen (G
 -- a name's number is below the count of names
 pub number_below : (k : ℕ) (names : List (List ℕ)) (name : List ℕ) → IfSome (number_from k names name) (λ c. c < k + length names)
 number_below k [] name = tt
-number_below k (a ∷ names) name = if_chosen (λ c. c < k + suc (length names)) (is_word a name) (Some k) (number_from (suc k) names name)
+number_below k (a ∷ names) name = if_chosen (λ c. c < k + suc (length names)) (same_bytes a name) (Some k) (number_from (suc k) names name)
     (λ h. omega arith)
     (λ h. later (number_from (suc k) names name) (number_below (suc k) names name))
   where
@@ -116,10 +116,10 @@ module _ (condition : List ℕ → Option ℕ) (n : ℕ) (some : 1 ≤ n) (below
     where
       from : (o : Option (List ℕ × List ℕ)) → IfSome (elim o [
         | Some found ↦ condition found.0 >>= λ c. Some (c, found.1)
-        | None ↦ digits_at (skip t) >>= λ (digits, rest). if is_word digits (codes "0") then Some (0, rest) else None
+        | None ↦ digits_at (skip t) >>= λ (digits, rest). if same_bytes digits (codes "0") then Some (0, rest) else None
       ]) (Numbered n)
       from (Some found) = if_bind (Numbered n) (condition found.0) _ (λ c e. some_of (λ i. i < n) (condition found.0) c (below found.0) e)
-      from None = if_bind (Numbered n) (digits_at (skip t)) _ (λ found e. if_chosen (Numbered n) (is_word found.0 (codes "0")) _ _ (λ h. omega (arith, some)) (λ h. tt))
+      from None = if_bind (Numbered n) (digits_at (skip t)) _ (λ found e. if_chosen (Numbered n) (same_bytes found.0 (codes "0")) _ _ (λ h. omega (arith, some)) (λ h. tt))
 
   closed_good : (t : List ℕ) → IfSome (closed_condition condition t) (Numbered n)
   unfolding closed_condition
@@ -153,23 +153,23 @@ module _ (condition : List ℕ → Option ℕ) (n : ℕ) (some : 1 ≤ n) (below
   stack_good : (word t : List ℕ) → IfSome (stack_word condition word t) (Good n)
   unfolding stack_word
   stack_good word t =
-      if_chosen (Good n) (is_word word (codes "yy_push_state")) _ _ (λ h. push_good t) (λ h.
-      if_chosen (Good n) (is_word word (codes "yy_pop_state")) _ _ (λ h. pop_good n t) (λ h. tt))
+      if_chosen (Good n) (same_bytes word (codes "yy_push_state")) _ _ (λ h. push_good t) (λ h.
+      if_chosen (Good n) (same_bytes word (codes "yy_pop_state")) _ _ (λ h. pop_good n t) (λ h. tt))
 
-module _ (known : Known) (n : ℕ) (some : 1 ≤ n) (below : (name : List ℕ) → IfSome (known.number name) (λ c. c < n)) where
+module _ (known : Scope) (n : ℕ) (some : 1 ≤ n) (below : (name : List ℕ) → IfSome (known.number name) (λ c. c < n)) where
   word_good : (word t : List ℕ) → IfSome (after_word known word t) (Good n)
   unfolding after_word
   word_good word t =
-      if_chosen (Good n) (is_word word (codes "ECHO")) _ _ (λ h. refl) (λ h.
-      if_chosen (Good n) (is_word word (codes "REJECT")) _ _ (λ h. refl) (λ h.
-      if_chosen (Good n) (is_word word (codes "BEGIN")) _ _ (λ h. begin_good known.number n some below t) (λ h.
-      if_chosen (Good n) (is_word word (codes "yymore")) _ _ (λ h. yymore_good n t) (λ h.
-      if_chosen (Good n) (is_word word (codes "yyless")) _ _ (λ h. yyless_good n t) (λ h.
-      if_chosen (Good n) (is_word word (codes "yyterminate")) _ _ (λ h. yyterminate_good n t) (λ h.
-      if_chosen (Good n) (is_word word (codes "exit")) _ _ (λ h. exit_good n t) (λ h.
-      if_chosen (Good n) (is_word word (codes "printf")) _ _ (λ h. printf_good n t) (λ h.
-      if_chosen (Good n) (is_word word (codes "fputs")) _ _ (λ h. fputs_good n t) (λ h.
-      if_chosen (Good n) (is_word word (codes "puts")) _ _ (λ h. puts_good n t) (λ h.
+      if_chosen (Good n) (same_bytes word (codes "ECHO")) _ _ (λ h. refl) (λ h.
+      if_chosen (Good n) (same_bytes word (codes "REJECT")) _ _ (λ h. refl) (λ h.
+      if_chosen (Good n) (same_bytes word (codes "BEGIN")) _ _ (λ h. begin_good known.number n some below t) (λ h.
+      if_chosen (Good n) (same_bytes word (codes "yymore")) _ _ (λ h. yymore_good n t) (λ h.
+      if_chosen (Good n) (same_bytes word (codes "yyless")) _ _ (λ h. yyless_good n t) (λ h.
+      if_chosen (Good n) (same_bytes word (codes "yyterminate")) _ _ (λ h. yyterminate_good n t) (λ h.
+      if_chosen (Good n) (same_bytes word (codes "exit")) _ _ (λ h. exit_good n t) (λ h.
+      if_chosen (Good n) (same_bytes word (codes "printf")) _ _ (λ h. printf_good n t) (λ h.
+      if_chosen (Good n) (same_bytes word (codes "fputs")) _ _ (λ h. fputs_good n t) (λ h.
+      if_chosen (Good n) (same_bytes word (codes "puts")) _ _ (λ h. puts_good n t) (λ h.
       if_chosen (Good n) known.stack _ _ (λ h. stack_good known.number n some below word t) (λ h. tt)))))))))))
 
   statement_good : (t : List ℕ) → IfSome (statement_at known t) (Good n)
@@ -202,7 +202,7 @@ module _ (known : Known) (n : ℕ) (some : 1 ≤ n) (below : (name : List ℕ) �
       without (prints_text front back) h = h
 
   -- all the statements of a text
-  pub cut_good : (text : List ℕ) (ps : List Piece) → IsCut (piece_at known) NoPiece text ps → all_raw n (statements_of ps) ≡ true
+  pub cut_good : (text : List ℕ) (ps : List Piece) → IsReadAs (piece_at known) NoPiece text ps → all_raw n (statements_of ps) ≡ true
   cut_good text [] done = refl
   cut_good text (p ∷ ps) (rest, here, cut) =
       piece_before p ps (some_of GoodPiece (piece_from known (skip text)) (p, rest) (piece_good (skip text)) here) (cut_good rest ps cut)

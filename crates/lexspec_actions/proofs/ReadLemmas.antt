@@ -2,7 +2,7 @@
 use Rattle.std.proofs.Common.{◌≡◌, ℕ, true, false, List, Some, None, sym, ap, ◌∙◌}
 use Rattle.std.specs.Prelude.{flat_map}
 use Rattle.lex_semantics.specs.Spec.{EndAction, Statement}
-use Rattle.lexspec_actions.specs.Names.{Known}
+use Rattle.lexspec_actions.specs.Names.{Scope}
 use Rattle.lexspec_actions.specs.Actions.{Piece, SpellsStatements, SpellsAction, SpellsEndAction, are_few}
 use Rattle.lexspec_actions.specs.ActionSteps.{end_of}
 use Rattle.lexspec_actions.specs.ActionSteps.{may_stand}
@@ -19,7 +19,7 @@ no_both e = absurd (no e)
     no : true ≡ false → ⊥
     no p = cc
 
-module _ (known : Known) (text : List ℕ) where
+module _ (known : Scope) (text : List ℕ) where
   abbrev pub NoAction : Type 0
   NoAction = (ss : List Statement) → SpellsAction known text ss → ⊥
 

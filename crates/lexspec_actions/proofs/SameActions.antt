@@ -4,12 +4,12 @@ use Rattle.std.specs.Prelude.{◌||◌, nat_le, codes, not, find, flat_map, is_s
 use Rattle.std.specs.Option.{option_or}
 use Rattle.std.proofs.lemmas.List.Sums.{sum_by-cons}
 use Rattle.std.proofs.lemmas.Bool.{ne_eqb, eq-eqb, eqb-true, le-leb}
-use Rattle.lex_semantics.specs.ByteSets.{is_word, within, is_digit}
-use Rattle.lex_semantics.specs.Reading.{◌>>=◌, Reader, IsCut, begins, is_empty, value, take_up_to}
+use Rattle.lex_semantics.specs.ByteSets.{same_bytes, within, is_digit}
+use Rattle.lex_semantics.specs.Reading.{◌>>=◌, Reader, IsReadAs, begins, is_empty, value, take_up_to}
 use Rattle.lex_semantics.specs.Limits.{max_kept, max_status}
 use Rattle.lex_semantics.specs.Spec.{Statement, Echo, Print, Begin, More, Less, End, Push, Pop}
 use Rattle.lexre_bytes.specs.Lexical.{after_word}
-use Rattle.lexspec_actions.specs.Names.{Known}
+use Rattle.lexspec_actions.specs.Names.{Scope}
 use Rattle.lexspec_actions.specs.Bytes.{skip, expect, literal_at}
 use Rattle.lexspec_actions.specs.ByteSteps.{digits_at}
 use Rattle.lexre_bytes.specs.Lexical.{run_at, number_at, name_at}
@@ -102,7 +102,7 @@ no_digits (c ∷ u) found e = from (is_digit c) refl
     from true f = absurd (no (rw (digit_no_name c (rw f refl)) at e))
 
 -- a condition
-module _ (known : Known) where
+module _ (known : Scope) where
   -- what is read of a condition, by what is said of its number
   abbrev numbered : (ℕ → Statement) → Option (ℕ × List ℕ) → Option (List Statement × List ℕ)
   numbered s o = option_map (λ (c, rest). (s c ∷ [], rest)) o
@@ -116,23 +116,23 @@ module _ (known : Known) where
       zero_only false rest = refl
 
       digits : (o : Option (List ℕ × List ℕ))
-          → (o >>= λ (ds, rest). if◌then◌else◌ {A = Option (List Statement × List ℕ)} (is_word ds (codes "0")) (says_only (s 0) rest) None)
-          ≡ numbered s (o >>= λ (ds, rest). if◌then◌else◌ {A = Option (ℕ × List ℕ)} (is_word ds (codes "0")) (Some (0, rest)) None)
+          → (o >>= λ (ds, rest). if◌then◌else◌ {A = Option (List Statement × List ℕ)} (same_bytes ds (codes "0")) (says_only (s 0) rest) None)
+          ≡ numbered s (o >>= λ (ds, rest). if◌then◌else◌ {A = Option (ℕ × List ℕ)} (same_bytes ds (codes "0")) (Some (0, rest)) None)
       digits None = refl
-      digits (Some (ds, rest)) = zero_only (is_word ds (codes "0")) rest
+      digits (Some (ds, rest)) = zero_only (same_bytes ds (codes "0")) rest
 
       listed : (o : Option ℕ) (rest : List ℕ) (p : Option (List ℕ × List ℕ)) → p ≡ None
-          → option_or (o >>= λ c. says_only (s c) rest) (p >>= λ (ds, rest). if◌then◌else◌ {A = Option (List Statement × List ℕ)} (is_word ds (codes "0")) (says_only (s 0) rest) None)
+          → option_or (o >>= λ c. says_only (s c) rest) (p >>= λ (ds, rest). if◌then◌else◌ {A = Option (List Statement × List ℕ)} (same_bytes ds (codes "0")) (says_only (s 0) rest) None)
           ≡ numbered s (o >>= λ c. Some (c, rest))
       listed None rest p e = rw e refl
       listed (Some c) rest p e = refl
 
       from : (o : Option (List ℕ × List ℕ)) → ((found : List ℕ × List ℕ) → o ≡ Some found → digits_at (skip t) ≡ None)
           → option_or (o >>= λ (name, rest). known.number name >>= λ c. says_only (s c) rest)
-          (digits_at (skip t) >>= λ (ds, rest). if◌then◌else◌ {A = Option (List Statement × List ℕ)} (is_word ds (codes "0")) (says_only (s 0) rest) None)
+          (digits_at (skip t) >>= λ (ds, rest). if◌then◌else◌ {A = Option (List Statement × List ℕ)} (same_bytes ds (codes "0")) (says_only (s 0) rest) None)
           ≡ numbered s (elim o [
             | Some found ↦ known.number found.0 >>= λ c. Some (c, found.1)
-            | None ↦ digits_at (skip t) >>= λ (ds, rest). if◌then◌else◌ {A = Option (ℕ × List ℕ)} (is_word ds (codes "0")) (Some (0, rest)) None
+            | None ↦ digits_at (skip t) >>= λ (ds, rest). if◌then◌else◌ {A = Option (ℕ × List ℕ)} (same_bytes ds (codes "0")) (Some (0, rest)) None
           ])
       from (Some found) h = listed (known.number found.0) found.1 (digits_at (skip t)) (h found refl)
       from None h = digits (digits_at (skip t))
@@ -187,14 +187,14 @@ second_told {X} word t x = from (expect (codes ",") t)
     ends true after = refl
 
     named : (o : Option (List ℕ × List ℕ))
-        → ◌≡◌ {A = Option (X × List ℕ)} ((o >>= λ (name, after). if is_word name word then Some after else None) >>= λ after. expect (codes ")") after >>= λ last. Some (x, last))
-        (((o >>= λ (name, rest). if is_word name word then Some rest else None) >>= λ rest. expect (codes ")") rest) >>= λ last. Some (x, last))
+        → ◌≡◌ {A = Option (X × List ℕ)} ((o >>= λ (name, after). if same_bytes name word then Some after else None) >>= λ after. expect (codes ")") after >>= λ last. Some (x, last))
+        (((o >>= λ (name, rest). if same_bytes name word then Some rest else None) >>= λ rest. expect (codes ")") rest) >>= λ last. Some (x, last))
     named None = refl
-    named (Some (name, after)) = ends (is_word name word) after
+    named (Some (name, after)) = ends (same_bytes name word) after
 
     from : (o : Option (List ℕ))
-        → ◌≡◌ {A = Option (X × List ℕ)} ((o >>= λ rest. name_at (skip rest) >>= λ (name, after). if is_word name word then Some after else None) >>= λ after. expect (codes ")") after >>= λ last. Some (x, last))
-        ((o >>= λ rest. (name_at (skip rest) >>= λ (name, rest). if is_word name word then Some rest else None) >>= λ rest. expect (codes ")") rest) >>= λ last. Some (x, last))
+        → ◌≡◌ {A = Option (X × List ℕ)} ((o >>= λ rest. name_at (skip rest) >>= λ (name, after). if same_bytes name word then Some after else None) >>= λ after. expect (codes ")") after >>= λ last. Some (x, last))
+        ((o >>= λ rest. (name_at (skip rest) >>= λ (name, rest). if same_bytes name word then Some rest else None) >>= λ rest. expect (codes ")") rest) >>= λ last. Some (x, last))
     from None = refl
     from (Some rest) = named (name_at (skip rest))
 
@@ -339,10 +339,10 @@ abbrev Fronts : ℕ → List A.Piece → Type 0
 Fronts n qs = (k : ℕ) → closed_in (take k qs) ≤ n + opened_in (take k qs)
 
 one_opened : (qs : List A.Piece) → opened_in (piece_told S.opens ∷ qs) ≡ 1 + opened_in qs
-one_opened qs = sum_by-cons (λ (q : A.Piece). if is_word q.0 (codes "{") then 1 else 0) (piece_told S.opens) qs
+one_opened qs = sum_by-cons (λ (q : A.Piece). if same_bytes q.0 (codes "{") then 1 else 0) (piece_told S.opens) qs
 
 one_closed : (qs : List A.Piece) → closed_in (piece_told S.closes ∷ qs) ≡ 1 + closed_in qs
-one_closed qs = sum_by-cons (λ (q : A.Piece). if is_word q.0 (codes "}") then 1 else 0) (piece_told S.closes) qs
+one_closed qs = sum_by-cons (λ (q : A.Piece). if same_bytes q.0 (codes "}") then 1 else 0) (piece_told S.closes) qs
 
 front_none : (n : ℕ) → Fronts n []
 front_none n zero = omega arith
@@ -397,28 +397,28 @@ said_told (S.opens ∷ ps) = said_told ps
 said_told (S.closes ∷ ps) = said_told ps
 said_told (S.says s ∷ ps) = ap (λ x. said_by s ++ x) (said_told ps)
 
-module _ (known : Known) where
-  stack_told : (b : Bool) (word t : List ℕ) → (find (λ (row : Row). is_word word row.0) (if◌then◌else◌ {A = List Row} (not b) []
+module _ (known : Scope) where
+  stack_told : (b : Bool) (word t : List ℕ) → (find (λ (row : Row). same_bytes word row.0) (if◌then◌else◌ {A = List Row} (not b) []
       ((codes "yy_push_state", in_parentheses (A.condition_at known Push)) ∷ (codes "yy_pop_state", in_parentheses (says_only Pop)) ∷ [])) >>= λ r. r.1 t)
       ≡ told (if b then stack_word known.number word t else None)
   unfolding stack_word pop_at
   stack_told false word t = refl
-  stack_told true word t = row_told (is_word word (codes "yy_push_state")) _ _ t _ _ (push_told known t)
-      (row_told (is_word word (codes "yy_pop_state")) _ _ t _ _ (empty_told Pop t) refl)
+  stack_told true word t = row_told (same_bytes word (codes "yy_push_state")) _ _ t _ _ (push_told known t)
+      (row_told (same_bytes word (codes "yy_pop_state")) _ _ t _ _ (empty_told Pop t) refl)
 
-  word_told : (word t : List ℕ) → (find (λ (row : Row). is_word word row.0) (statements known) >>= λ r. r.1 t) ≡ told (S.after_word known word t)
+  word_told : (word t : List ℕ) → (find (λ (row : Row). same_bytes word row.0) (statements known) >>= λ r. r.1 t) ≡ told (S.after_word known word t)
   unfolding S.after_word yymore_at yyless_at yyterminate_at exit_at
   word_told word t =
-      row_told (is_word word (codes "ECHO")) _ _ t _ _ refl
-      (row_told (is_word word (codes "REJECT")) _ _ t _ _ refl
-      (row_told (is_word word (codes "BEGIN")) _ _ t _ _ (begin_told known t)
-      (row_told (is_word word (codes "yymore")) _ _ t _ _ (empty_told More t)
-      (row_told (is_word word (codes "yyless")) _ _ t _ _ (number_told 1 max_kept Less (within 1 max_kept) t (λ n. refl))
-      (row_told (is_word word (codes "yyterminate")) _ _ t _ _ (empty_told (End 0) t)
-      (row_told (is_word word (codes "exit")) _ _ t _ _ (number_told 0 max_status End (λ n. nat_le n max_status) t (λ n. rw (le-leb 0 n (omega arith)) refl))
-      (row_told (is_word word (codes "printf")) _ _ t _ _ (printf_told t)
-      (row_told (is_word word (codes "fputs")) _ _ t _ _ (fputs_told t)
-      (row_told (is_word word (codes "puts")) _ _ t _ _ (puts_told t)
+      row_told (same_bytes word (codes "ECHO")) _ _ t _ _ refl
+      (row_told (same_bytes word (codes "REJECT")) _ _ t _ _ refl
+      (row_told (same_bytes word (codes "BEGIN")) _ _ t _ _ (begin_told known t)
+      (row_told (same_bytes word (codes "yymore")) _ _ t _ _ (empty_told More t)
+      (row_told (same_bytes word (codes "yyless")) _ _ t _ _ (number_told 1 max_kept Less (within 1 max_kept) t (λ n. refl))
+      (row_told (same_bytes word (codes "yyterminate")) _ _ t _ _ (empty_told (End 0) t)
+      (row_told (same_bytes word (codes "exit")) _ _ t _ _ (number_told 0 max_status End (λ n. nat_le n max_status) t (λ n. rw (le-leb 0 n (omega arith)) refl))
+      (row_told (same_bytes word (codes "printf")) _ _ t _ _ (printf_told t)
+      (row_told (same_bytes word (codes "fputs")) _ _ t _ _ (fputs_told t)
+      (row_told (same_bytes word (codes "puts")) _ _ t _ _ (puts_told t)
       (stack_told known.stack word t))))))))))
 
   end_is : (u : List ℕ) → (is_empty u || begins (codes "}") u) ≡ S.may_end u
@@ -443,7 +443,7 @@ module _ (known : Known) where
   statement_told : (t : List ℕ) → statement_at known t ≡ told (S.statement_at known t)
   unfolding statement_at S.statement_at
   statement_told t = bind_told (name_at t) _ _ (λ found.
-      row_reads (find (λ (row : Row). is_word found.0 row.0) (statements known)) found.1 (λ (ss, after). A.after_statement after >>= λ last. Some (ss, last))
+      row_reads (find (λ (row : Row). same_bytes found.0 row.0) (statements known)) found.1 (λ (ss, after). A.after_statement after >>= λ last. Some (ss, last))
       ∙ from (S.after_word known found.0 found.1) (word_told found.0 found.1))
     where
       from : {o : Option (List Statement × List ℕ)} (p : Option (Said × List ℕ)) → o ≡ told p
@@ -487,9 +487,9 @@ module _ (known : Known) where
   -- ---- whole texts
 
   abbrev OldCut : List ℕ → List A.Piece → Type 0
-  OldCut text qs = (ps : List S.Piece) × IsCut (S.piece_at known) S.NoPiece text ps × (qs ≡ map piece_told ps)
+  OldCut text qs = (ps : List S.Piece) × IsReadAs (S.piece_at known) S.NoPiece text ps × (qs ≡ map piece_told ps)
 
-  old_cut : (text : List ℕ) (qs : List A.Piece) → IsCut (next_piece known) (λ t. skip t ≡ []) text qs → OldCut text qs
+  old_cut : (text : List ℕ) (qs : List A.Piece) → IsReadAs (next_piece known) (λ t. skip t ≡ []) text qs → OldCut text qs
   old_cut text [] done = ([], done, refl)
   old_cut text (q ∷ qs) (rest, here, cut) = from (S.piece_at known text) refl (sym (piece_is text) ∙ here) (old_cut rest qs cut)
     where
@@ -505,7 +505,7 @@ module _ (known : Known) where
           let start : q ∷ qs ≡ map piece_told (p ∷ ps) = cc in
           (p ∷ ps, (rest, e ∙ ap (λ x. Some (p, x)) left, old), start)
 
-  new_cut : (text : List ℕ) (ps : List S.Piece) → IsCut (S.piece_at known) S.NoPiece text ps → IsCut (next_piece known) (λ t. skip t ≡ []) text (map piece_told ps)
+  new_cut : (text : List ℕ) (ps : List S.Piece) → IsReadAs (S.piece_at known) S.NoPiece text ps → IsReadAs (next_piece known) (λ t. skip t ≡ []) text (map piece_told ps)
   new_cut text [] done = done
   new_cut text (p ∷ ps) (rest, here, cut) = (rest, piece_is text ∙ ap pieces_told here, new_cut rest ps cut)
 

@@ -6,7 +6,7 @@ use Rattle.std.proofs.lemmas.List.{take_all}
 use Rattle.std.proofs.lemmas.Bool.{ne_eqb, eq-eqb}
 use Rattle.lex_semantics.specs.ByteSets.{within, is_blank}
 use Rattle.lex_semantics.specs.Reading.{◌>>=◌, take_up_to, is_white, begins, Reader}
-use Rattle.lex_semantics.specs.Active.{lists}
+use Rattle.lex_semantics.specs.Active.{contains}
 use Rattle.lex_semantics.specs.Escapes.{simple_escape, is_octal, octal_at, hexadecimal_at, byte_with, until_quote}
 use Rattle.lexre_bytes.specs.Lexical.{after_word}
 use Rattle.lexre_bytes.proofs.SignLaws.{by_sign, turned}
@@ -158,7 +158,7 @@ unfolding string_escape_at escape_from pattern.escape_from plain_escape after_wo
 escape_is [] = refl
 escape_is (c ∷ t) = rw (forms.escape_is (c ∷ t)) (by_sign c 10 (λ e. rw e refl) (λ m. by_sign c 120
     (λ e. rw e (hexadecimal (hexadecimal_at t)))
-    (λ n. rw (ne_eqb c 10 m, ne_eqb c 120 n, turned c 120 n) (from (is_octal c) (lists (codes "abfnrtv\\\"'?") c) (letter_fits c)))))
+    (λ n. rw (ne_eqb c 10 m, ne_eqb c 120 n, turned c 120 n) (from (is_octal c) (contains (codes "abfnrtv\\\"'?") c) (letter_fits c)))))
   where
     hexadecimal : (o : Option (ℕ × List ℕ))
         → ((if◌then◌else◌ {A = Option (ℕ × List ℕ)} (is_some o) (Some (unwrap_or o (120, t))) None) >>= λ (n, rest). if◌then◌else◌ {A = Option (ℕ × List ℕ)} (within 1 255 n) (Some (n, rest)) None)

@@ -1,10 +1,10 @@
 -- Worked examples of actions, each with the statements that it spells. The conditions are INITIAL and A.
 use Rattle.std.specs.Prelude.{ℕ, Bool, true, false, List, [], ◌∷◌, codes}
 use Rattle.lex_semantics.specs.Spec.{EndAction, Statement, Echo, Print, Begin, More, Less, Reject, End, Push, Pop}
-use Rattle.lexspec_actions.specs.Names.{Known, known_in}
+use Rattle.lexspec_actions.specs.Names.{Scope, known_in}
 use Rattle.lexspec_actions.specs.Actions.{SpellsAction, SpellsEndAction}
 
-abbrev pub known : Bool → Known
+abbrev pub known : Bool → Scope
 known stack = known_in (codes "INITIAL" ∷ codes "A" ∷ []) stack
 
 abbrev pub Says : List ℕ → List Statement → Type 0

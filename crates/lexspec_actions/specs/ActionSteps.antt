@@ -1,10 +1,10 @@
 -- The action of a rule by the steps of the code that reads it: what each of its readers answers. Actions says the same by its table of
 -- statements.
 use Rattle.std.specs.Prelude.{◌≡◌, ℕ, zero, suc, Bool, true, false, ◌&&◌, ◌==◌, nat_le, if◌then◌else◌, List, [], ◌∷◌, ◌++◌, Option, Some, None, codes, min}
-use Rattle.lex_semantics.specs.ByteSets.{is_word, within}
-use Rattle.lex_semantics.specs.Reading.{◌>>=◌, Reader, IsCut, value}
+use Rattle.lex_semantics.specs.ByteSets.{same_bytes, within}
+use Rattle.lex_semantics.specs.Reading.{◌>>=◌, Reader, IsReadAs, value}
 use Rattle.lex_semantics.specs.Legal.{ends_last, are_compatible}
-use Rattle.lexspec_actions.specs.Names.{Known}
+use Rattle.lexspec_actions.specs.Names.{Scope}
 use Rattle.lexspec_actions.specs.Actions.{are_few}
 use Rattle.lexspec_actions.specs.Bytes.{skip, expect, literal_at}
 use Rattle.lexspec_actions.specs.ByteSteps.{digits_at}
@@ -52,7 +52,7 @@ with_text (front, Some back) = Some (prints_text front back)
 
 -- the word, where that comes next
 unfoldable pub this_word : List ℕ → List ℕ → Option (List ℕ)
-this_word word t = name_at (skip t) >>= λ (name, rest). if is_word name word then Some rest else None
+this_word word t = name_at (skip t) >>= λ (name, rest). if same_bytes name word then Some rest else None
 
 -- `()`
 unfoldable pub no_argument : List ℕ → Option (List ℕ)
@@ -154,7 +154,7 @@ module _ (condition : List ℕ → Option ℕ) where
   unfoldable pub condition_at : Reader ℕ
   condition_at t = elim (name_at (skip t)) [
     | Some found ↦ condition found.0 >>= λ c. Some (c, found.1)
-    | None ↦ digits_at (skip t) >>= λ (digits, rest). if is_word digits (codes "0") then Some (0, rest) else None
+    | None ↦ digits_at (skip t) >>= λ (digits, rest). if same_bytes digits (codes "0") then Some (0, rest) else None
   ]
 
   -- a condition, and `)`
@@ -188,24 +188,24 @@ module _ (condition : List ℕ → Option ℕ) where
   -- the statements of the stack, by their first word
   unfoldable pub stack_word : List ℕ → Reader Said
   stack_word word t =
-      if is_word word (codes "yy_push_state") then push_at t
-      else if is_word word (codes "yy_pop_state") then pop_at t
+      if same_bytes word (codes "yy_push_state") then push_at t
+      else if same_bytes word (codes "yy_pop_state") then pop_at t
       else None
 
-module _ (known : Known) where
+module _ (known : Scope) where
   -- the statements, by their first word
   unfoldable pub after_word : List ℕ → Reader Said
   after_word word t =
-      if is_word word (codes "ECHO") then Some (does Echo, t)
-      else if is_word word (codes "REJECT") then Some (does Reject, t)
-      else if is_word word (codes "BEGIN") then begin_at known.number t
-      else if is_word word (codes "yymore") then yymore_at t
-      else if is_word word (codes "yyless") then yyless_at t
-      else if is_word word (codes "yyterminate") then yyterminate_at t
-      else if is_word word (codes "exit") then exit_at t
-      else if is_word word (codes "printf") then printf_at t
-      else if is_word word (codes "fputs") then fputs_at t
-      else if is_word word (codes "puts") then puts_at t
+      if same_bytes word (codes "ECHO") then Some (does Echo, t)
+      else if same_bytes word (codes "REJECT") then Some (does Reject, t)
+      else if same_bytes word (codes "BEGIN") then begin_at known.number t
+      else if same_bytes word (codes "yymore") then yymore_at t
+      else if same_bytes word (codes "yyless") then yyless_at t
+      else if same_bytes word (codes "yyterminate") then yyterminate_at t
+      else if same_bytes word (codes "exit") then exit_at t
+      else if same_bytes word (codes "printf") then printf_at t
+      else if same_bytes word (codes "fputs") then fputs_at t
+      else if same_bytes word (codes "puts") then puts_at t
       else if known.stack then stack_word known.number word t
       else None
 
@@ -226,7 +226,7 @@ module _ (known : Known) where
   -- the text is an action, and these are its statements in normal form
   abbrev pub SpellsStatements : List ℕ → List Statement → Type 0
   SpellsStatements text ss =
-      (ps : List Piece) × IsCut piece_at NoPiece text ps × (are_balanced 0 ps ≡ true) × (ss ≡ then_all [] (statements_of ps))
+      (ps : List Piece) × IsReadAs piece_at NoPiece text ps × (are_balanced 0 ps ≡ true) × (ss ≡ then_all [] (statements_of ps))
 
 -- what an `<<EOF>>` rule does with these statements
 abbrev pub end_of : List Statement → Option EndAction

@@ -2,7 +2,7 @@
 use Rattle.std.specs.Prelude.{ℕ, suc, not, ◌||◌, ◌==◌, if◌then◌else◌, List, [], length, take, drop, fold, Option, Some, None, is_some, unwrap_or, codes}
 use Rattle.std.specs.List.{list_any}
 use Rattle.std.specs.Option.{option_or}
-use Rattle.lex_semantics.specs.Active.{lists}
+use Rattle.lex_semantics.specs.Active.{contains}
 use Rattle.lex_semantics.specs.ByteSets.{within}
 use Rattle.lex_semantics.specs.Reading.{◌>>=◌, Reader, after_run, is_white}
 use Rattle.lex_semantics.specs.Escapes.{is_octal, hexadecimal_at, byte_with, until_quote}
@@ -30,7 +30,7 @@ expect word t = after_word word (skip t)
 -- from 1 to 255 that these write, as in a pattern
 unfoldable pub string_escape_at : Reader ℕ
 string_escape_at t =
-    let begins_one = list_any (λ c. is_octal c || lists (codes "abfnrtv\\\"'?") c) (take 1 t) in
+    let begins_one = list_any (λ c. is_octal c || contains (codes "abfnrtv\\\"'?") c) (take 1 t) in
     let hexadecimal = is_some (after_word (codes "x") t >>= hexadecimal_at) in
     (if begins_one || hexadecimal then escape_at t else None) >>= λ (b, rest). if within 1 255 b then Some (b, rest) else None
 

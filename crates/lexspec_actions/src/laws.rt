@@ -2,20 +2,20 @@
 ghost use Rattle.std.specs.Prelude.{◌≡◌, ◌≤◌, ℕ, Bool, List, length};
 ghost use Rattle.lex_semantics.specs.Spec.{EndAction, Statement};
 ghost use Rattle.lex_semantics.specs.Legal.{IsLegal};
-ghost use Rattle.lexspec_actions.specs.Names.{Known, known_in};
+ghost use Rattle.lexspec_actions.specs.Names.{Scope, known_in};
 ghost use Rattle.lexspec_actions.specs.Actions.{SpellsAction, SpellsEndAction};
 ghost use Rattle.lexspec_actions.specs.ActionExamples.{EachStatement, SeveralStatements, NoActions, EndActions};
 ghost use Rattle.lex_semantics.specs.Limits.{max_status};
 
 /// A text spells at most one action, whatever numbers the conditions have.
 pub fn one_action()
-    ensures { (known : Known) (text : List ℕ) (ss tt : List Statement) → SpellsAction known text ss
+    ensures { (known : Scope) (text : List ℕ) (ss tt : List Statement) → SpellsAction known text ss
         → SpellsAction known text tt → ss ≡ tt }
 {}
 
 /// A text spells at most one end action.
 pub fn one_end_action()
-    ensures { (known : Known) (text : List ℕ) (e f : EndAction) → SpellsEndAction known text e
+    ensures { (known : Scope) (text : List ℕ) (e f : EndAction) → SpellsEndAction known text e
         → SpellsEndAction known text f → e ≡ f }
 {}
 

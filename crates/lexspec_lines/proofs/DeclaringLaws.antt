@@ -5,7 +5,7 @@ use Rattle.lex_semantics.specs.Text.{Among, Pairwise}
 use Rattle.std.proofs.lemmas.Bool.{and_parts, and_from, or_parts, eq-eqb, eqb-true}
 use Rattle.std.proofs.lemmas.List.{map-append, length-map, append_assoc}
 use Rattle.std.proofs.lemmas.List.Folds.{list_any-append}
-use Rattle.lex_semantics.specs.ByteSets.{is_word}
+use Rattle.lex_semantics.specs.ByteSets.{same_bytes}
 use Rattle.lexspec_actions.specs.Names.{number_from}
 use Rattle.lexspec_actions.specs.Names as A
 use Rattle.lexspec_actions.specs.declared.condition.Condition.{Condition}
@@ -15,28 +15,28 @@ use Rattle.lexspec_lines.specs.Declaring.{declared_of, with_kind, AreGood}
 use Rattle.lexspec_lines.proofs.OneSection.{no_true}
 use Rattle.lex_semantics.specs.Limits.{max_conditions}
 
-pub word_same : (w : List ℕ) → is_word w w ≡ true
+pub word_same : (w : List ℕ) → same_bytes w w ≡ true
 word_same [] = refl
-word_same (b ∷ w) = and_from (nat_eq b b) (is_word w w) (eq-eqb b b refl) (word_same w)
+word_same (b ∷ w) = and_from (nat_eq b b) (same_bytes w w) (eq-eqb b b refl) (word_same w)
 
-pub word_is : (v w : List ℕ) → is_word v w ≡ true → v ≡ w
+pub word_is : (v w : List ℕ) → same_bytes v w ≡ true → v ≡ w
 word_is [] [] h = refl
 word_is [] (c ∷ w) h = no_true h
 word_is (b ∷ v) [] h = no_true h
 word_is (b ∷ v) (c ∷ w) h =
-    let p = and_parts (nat_eq b c) (is_word v w) h in
+    let p = and_parts (nat_eq b c) (same_bytes v w) h in
     ap (λ z. z ∷ v) (eqb-true b c p.0) ∙ ap (λ z. c ∷ z) (word_is v w p.1)
 
 -- two words that differ, either way round
-pub word_other : (v w : List ℕ) → is_word v w ≡ false → is_word w v ≡ false
-word_other v w h = from (is_word w v) refl
+pub word_other : (v w : List ℕ) → same_bytes v w ≡ false → same_bytes w v ≡ false
+word_other v w h = from (same_bytes w v) refl
   where
-    from : (b : Bool) → is_word w v ≡ b → is_word w v ≡ false
+    from : (b : Bool) → same_bytes w v ≡ b → same_bytes w v ≡ false
     from false e = e
-    from true e = no_true (sym h ∙ ap (is_word v) (word_is w v e) ∙ word_same v)
+    from true e = no_true (sym h ∙ ap (same_bytes v) (word_is w v e) ∙ word_same v)
 
 pub has_append : (ms ns : List (List ℕ)) (n : List ℕ) → has_name (ms ++ ns) n ≡ (has_name ms n || has_name ns n)
-has_append ms ns n = list_any-append (λ m. is_word m n) ms ns
+has_append ms ns n = list_any-append (λ m. same_bytes m n) ms ns
 
 or_false : (x y : Bool) → x ≡ false → y ≡ false → (x || y) ≡ false
 or_false x y e f = ap (λ z. z || y) e ∙ f
@@ -49,9 +49,9 @@ pub distinct_push : (ns : List (List ℕ)) (n : List ℕ) → are_distinct ns �
 distinct_push [] n h k = refl
 distinct_push (m ∷ ns) n h k =
     let parts = and_parts (not (has_name ns m)) (are_distinct ns) h in
-    let others = or_parts (is_word m n) (has_name ns n) k in
+    let others = or_parts (same_bytes m n) (has_name ns n) k in
     let once : has_name (ns ++ n ∷ []) m ≡ false =
-    has_append ns (n ∷ []) m ∙ or_false (has_name ns m) (is_word n m || false) (turned (has_name ns m) parts.0) (or_false (is_word n m) false (word_other m n others.0) refl) in
+    has_append ns (n ∷ []) m ∙ or_false (has_name ns m) (same_bytes n m || false) (turned (has_name ns m) parts.0) (or_false (same_bytes n m) false (word_other m n others.0) refl) in
     and_from (not (has_name (ns ++ n ∷ []) m)) (are_distinct (ns ++ n ∷ [])) (ap not once) (distinct_push ns n parts.1 others.1)
   where
     turned : (b : Bool) → not b ≡ true → b ≡ false
@@ -60,15 +60,15 @@ distinct_push (m ∷ ns) n h k =
 
 pub distinct_taken : (ns more : List (List ℕ)) (n : List ℕ) → has_name ns n ≡ true → are_distinct (ns ++ n ∷ more) ≡ true → ⊥
 distinct_taken [] more n h k = no_true h
-distinct_taken (m ∷ ns) more n h k = from (is_word m n) refl (distinct_taken ns more n)
+distinct_taken (m ∷ ns) more n h k = from (same_bytes m n) refl (distinct_taken ns more n)
   where
     turned : (b : Bool) → b ≡ true → not b ≡ true → ⊥
     turned b e f = no_true (sym (ap not e) ∙ f)
 
-    from : (b : Bool) → is_word m n ≡ b → (has_name ns n ≡ true → are_distinct (ns ++ n ∷ more) ≡ true → ⊥) → ⊥
+    from : (b : Bool) → same_bytes m n ≡ b → (has_name ns n ≡ true → are_distinct (ns ++ n ∷ more) ≡ true → ⊥) → ⊥
     from true e later =
         let here : has_name (ns ++ n ∷ more) m ≡ true =
-        has_append ns (n ∷ more) m ∙ ap (λ z. has_name ns m || (z || has_name more m)) (ap (λ z. is_word z m) (sym (word_is m n e)) ∙ word_same m) ∙ or_right (has_name ns m) in
+        has_append ns (n ∷ more) m ∙ ap (λ z. has_name ns m || (z || has_name more m)) (ap (λ z. same_bytes z m) (sym (word_is m n e)) ∙ word_same m) ∙ or_right (has_name ns m) in
         turned (has_name (ns ++ n ∷ more) m) here (and_parts (not (has_name (ns ++ n ∷ more) m)) (are_distinct (ns ++ n ∷ more)) k).0
     from false e later =
         later (sym (ap (λ z. z || has_name ns n) e) ∙ h) (and_parts (not (has_name (ns ++ n ∷ more) m)) (are_distinct (ns ++ n ∷ more)) k).1
@@ -76,18 +76,18 @@ distinct_taken (m ∷ ns) more n h k = from (is_word m n) refl (distinct_taken n
 -- the test that no name stands twice
 not_among : (ns : List (List ℕ)) (n : List ℕ) → has_name ns n ≡ false → (m : List ℕ) → Among ns m → n ≡ m → ⊥
 not_among [] n none m h e = h
-not_among (l ∷ ns) n none m h e = from (is_word l n) refl none (λ k at. not_among ns n k m at e) h
+not_among (l ∷ ns) n none m h e = from (same_bytes l n) refl none (λ k at. not_among ns n k m at e) h
   where
-    from : (b : Bool) → is_word l n ≡ b → (b || has_name ns n) ≡ false → (has_name ns n ≡ false → Among ns m → ⊥) → (m ≡ l) ⊎ Among ns m → ⊥
+    from : (b : Bool) → same_bytes l n ≡ b → (b || has_name ns n) ≡ false → (has_name ns n ≡ false → Among ns m → ⊥) → (m ≡ l) ⊎ Among ns m → ⊥
     from true here k later at = no_true (sym k)
-    from false here k later (inl at) = no_true (sym here ∙ ap (is_word l) (e ∙ at) ∙ word_same l)
+    from false here k later (inl at) = no_true (sym here ∙ ap (same_bytes l) (e ∙ at) ∙ word_same l)
     from false here k later (inr at) = later k at
 
 no_name : (ns : List (List ℕ)) (n : List ℕ) → ((m : List ℕ) → Among ns m → n ≡ m → ⊥) → has_name ns n ≡ false
 no_name [] n none = refl
-no_name (l ∷ ns) n none = from (is_word l n) refl (no_name ns n (λ m at. none m (inr at)))
+no_name (l ∷ ns) n none = from (same_bytes l n) refl (no_name ns n (λ m at. none m (inr at)))
   where
-    from : (b : Bool) → is_word l n ≡ b → has_name ns n ≡ false → (b || has_name ns n) ≡ false
+    from : (b : Bool) → same_bytes l n ≡ b → has_name ns n ≡ false → (b || has_name ns n) ≡ false
     from true here later = absurd (none l (inl refl) (sym (word_is l n here)))
     from false here later = later
 
@@ -113,7 +113,7 @@ names_kept (c ∷ cs) = ap (λ ns. c.name.items ∷ ns) (names_kept cs)
 -- a condition has a number exactly if its name is there
 pub numbered : (k : ℕ) (ns : List (List ℕ)) (n : List ℕ) → is_some (number_from k ns n) ≡ has_name ns n
 numbered k [] n = refl
-numbered k (m ∷ ns) n = elim (is_word m n) as (λ b. is_some (if b then Some k else number_from (suc k) ns n) ≡ (b || has_name ns n)) [
+numbered k (m ∷ ns) n = elim (same_bytes m n) as (λ b. is_some (if b then Some k else number_from (suc k) ns n) ≡ (b || has_name ns n)) [
   | true ↦ refl
   | false ↦ numbered (suc k) ns n
 ]

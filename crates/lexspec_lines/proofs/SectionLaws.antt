@@ -9,7 +9,7 @@ use Rattle.lexre_bytes.specs.declared.refusals.SpecError.{SpecError}
 use Rattle.lexspec_lines.specs.Sections.{IsFaultyLine, ends_line}
 use Rattle.lex_semantics.specs.ByteSets.{is_blank}
 use Rattle.lexspec_lines.specs.Lines.{line_in, after_block, newlines, is_all_blank}
-use Rattle.lexspec_lines.specs.DefinitionLines.{Definition, ignored, code_line, code_block, definition_in, percent_line, definition_at, IsUpTo}
+use Rattle.lexspec_lines.specs.DefinitionLines.{DefinitionLine, ignored, code_line, code_block, definition_in, percent_line, definition_at, IsUpTo}
 use Rattle.lexspec_lines.specs.Declaring.{declared_of, AreGood, AreAllowed, Declares}
 use Rattle.lexspec_lines.specs.declared.declarations.Declarations.{Declarations}
 use Rattle.lexspec_actions.specs.Comments.{after_star}
@@ -45,23 +45,23 @@ goes_on item_at t (x ∷ xs) (y ∷ ys) rest after (next, here, later) (next', h
     record { more = on.more; whole = ap (λ z. z ∷ ys) (sym same.0) ∙ ap (λ z. x ∷ z) on.whole; later = on.later }
 
 -- where no line can be read, and none begins with `%%`, there is no section
-pub no_line : (t rest : List ℕ) (ds : List Definition) → IsUpTo definition_at t ds rest → definition_at rest ≡ None → begins (codes "%%") rest ≡ false
-    → (es : List Definition) (after : List ℕ) → IsUpTo definition_at t es after → begins (codes "%%") after ≡ true → ⊥
+pub no_line : (t rest : List ℕ) (ds : List DefinitionLine) → IsUpTo definition_at t ds rest → definition_at rest ≡ None → begins (codes "%%") rest ≡ false
+    → (es : List DefinitionLine) (after : List ℕ) → IsUpTo definition_at t es after → begins (codes "%%") after ≡ true → ⊥
 no_line t rest ds h none off es after k on =
     let g = goes_on definition_at t ds es rest after h k (separator_ends after on) in from g.more g.later
   where
-    from : (more : List Definition) → IsUpTo definition_at rest more after → ⊥
+    from : (more : List DefinitionLine) → IsUpTo definition_at rest more after → ⊥
     from [] e = no_true (sym off ∙ ap (begins (codes "%%")) e ∙ on)
     from (d ∷ more) (next, here, later) = no_item (d, next) (definition_at rest) here none
 
 -- a line that cannot be taken
-pub no_taking : (Allowed : List Definition → Type 0) (t rest next : List ℕ) (ds : List Definition) (d : Definition) → IsUpTo definition_at t ds rest → definition_at rest ≡ Some (d, next)
-    → ((more : List Definition) → Allowed (ds ++ d ∷ more) → ⊥)
-    → (es : List Definition) (after : List ℕ) → IsUpTo definition_at t es after → begins (codes "%%") after ≡ true → Allowed es → ⊥
+pub no_taking : (Allowed : List DefinitionLine → Type 0) (t rest next : List ℕ) (ds : List DefinitionLine) (d : DefinitionLine) → IsUpTo definition_at t ds rest → definition_at rest ≡ Some (d, next)
+    → ((more : List DefinitionLine) → Allowed (ds ++ d ∷ more) → ⊥)
+    → (es : List DefinitionLine) (after : List ℕ) → IsUpTo definition_at t es after → begins (codes "%%") after ≡ true → Allowed es → ⊥
 no_taking Allowed t rest next ds d h here refused es after k on allowed =
     let g = goes_on definition_at t ds es rest after h k (separator_ends after on) in from g.more g.later g.whole
   where
-    from : (more : List Definition) → IsUpTo definition_at rest more after → es ≡ ds ++ more → ⊥
+    from : (more : List DefinitionLine) → IsUpTo definition_at rest more after → es ≡ ds ++ more → ⊥
     from [] e whole = no_item (d, next) (definition_at rest) here (ap definition_at e ∙ separator_ends after on)
     from (f ∷ more) (next', here', later) whole =
         let same = some_pair d f next next' (sym here ∙ here') in
@@ -148,11 +148,11 @@ after_star_ends (c ∷ t) =
 -- a line with what belongs to it is the front of the text
 pub definition_ends : (t : List ℕ) → Each (definition_at t) (λ x. EndsWith t x.1)
 unfolding definition_at
-definition_ends [] = each_none (λ (x : Definition × List ℕ). EndsWith [] x.1)
+definition_ends [] = each_none (λ (x : DefinitionLine × List ℕ). EndsWith [] x.1)
 definition_ends (c ∷ t) =
     let u = c ∷ t in
     let s = line_in u in
-    let P : Definition × List ℕ → Type 0 = λ x. EndsWith u x.1 in
+    let P : DefinitionLine × List ℕ → Type 0 = λ x. EndsWith u x.1 in
     let line = after_line u in
     each_if P (is_all_blank s.0) _ _ (each_some P (ignored, s.1) line)
     (each_if P (list_any is_blank (take 1 s.0)) _ _ (each_some P (code_line, s.1) line)
@@ -175,7 +175,7 @@ newlines_front t rest (front, e) =
 
 -- so far these lines were read, and what they declare is kept
 pub record Reading (how : ReadOptions) (text : List ℕ) (d : Declarations) (rest : List ℕ) : Type 0 where
-  pub definitions : List Definition
+  pub definitions : List DefinitionLine
   pub lines : IsUpTo definition_at text definitions rest
   pub declares : Declares how definitions d
   pub allowed : AreAllowed definitions
@@ -186,30 +186,30 @@ begin_reading how text d h = record { definitions = []; lines = refl; declares =
 pub good_kept : (how : ReadOptions) (text rest : List ℕ) (d : Declarations) → Reading how text d rest → AreGood (map declared_of d.conditions.items)
 good_kept how text rest d r = subst AreGood (sym r.declares.conditions) r.allowed.0
 
-pub read_line : (how : ReadOptions) (text rest next : List ℕ) (old new : Declarations) (d : Definition) → Reading how text old rest → definition_at rest ≡ Some (d, next)
-    → ((how : ReadOptions) (ds : List Definition) → Declares how ds old → AreAllowed ds → Declares how (ds ++ d ∷ []) new × AreAllowed (ds ++ d ∷ [])) → Reading how text new next
+pub read_line : (how : ReadOptions) (text rest next : List ℕ) (old new : Declarations) (d : DefinitionLine) → Reading how text old rest → definition_at rest ≡ Some (d, next)
+    → ((how : ReadOptions) (ds : List DefinitionLine) → Declares how ds old → AreAllowed ds → Declares how (ds ++ d ∷ []) new × AreAllowed (ds ++ d ∷ [])) → Reading how text new next
 read_line how text rest next old new d r here takes =
     let taken = takes how r.definitions r.declares r.allowed in
     record { definitions = r.definitions ++ d ∷ []; lines = up_to_push definition_at text r.definitions d rest next r.lines here; declares = taken.0; allowed = taken.1 }
 
-pub line_counts : (rest next : List ℕ) (d : Definition) (line more whole : ℕ) → definition_at rest ≡ Some (d, next) → line + newlines rest ≡ whole → more ≡ newlines (take (length rest - length next) rest)
+pub line_counts : (rest next : List ℕ) (d : DefinitionLine) (line more whole : ℕ) → definition_at rest ≡ Some (d, next) → line + newlines rest ≡ whole → more ≡ newlines (take (length rest - length next) rest)
     → (line + more) + newlines next ≡ whole
 line_counts rest next d line more whole here so e = omega (arith, newlines_front rest next (definition_ends rest (d, next) here))
 
 -- no section of the text is allowed
 abbrev pub NoSection : List ℕ → Type 0
-NoSection text = (ds : List Definition) (after : List ℕ) → IsUpTo definition_at text ds after → begins (codes "%%") after ≡ true → AreAllowed ds → ⊥
+NoSection text = (ds : List DefinitionLine) (after : List ℕ) → IsUpTo definition_at text ds after → begins (codes "%%") after ≡ true → AreAllowed ds → ⊥
 
-pub taking_refused : (kind : SpecErrorKind) (how : ReadOptions) (text rest next : List ℕ) (old : Declarations) (d : Definition) → Reading how text old rest → definition_at rest ≡ Some (d, next)
-    → UnlessMemory kind ((how : ReadOptions) (ds more : List Definition) → Declares how ds old → AreAllowed (ds ++ d ∷ more) → ⊥) → UnlessMemory kind (NoSection text)
+pub taking_refused : (kind : SpecErrorKind) (how : ReadOptions) (text rest next : List ℕ) (old : Declarations) (d : DefinitionLine) → Reading how text old rest → definition_at rest ≡ Some (d, next)
+    → UnlessMemory kind ((how : ReadOptions) (ds more : List DefinitionLine) → Declares how ds old → AreAllowed (ds ++ d ∷ more) → ⊥) → UnlessMemory kind (NoSection text)
 taking_refused kind how text rest next old d r here h =
-    unless_memory kind ((how : ReadOptions) (ds more : List Definition) → Declares how ds old → AreAllowed (ds ++ d ∷ more) → ⊥) (NoSection text)
+    unless_memory kind ((how : ReadOptions) (ds more : List DefinitionLine) → Declares how ds old → AreAllowed (ds ++ d ∷ more) → ⊥) (NoSection text)
     (λ refused. no_taking AreAllowed text rest next r.definitions d r.lines here (λ more. refused how r.definitions more r.declares)) h
 
 -- The first faulty line.
 
 faulty : (how : ReadOptions) (text rest : List ℕ) (d : Declarations) (e : SpecError) → Reading how text d rest → begins (codes "%%") rest ≡ false
-    → ((ds : List Definition) (f : Definition) (next : List ℕ) (more : List Definition) → Declares how ds d → definition_at rest ≡ Some (f, next) → AreAllowed (ds ++ f ∷ more) → ⊥)
+    → ((ds : List DefinitionLine) (f : DefinitionLine) (next : List ℕ) (more : List DefinitionLine) → Declares how ds d → definition_at rest ≡ Some (f, next) → AreAllowed (ds ++ f ∷ more) → ⊥)
     → (0 < length rest → e.line ≡ 1 + newlines text - newlines rest) → (length rest ≡ 0 → e.line ≡ 1 + newlines text + (if ends_line text then 0 else 1)) → IsFaultyLine AreAllowed text e
 faulty how text rest d e r off stuck told ended = record {
   definitions = r.definitions;
@@ -237,10 +237,10 @@ bad_end how text rest d e r none line =
     faulty how text rest d e r (no_separator_at_end rest none) (λ ds f next more declares here allowed. no_item (f, next) (definition_at rest) here (no_definition_at_end rest none))
     (λ h. absurd (omega (arith, h))) (λ h. line)
 
-pub bad_taking : (how : ReadOptions) (text rest next : List ℕ) (d : Declarations) (f : Definition) (e : SpecError) → Reading how text d rest → begins (codes "%%") rest ≡ false → 0 < length rest → definition_at rest ≡ Some (f, next)
-    → e.line + newlines rest ≡ 1 + newlines text → UnlessMemory e.kind ((how : ReadOptions) (ds more : List Definition) → Declares how ds d → AreAllowed (ds ++ f ∷ more) → ⊥) → UnlessMemory e.kind (IsFaultyLine AreAllowed text e)
+pub bad_taking : (how : ReadOptions) (text rest next : List ℕ) (d : Declarations) (f : DefinitionLine) (e : SpecError) → Reading how text d rest → begins (codes "%%") rest ≡ false → 0 < length rest → definition_at rest ≡ Some (f, next)
+    → e.line + newlines rest ≡ 1 + newlines text → UnlessMemory e.kind ((how : ReadOptions) (ds more : List DefinitionLine) → Declares how ds d → AreAllowed (ds ++ f ∷ more) → ⊥) → UnlessMemory e.kind (IsFaultyLine AreAllowed text e)
 bad_taking how text rest next d f e r off some here line h =
-    unless_memory e.kind ((how : ReadOptions) (ds more : List Definition) → Declares how ds d → AreAllowed (ds ++ f ∷ more) → ⊥) (IsFaultyLine AreAllowed text e) (λ refused.
+    unless_memory e.kind ((how : ReadOptions) (ds more : List DefinitionLine) → Declares how ds d → AreAllowed (ds ++ f ∷ more) → ⊥) (IsFaultyLine AreAllowed text e) (λ refused.
     faulty how text rest d e r off (λ ds g next' more declares here' allowed. refused how ds more declares (subst (λ z. AreAllowed (ds ++ z ∷ more)) (some_pair g f next' next (sym here' ∙ here)).0 allowed))
     (λ k. no_line_told e.line text rest line) (λ k. absurd (omega (arith, k)))) h
 

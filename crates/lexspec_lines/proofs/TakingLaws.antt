@@ -8,10 +8,10 @@ use Rattle.std.specs.FinMap.Entries.{find}
 use Rattle.std.specs.Ordering.{nat_cmp, eq_by_cmp}
 use Rattle.std.proofs.lemmas.Bool.{and_parts, and_from}
 use Rattle.std.proofs.lemmas.List.{map-append, append_assoc}
-use Rattle.lex_semantics.specs.ByteSets.{is_word}
+use Rattle.lex_semantics.specs.ByteSets.{same_bytes}
 use Rattle.lexre.specs.Definitions.{Definitions}
 use Rattle.lexre.specs.declared.options.ReadOptions.{ReadOptions}
-use Rattle.lexspec_lines.specs.DefinitionLines.{Definition, code_line, code_block, declares, options, ignored, defines, all_conditions, has_name, substitutes_of, all_options, known_options}
+use Rattle.lexspec_lines.specs.DefinitionLines.{DefinitionLine, code_line, code_block, declares, options, ignored, defines, all_conditions, has_name, substitutes_of, all_options, known_options}
 use Rattle.lexspec_lines.specs.Declaring.{Declared, declared, are_distinct}
 use Rattle.lexspec_lines.specs.DefinitionViews.{are_known}
 use Rattle.lexspec_lines.specs.Declaring.{declared_of, with_kind, AreGood, AreAllowed, Declares}
@@ -22,7 +22,7 @@ use Rattle.lexspec_lines.proofs.DeclaringLaws.{word_same, word_is, word_other, h
 
 -- what is declared by one part and by another
 
-pub declared_append : (ds es : List Definition) → declared (ds ++ es) ≡ declared ds ++ declared es
+pub declared_append : (ds es : List DefinitionLine) → declared (ds ++ es) ≡ declared ds ++ declared es
 declared_append [] es = refl
 declared_append (code_line ∷ ds) es = declared_append ds es
 declared_append (code_block ∷ ds) es = declared_append ds es
@@ -32,10 +32,10 @@ declared_append (options ws ∷ ds) es = declared_append ds es
 declared_append (ignored ∷ ds) es = declared_append ds es
 declared_append (defines name text ∷ ds) es = declared_append ds es
 
-pub conditions_append : (ds es : List Definition) → all_conditions (ds ++ es) ≡ all_conditions ds ++ declared es
+pub conditions_append : (ds es : List DefinitionLine) → all_conditions (ds ++ es) ≡ all_conditions ds ++ declared es
 conditions_append ds es = ap (λ z. (false, codes "INITIAL") ∷ z) (declared_append ds es)
 
-pub substitutes_append : (ds es : List Definition) → substitutes_of (ds ++ es) ≡ substitutes_of ds ++ substitutes_of es
+pub substitutes_append : (ds es : List DefinitionLine) → substitutes_of (ds ++ es) ≡ substitutes_of ds ++ substitutes_of es
 substitutes_append [] es = refl
 substitutes_append (code_line ∷ ds) es = substitutes_append ds es
 substitutes_append (code_block ∷ ds) es = substitutes_append ds es
@@ -44,7 +44,7 @@ substitutes_append (options ws ∷ ds) es = substitutes_append ds es
 substitutes_append (ignored ∷ ds) es = substitutes_append ds es
 substitutes_append (defines name text ∷ ds) es = ap (λ z. (name, text) ∷ z) (substitutes_append ds es)
 
-pub options_append : (ds es : List Definition) → all_options (ds ++ es) ≡ all_options ds ++ all_options es
+pub options_append : (ds es : List DefinitionLine) → all_options (ds ++ es) ≡ all_options ds ++ all_options es
 options_append [] es = refl
 options_append (code_line ∷ ds) es = options_append ds es
 options_append (code_block ∷ ds) es = options_append ds es
@@ -69,7 +69,7 @@ or_assoc true b c = refl
 or_assoc false b c = refl
 
 -- the line adds this to what is kept
-pub record Adds (ds : List Definition) (d : Definition) (old new : Declarations) : Type 0 where
+pub record Adds (ds : List DefinitionLine) (d : DefinitionLine) (old new : Declarations) : Type 0 where
   pub conditions : map declared_of new.conditions.items ≡ map declared_of old.conditions.items ++ declared (d ∷ [])
   pub definitions : new.definitions ≡ from_entries (substitutes_of ds ++ substitutes_of (d ∷ []))
   pub reads : new.options ≡ with_fold old.options (has_name (all_options (d ∷ [])) (codes "case-insensitive"))
@@ -79,7 +79,7 @@ pub record Adds (ds : List Definition) (d : Definition) (old new : Declarations)
 abbrev with_folds : ReadOptions → Bool → ReadOptions
 with_folds how fold = record { fold = fold; posix = how.posix }
 
-adds_declares : (how : ReadOptions) (ds : List Definition) (d : Definition) (old new : Declarations) → Adds ds d old new → Declares how ds old → Declares how (ds ++ d ∷ []) new
+adds_declares : (how : ReadOptions) (ds : List DefinitionLine) (d : DefinitionLine) (old new : Declarations) → Adds ds d old new → Declares how ds old → Declares how (ds ++ d ∷ []) new
 adds_declares how ds d old new a h = record {
   conditions = a.conditions ∙ ap (λ z. z ++ declared (d ∷ [])) h.conditions ∙ sym (conditions_append ds (d ∷ []));
   definitions = a.definitions ∙ ap from_entries (sym (substitutes_append ds (d ∷ [])));
@@ -90,7 +90,7 @@ adds_declares how ds d old new a h = record {
       ∙ sym (has_append (all_options ds) (all_options (d ∷ [])) (codes "stack")) ∙ ap (λ z. has_name z (codes "stack")) (sym (options_append ds (d ∷ [])));
 }
 
-adds_allowed : (ds : List Definition) (d : Definition) → AreGood (all_conditions ds ++ declared (d ∷ [])) → are_distinct (firsts (substitutes_of ds ++ substitutes_of (d ∷ []))) ≡ true
+adds_allowed : (ds : List DefinitionLine) (d : DefinitionLine) → AreGood (all_conditions ds ++ declared (d ∷ [])) → are_distinct (firsts (substitutes_of ds ++ substitutes_of (d ∷ []))) ≡ true
     → are_known (all_options ds) ≡ true → are_known (all_options (d ∷ [])) ≡ true → AreAllowed (ds ++ d ∷ [])
 adds_allowed ds d good once known more = (
   subst AreGood (sym (conditions_append ds (d ∷ []))) good,
@@ -106,7 +106,7 @@ none_asked : (how : ReadOptions) → with_fold how false ≡ how
 none_asked how = ap (with_folds how) (or_none how.fold)
 
 -- a line that declares nothing
-pub adds_nothing : (d : Definition) → (declared (d ∷ []) ≡ []) → (substitutes_of (d ∷ []) ≡ []) → (all_options (d ∷ []) ≡ []) → (how : ReadOptions) (ds : List Definition) (old new : Declarations)
+pub adds_nothing : (d : DefinitionLine) → (declared (d ∷ []) ≡ []) → (substitutes_of (d ∷ []) ≡ []) → (all_options (d ∷ []) ≡ []) → (how : ReadOptions) (ds : List DefinitionLine) (old new : Declarations)
     → new.conditions.items ≡ old.conditions.items → new.definitions ≡ old.definitions → new.options ≡ old.options → new.stack ≡ old.stack → Declares how ds old → AreAllowed ds → Declares how (ds ++ d ∷ []) new × AreAllowed (ds ++ d ∷ [])
 adds_nothing d none no_name no_option how ds old new conditions definitions reads stacks h allowed = (
   adds_declares how ds d old new (record {
@@ -120,7 +120,7 @@ adds_nothing d none no_name no_option how ds old new conditions definitions read
 )
 
 -- a line that declares conditions
-pub adds_conditions : (exclusive : Bool) (names : List (List ℕ)) (how : ReadOptions) (ds : List Definition) (old new : Declarations)
+pub adds_conditions : (exclusive : Bool) (names : List (List ℕ)) (how : ReadOptions) (ds : List DefinitionLine) (old new : Declarations)
     → map declared_of new.conditions.items ≡ map declared_of old.conditions.items ++ with_kind exclusive names → new.definitions ≡ old.definitions → new.options ≡ old.options → new.stack ≡ old.stack → AreGood (map declared_of new.conditions.items)
     → Declares how ds old → AreAllowed ds → Declares how (ds ++ declares exclusive names ∷ []) new × AreAllowed (ds ++ declares exclusive names ∷ [])
 adds_conditions exclusive names how ds old new conditions definitions reads stacks good h allowed =
@@ -137,7 +137,7 @@ adds_conditions exclusive names how ds old new conditions definitions reads stac
     )
 
 pub refused_conditions : (exclusive : Bool) (names : List (List ℕ)) (old : Declarations) → ((more : List Declared) → AreGood (map declared_of old.conditions.items ++ with_kind exclusive names ++ more) → ⊥)
-    → (how : ReadOptions) (ds more : List Definition) → Declares how ds old → AreAllowed (ds ++ declares exclusive names ∷ more) → ⊥
+    → (how : ReadOptions) (ds more : List DefinitionLine) → Declares how ds old → AreAllowed (ds ++ declares exclusive names ∷ more) → ⊥
 refused_conditions exclusive names old none how ds more h allowed =
     let same : all_conditions (ds ++ declares exclusive names ∷ more) ≡ map declared_of old.conditions.items ++ with_kind exclusive names ++ declared more =
     conditions_append ds (declares exclusive names ∷ more) ∙ ap (λ z. z ++ (with_kind exclusive names ++ declared more)) (sym h.conditions)
@@ -145,7 +145,7 @@ refused_conditions exclusive names old none how ds more h allowed =
     none (declared more) (subst AreGood same allowed.0)
 
 -- a line of options
-pub adds_options : (ws : List (List ℕ)) (how : ReadOptions) (ds : List Definition) (old new : Declarations) → new.conditions.items ≡ old.conditions.items → new.definitions ≡ old.definitions
+pub adds_options : (ws : List (List ℕ)) (how : ReadOptions) (ds : List DefinitionLine) (old new : Declarations) → new.conditions.items ≡ old.conditions.items → new.definitions ≡ old.definitions
     → new.options ≡ with_fold old.options (has_name ws (codes "case-insensitive")) → new.stack ≡ (old.stack || has_name ws (codes "stack")) → are_known ws ≡ true → Declares how ds old → AreAllowed ds
     → Declares how (ds ++ options ws ∷ []) new × AreAllowed (ds ++ options ws ∷ [])
 adds_options ws how ds old new conditions definitions reads stacks known h allowed =
@@ -160,7 +160,7 @@ adds_options ws how ds old new conditions definitions reads stacks known h allow
           (ap are_known (sym all) ∙ known),
     )
 
-pub refused_options : (ws : List (List ℕ)) → are_known ws ≡ false → (ds more : List Definition) → AreAllowed (ds ++ options ws ∷ more) → ⊥
+pub refused_options : (ws : List (List ℕ)) → are_known ws ≡ false → (ds more : List DefinitionLine) → AreAllowed (ds ++ options ws ∷ more) → ⊥
 refused_options ws unknown ds more allowed =
     let all = sym (ap are_known (options_append ds (options ws ∷ more)) ∙ known_append (all_options ds) (ws ++ all_options more)) ∙ allowed.2 in
     let here = sym (known_append ws (all_options more)) ∙ (and_parts (are_known (all_options ds)) (are_known (ws ++ all_options more)) all).1 in
@@ -171,18 +171,18 @@ refused_options ws unknown ds more allowed =
 nat_ties : (x y : ℕ) → nat_eq x y ≡ eq_by_cmp nat_cmp x y
 nat_ties x y = search rules
 
-word_turned : (v w : List ℕ) → is_word v w ≡ is_word w v
-word_turned v w = from (is_word w v) refl
+word_turned : (v w : List ℕ) → same_bytes v w ≡ same_bytes w v
+word_turned v w = from (same_bytes w v) refl
   where
-    from : (b : Bool) → is_word w v ≡ b → is_word v w ≡ is_word w v
-    from true e = (ap (is_word v) (word_is w v e) ∙ word_same v) ∙ sym e
+    from : (b : Bool) → same_bytes w v ≡ b → same_bytes v w ≡ same_bytes w v
+    from true e = (ap (same_bytes v) (word_is w v e) ∙ word_same v) ∙ sym e
     from false e = word_other w v e ∙ sym e
 
 found_by_name : (es : List (List ℕ × List ℕ)) (name : List ℕ) → is_some (find (slice_cmp nat_cmp) name es) ≡ has_name (firsts es) name
 found_by_name [] name = refl
 found_by_name (e ∷ es) name =
-    let same : eq_by_cmp (slice_cmp nat_cmp) name e.0 ≡ is_word e.0 name = sym (lists_ties nat_cmp nat_ties name e.0) ∙ word_turned name e.0 in
-    ap (λ b. is_some (cond b (Some e.1) (find (slice_cmp nat_cmp) name es))) same ∙ rest (is_word e.0 name) (found_by_name es name)
+    let same : eq_by_cmp (slice_cmp nat_cmp) name e.0 ≡ same_bytes e.0 name = sym (lists_ties nat_cmp nat_ties name e.0) ∙ word_turned name e.0 in
+    ap (λ b. is_some (cond b (Some e.1) (find (slice_cmp nat_cmp) name es))) same ∙ rest (same_bytes e.0 name) (found_by_name es name)
   where
     rest : (b : Bool) → is_some (find (slice_cmp nat_cmp) name es) ≡ has_name (firsts es) name → is_some (cond b (Some e.1) (find (slice_cmp nat_cmp) name es)) ≡ (b || has_name (firsts es) name)
     rest true later = refl
@@ -191,7 +191,7 @@ found_by_name (e ∷ es) name =
 name_there : (es : List (List ℕ × List ℕ)) (m : Definitions) (name : List ℕ) → m ≡ from_entries es → is_some (map.get m name) ≡ has_name (firsts es) name
 name_there es m name e = ap (λ z. is_some (map.get z name)) e ∙ ap is_some (map.get-from_entries nat_list_cmp_total es name) ∙ found_by_name es name
 
-pub refused_name : (name text : List ℕ) (old : Declarations) → IsSome (map.get old.definitions name) → (how : ReadOptions) (ds more : List Definition) → Declares how ds old
+pub refused_name : (name text : List ℕ) (old : Declarations) → IsSome (map.get old.definitions name) → (how : ReadOptions) (ds more : List DefinitionLine) → Declares how ds old
     → AreAllowed (ds ++ defines name text ∷ more) → ⊥
 refused_name name text old there how ds more h allowed =
     let taken : has_name (firsts (substitutes_of ds)) name ≡ true = sym (name_there (substitutes_of ds) old.definitions name h.definitions) ∙ there in
@@ -203,7 +203,7 @@ none_if : {A : Type 0} (o : Option A) → is_some o ≡ false → o ≡ None
 none_if None e = refl
 none_if (Some x) e = no_true (sym e)
 
-pub adds_name : (name text : List ℕ) (how : ReadOptions) (ds : List Definition) (old new : Declarations) → new.conditions.items ≡ old.conditions.items → new.options ≡ old.options → new.stack ≡ old.stack
+pub adds_name : (name text : List ℕ) (how : ReadOptions) (ds : List DefinitionLine) (old new : Declarations) → new.conditions.items ≡ old.conditions.items → new.options ≡ old.options → new.stack ≡ old.stack
     → new.definitions ≡ map.insert old.definitions name text → (IsSome (map.get old.definitions name) → ⊥) → Declares how ds old → AreAllowed ds
     → Declares how (ds ++ defines name text ∷ []) new × AreAllowed (ds ++ defines name text ∷ [])
 adds_name name text how ds old new conditions reads stacks definitions free h allowed =

@@ -6,7 +6,7 @@ use Rattle.lexspec_lines.specs.DefinitionLines as D
 use Rattle.lexspec_lines.specs.declared.definition.Definition.{Definition}
 use Rattle.lexspec_lines.specs.declared.definition.Definition.TheVariants.{Nothing, CodeLine, CodeBlock, Declares, Options, Ignored, Defines}
 
-abbrev pub definition_of : Definition → D.Definition
+abbrev pub definition_of : Definition → D.DefinitionLine
 definition_of Nothing = D.ignored
 definition_of CodeLine = D.code_line
 definition_of CodeBlock = D.code_block

@@ -1,7 +1,7 @@
 -- Worked examples of lines, each with what it spells.
 use Rattle.std.specs.Prelude.{◌≡◌, ℕ, true, false, List, [], ◌∷◌, Option, Some, None, codes}
 use Rattle.lexspec_lines.specs.Lines.{without_returns}
-use Rattle.lexspec_lines.specs.DefinitionLines.{Definition, code_line, code_block, ignored, declares, defines, definition_at, trimmed, is_anchored}
+use Rattle.lexspec_lines.specs.DefinitionLines.{DefinitionLine, code_line, code_block, ignored, declares, defines, definition_at, trimmed, is_anchored}
 
 -- a carriage return is dropped before a newline, and nowhere else
 abbrev pub ReturnsDropped : Type 0
@@ -18,12 +18,12 @@ DollarAnchors = (is_anchored (codes "a$") ≡ true) × (is_anchored (codes "^a")
 -- `%x A  B` and `%S A`
 abbrev pub Declares : Type 0
 Declares =
-    ◌≡◌ {A = Option (Definition × List ℕ)} (definition_at (codes "%x A  B")) (Some (declares true (codes "A" ∷ codes "B" ∷ []), []))
-    × ◌≡◌ {A = Option (Definition × List ℕ)} (definition_at (codes "%S A")) (Some (declares false (codes "A" ∷ []), []))
+    ◌≡◌ {A = Option (DefinitionLine × List ℕ)} (definition_at (codes "%x A  B")) (Some (declares true (codes "A" ∷ codes "B" ∷ []), []))
+    × ◌≡◌ {A = Option (DefinitionLine × List ℕ)} (definition_at (codes "%S A")) (Some (declares false (codes "A" ∷ []), []))
 
 -- `D [0-9] `
 abbrev pub Defines : Type 0
-Defines = ◌≡◌ {A = Option (Definition × List ℕ)} (definition_at (codes "D [0-9] ")) (Some (defines (codes "D") (codes "[0-9]"), []))
+Defines = ◌≡◌ {A = Option (DefinitionLine × List ℕ)} (definition_at (codes "D [0-9] ")) (Some (defines (codes "D") (codes "[0-9]"), []))
 
 -- A name without a substitute, or with one that is anchored, a `%s` without a name, and a line that begins with `%%` are no
 -- definitions.
@@ -32,12 +32,12 @@ NoDefinitions = (definition_at (codes "foo") ≡ None) × (definition_at (codes 
 
 -- `%{` and `%}` on lines of their own
 abbrev pub Block : Type 0
-Block = ◌≡◌ {A = Option (Definition × List ℕ)} (definition_at (37 ∷ 123 ∷ 10 ∷ 37 ∷ 125 ∷ [])) (Some (code_block, []))
+Block = ◌≡◌ {A = Option (DefinitionLine × List ℕ)} (definition_at (37 ∷ 123 ∷ 10 ∷ 37 ∷ 125 ∷ [])) (Some (code_block, []))
 
 -- A comment goes on to the end of the line that closes it. A line of blanks has no effect, and one that begins with a blank is
 -- code.
 abbrev pub Ignored : Type 0
 Ignored =
-    ◌≡◌ {A = Option (Definition × List ℕ)} (definition_at (codes "/* a\nb */ c\nd")) (Some (ignored, codes "d"))
-    × ◌≡◌ {A = Option (Definition × List ℕ)} (definition_at (codes " \na")) (Some (ignored, codes "a"))
-    × ◌≡◌ {A = Option (Definition × List ℕ)} (definition_at (codes " a\nb")) (Some (code_line, codes "b"))
+    ◌≡◌ {A = Option (DefinitionLine × List ℕ)} (definition_at (codes "/* a\nb */ c\nd")) (Some (ignored, codes "d"))
+    × ◌≡◌ {A = Option (DefinitionLine × List ℕ)} (definition_at (codes " \na")) (Some (ignored, codes "a"))
+    × ◌≡◌ {A = Option (DefinitionLine × List ℕ)} (definition_at (codes " a\nb")) (Some (code_line, codes "b"))

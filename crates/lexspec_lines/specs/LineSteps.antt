@@ -3,10 +3,10 @@ use Rattle.std.specs.Prelude.{ℕ, not, ◌&&◌, ◌||◌, if◌then◌else◌,
 use Rattle.std.specs.List.{list_any}
 use Rattle.lex_semantics.specs.Reading.{take_run, after_blanks, is_empty, starts_name, goes_on_name}
 use Rattle.lex_semantics.specs.ByteSets.{is_blank}
-use Rattle.lexspec_lines.specs.DefinitionLines.{Definition, defines, trimmed, is_anchored}
+use Rattle.lexspec_lines.specs.DefinitionLines.{DefinitionLine, defines, trimmed, is_anchored}
 
 -- the name, blanks, and a substitute, which is not anchored
-unfoldable pub definition_from : List ℕ → Option Definition
+unfoldable pub definition_from : List ℕ → Option DefinitionLine
 definition_from line =
     let (name, rest) = take_run goes_on_name line in
     let text = trimmed (after_blanks rest) in

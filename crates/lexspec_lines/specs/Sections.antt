@@ -10,7 +10,7 @@ use Rattle.lexre_bytes.specs.declared.refusals.SpecError.{SpecError}
 use Rattle.lexre_bytes.specs.declared.refusals.SpecErrorKind.{SpecErrorKind}
 use Rattle.lexre_bytes.specs.declared.refusals.SpecErrorKind.TheVariants as K
 use Rattle.lex_semantics.specs.Reading.{begins}
-use Rattle.lexspec_lines.specs.DefinitionLines.{Definition, definition_at, IsUpTo}
+use Rattle.lexspec_lines.specs.DefinitionLines.{DefinitionLine, definition_at, IsUpTo}
 use Rattle.lexspec_lines.specs.Lines.{newlines}
 use Rattle.lexspec_lines.specs.Declaring.{AreAllowed, Declares}
 use Rattle.lexspec_lines.specs.SkippedCode.{code_of_definition}
@@ -19,7 +19,7 @@ use Rattle.lexspec_lines.specs.declared.section.Section.{Section}
 
 -- the lines before the one that begins with `%%`, what they declare, the code among them, and the number of that line
 pub record HasSection (how : ReadOptions) (text : List ℕ) (s : Section) : Type 0 where
-  pub definitions : List Definition
+  pub definitions : List DefinitionLine
   pub lines : IsUpTo definition_at text definitions s.rest.now
   pub separator : begins (codes "%%") s.rest.now ≡ true
   pub declares : Declares how definitions s.declarations
@@ -39,12 +39,12 @@ ends_line text = length text == 0 || ends_with nat_eq text (codes "\n")
 
 -- The first faulty line: the lines before it declare what they may, and it is no separator. No line stands there, or one that with
 -- these declares what it may not, whatever follows. Where the text ends it is the line after the last.
-pub record IsFaultyLine (Allowed : List Definition → Type 0) (text : List ℕ) (e : SpecError) : Type 0 where
-  pub definitions : List Definition
+pub record IsFaultyLine (Allowed : List DefinitionLine → Type 0) (text : List ℕ) (e : SpecError) : Type 0 where
+  pub definitions : List DefinitionLine
   pub rest : List ℕ
   pub lines : IsUpTo definition_at text definitions rest
   pub allowed : Allowed definitions
   pub off : begins (codes "%%") rest ≡ false
-  pub stuck : (d : Definition) (next : List ℕ) (more : List Definition) → definition_at rest ≡ Some (d, next) → Allowed (definitions ++ d ∷ more) → ⊥
+  pub stuck : (d : DefinitionLine) (next : List ℕ) (more : List DefinitionLine) → definition_at rest ≡ Some (d, next) → Allowed (definitions ++ d ∷ more) → ⊥
   pub told : 0 < length rest → e.line ≡ 1 + newlines text - newlines rest
   pub ended : length rest ≡ 0 → e.line ≡ 1 + newlines text + (if ends_line text then 0 else 1)

@@ -1,6 +1,6 @@
 -- Lines where code was skipped, as the code keeps them.
 use Rattle.std.specs.Prelude.{◌≡◌, ℕ, ◌+◌, List, [], ◌∷◌, ◌++◌, Some, flat_map}
-use Rattle.lexspec_lines.specs.DefinitionLines.{Definition, definition_at}
+use Rattle.lexspec_lines.specs.DefinitionLines.{DefinitionLine, definition_at}
 use Rattle.lexspec_lines.specs.Lines.{newlines}
 use Rattle.lexspec_lines.specs.SkippedCode.{Code, told_lines}
 use Rattle.lexspec_lines.specs.declared.skipped.Skipped.{Skipped}
@@ -18,7 +18,7 @@ pub record AddsCode (s : Skipped) (cs : List Code) (s' : Skipped) : Type 0 where
   pub behind : (before : List Code) → TellsCode before s → TellsCode (before ++ cs) s'
 
 -- a line of the definitions section
-abbrev pub IsDefinition : List ℕ → Definition → List ℕ → Type 0
+abbrev pub IsDefinition : List ℕ → DefinitionLine → List ℕ → Type 0
 IsDefinition t d rest = definition_at t ≡ Some (d, rest)
 
 module _ {A : Type 0} where

@@ -2,7 +2,7 @@
 ghost use Rattle.std.specs.Prelude.{◌≡◌, ◌≤◌, ◌<◌, ◌+◌, ◌^◌, ◌||◌, Bool, List, [], ◌∷◌, ◌++◌};
 ghost use Rattle.std.specs.Prelude.{map, length, codes, is_some, IfOk, IfErr, IfSome, OnOk};
 ghost use Rattle.lexspec_lines.specs.Lines.{words};
-ghost use Rattle.lexspec_lines.specs.DefinitionLines.{Definition as Meant, has_name};
+ghost use Rattle.lexspec_lines.specs.DefinitionLines.{DefinitionLine as Meant, has_name};
 ghost use Rattle.lexspec_lines.specs.DefinitionLines.{known_options};
 ghost use Rattle.lexspec_lines.specs.Declaring.{Declared};
 ghost use Rattle.lexspec_lines.specs.DefinitionViews.{are_known};

@@ -3,12 +3,12 @@ ghost use Rattle.std.specs.Prelude.{◌≡◌, ◌<◌, ◌&&◌, ◌==◌, if�
 ghost use Rattle.std.specs.Prelude.{nat_eq, not, Option, Some, None, length, option_map, IfOk, OnErr, codes};
 ghost use Rattle.std.specs.List.{list_any, list_all, ends_with};
 ghost use Rattle.lexspec_lines.specs.Lines.{words};
-ghost use Rattle.lexspec_lines.specs.DefinitionLines.{Definition as Meant, options, ignored, is_name};
+ghost use Rattle.lexspec_lines.specs.DefinitionLines.{DefinitionLine as Meant, options, ignored, is_name};
 ghost use Rattle.lexspec_lines.specs.DefinitionLines.{trimmed, declaration};
 ghost use Rattle.lexspec_lines.specs.DefinitionLines.{definition_in, percent_line, definition_at};
 ghost use Rattle.lexspec_lines.specs.DefinitionViews.{definition_of, are_names};
 ghost use Rattle.lex_semantics.specs.Reading.{begins};
-ghost use Rattle.lex_semantics.specs.ByteSets.{is_digit, is_word};
+ghost use Rattle.lex_semantics.specs.ByteSets.{is_digit, same_bytes};
 
 use crate::lines::{
     is_all_blank, is_blank, next_word, skip_blanks, split_before, split_line, split_word,
@@ -175,7 +175,7 @@ fn number(text: &[u8]) -> Option<Definition<'_>>
 
 /// Whether the word declares inclusive conditions.
 fn declares_inclusive(word: &[u8]) -> bool
-    ensures { result ≡ list_any (is_word word.now) (words (codes "%s %S %start %Start")) }
+    ensures { result ≡ list_any (same_bytes word.now) (words (codes "%s %S %start %Start")) }
 {
     word == b"%s".as_slice()
         || word == b"%S".as_slice()
@@ -185,21 +185,21 @@ fn declares_inclusive(word: &[u8]) -> bool
 
 /// Whether the word declares exclusive conditions.
 fn declares_exclusive(word: &[u8]) -> bool
-    ensures { result ≡ list_any (is_word word.now) (words (codes "%x %X")) }
+    ensures { result ≡ list_any (same_bytes word.now) (words (codes "%x %X")) }
 {
     word == b"%x".as_slice() || word == b"%X".as_slice()
 }
 
 /// Whether the word says how yytext is kept.
 fn is_storage(word: &[u8]) -> bool
-    ensures { result ≡ list_any (is_word word.now) (words (codes "%array %pointer")) }
+    ensures { result ≡ list_any (same_bytes word.now) (words (codes "%array %pointer")) }
 {
     word == b"%array".as_slice() || word == b"%pointer".as_slice()
 }
 
 /// Whether the word gives the size of a table.
 fn is_size(word: &[u8]) -> bool
-    ensures { result ≡ list_any (is_word word.now) (words (codes "%p %n %a %e %k %o")) }
+    ensures { result ≡ list_any (same_bytes word.now) (words (codes "%p %n %a %e %k %o")) }
 {
     word == b"%p".as_slice()
         || word == b"%n".as_slice()

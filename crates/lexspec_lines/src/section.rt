@@ -1,7 +1,7 @@
 //! The definitions section. (POSIX, lex, Definitions in lex; flex, Format of the Input File.)
 ghost use Rattle.std.specs.Prelude.{◌≡◌, ℕ, ◌≤◌, ◌+◌, true, List, length, codes, IfOk, IfErr};
 ghost use Rattle.lex_semantics.specs.Reading.{begins};
-ghost use Rattle.lexspec_lines.specs.DefinitionLines.{Definition as Meant, definition_at, IsUpTo};
+ghost use Rattle.lexspec_lines.specs.DefinitionLines.{DefinitionLine as Meant, definition_at, IsUpTo};
 ghost use Rattle.lexspec_lines.specs.Declaring.{AreAllowed};
 ghost use Rattle.lexspec_lines.specs.Sections.{HasSection, IsFaultyLine, reported_kind};
 ghost use Rattle.lexspec_lines.specs.Outcome.{UnlessMemory};

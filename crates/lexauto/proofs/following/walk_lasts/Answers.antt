@@ -1,6 +1,6 @@
 use Rattle.std.proofs.Common.{◌≡◌, ◌<◌, ℕ, Bool, List, length, map, refl, sym, subst, ap, ◌∙◌, arith}
 use Rattle.std.specs.Prelude.{slice_index}
-use Rattle.lex_semantics.specs.Active.{lists}
+use Rattle.lex_semantics.specs.Active.{contains}
 use Rattle.lex_semantics.specs.Subsets.{all_positions}
 use Rattle.lexspec.specs.Views.{spec_of, rules_in}
 use Rattle.lexauto_positions.specs.Laid.{shape_of}
@@ -20,8 +20,8 @@ in_order-requires-clause-order c = λ h. subst Increases (sym c.lasts_in.ensures
 pub pass_rules-requires-clause-within : goal.pass_rules-requires-clause-within
 pass_rules-requires-clause-within c = λ j low.
     let moves = c.args.moves.now in
-    let same : (p : ℕ) → lists c.deref-3.result.now p ≡ marked moves.count (lasts_in c.args.key.now) p =
-    λ p. ap (λ (l : List ℕ). lists l p) c.deref-3.ensures.value ∙ c.in_ok-last.ensures.same p ∙ ap (λ (ks : List ℕ). marked moves.count ks p) c.lasts_in.ensures in
+    let same : (p : ℕ) → contains c.deref-3.result.now p ≡ marked moves.count (lasts_in c.args.key.now) p =
+    λ p. ap (λ (l : List ℕ). contains l p) c.deref-3.ensures.value ∙ c.in_ok-last.ensures.same p ∙ ap (λ (ks : List ℕ). marked moves.count ks p) c.lasts_in.ensures in
     let below : slice_index c.deref-3.result.now j < moves.count = below_marked moves.count c.deref-3.result.now (lasts_in c.args.key.now) same j low in
     let size : length c.deref-2.result.now ≡ moves.count = ap (λ (os : List Owner). length os) c.deref-2.ensures.value ∙ moves.owned in
     omega (arith, below, size)
@@ -31,10 +31,10 @@ returns c =
     let moves = c.args.moves.now in
     let all = rules_in (spec_of moves.spec.now) in
     let own = map shape_of c.deref.result.now in
-    let last = lists c.deref-3.result.now in
+    let last = contains c.deref-3.result.now in
     let key = c.args.key.now in
     let same : (p : ℕ) → last p ≡ marked moves.count (lasts_in key) p =
-    λ p. ap (λ (l : List ℕ). lists l p) c.deref-3.ensures.value ∙ c.in_ok-last.ensures.same p ∙ ap (λ (ks : List ℕ). marked moves.count ks p) c.lasts_in.ensures in
+    λ p. ap (λ (l : List ℕ). contains l p) c.deref-3.ensures.value ∙ c.in_ok-last.ensures.same p ∙ ap (λ (ks : List ℕ). marked moves.count ks p) c.lasts_in.ensures in
     let size : all_positions own ≡ moves.count = ap (λ (rs : List LaidRule). all_positions (map shape_of rs)) c.deref.ensures.value ∙ moves.size in
     let next : (q : ℕ) → rules_enter own nowhere last q 0 0 ≡ rules_enter all nowhere last q 0 0 =
     λ q. ap (λ (rs : List LaidRule). rules_enter (map shape_of rs) nowhere last q 0 0) c.deref.ensures.value ∙ moves.next nowhere last q in

@@ -1,5 +1,5 @@
 use Rattle.std.proofs.Common.{rules, ◌≡◌, ℕ, ◌<◌, Bool, List, length, true, arith, sym, ap, subst, ◌∙◌}
-use Rattle.lex_semantics.specs.Active.{lists}
+use Rattle.lex_semantics.specs.Active.{contains}
 use Rattle.lex_semantics.specs.Text.{flag, listed}
 use Rattle.lexauto_positions.specs.Cursors.{Increases}
 use Rattle.lexauto.specs.Sets.{marked}
@@ -24,4 +24,4 @@ returns-clause-same c = λ i.
     let same : (j : ℕ) → flag marks j ≡ marked c.args.count c.args.numbers.now j = λ j. ap (λ (m : List Bool). flag m j) c.deref.ensures.value ∙ c.in_ok-marks.ensures.marks j in
     let size : length marks ≡ c.args.count = ap length c.deref.ensures.value ∙ c.in_ok-marks.ensures.length in
     let low : (j : ℕ) → flag marks j ≡ true → j < length marks = λ j t. let r = ((marked_is c.args.count c.args.numbers.now j).0 (sym (same j) ∙ t)).0 in omega (arith, r, size) in
-    ap (λ (l : List ℕ). lists l i) c.in_ok-numbers.ensures ∙ listed_flags (length marks) (flag marks) low i ∙ same i
+    ap (λ (l : List ℕ). contains l i) c.in_ok-numbers.ensures ∙ listed_flags (length marks) (flag marks) low i ∙ same i

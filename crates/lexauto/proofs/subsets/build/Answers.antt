@@ -1,6 +1,6 @@
 use Rattle.std.proofs.Common.{◌<◌, ◌≡◌, ℕ, length, arith, refl, sym, ap, subst, ◌∙◌, Err}
 use Rattle.std.proofs.lemmas.Result.{err_from_is_err_and}
-use Rattle.lex_semantics.specs.Subsets.{Subsets}
+use Rattle.lex_semantics.specs.Subsets.{HasSubsets}
 use Rattle.lex_semantics.specs.TableFor.{TableFor}
 use Rattle.lex_semantics.specs.MachineLaws.{MachineLaws}
 use Rattle.lexauto_dfa.specs.declared.dfa.Parts.{Parts}
@@ -33,7 +33,7 @@ returns-in_err-found-clause-too_many_states c = λ e n s.
     let told = rw (p.1, p.2) at e in
     let error : build_error c.in_err-found.field-0.0 ≡ TooManyStates = cc in
     let same : c.in_err-found.field-0.0 ≡ TooMany = from_too_many c.in_err-found.field-0.0 error in
-    c.in_err-found.ensures.too_many (ap Err same) n (subst (λ s. Subsets (spec_of s) n) (sym c.in_ok-moves.ensures.0) s)
+    c.in_err-found.ensures.too_many (ap Err same) n (subst (λ s. HasSubsets (spec_of s) n) (sym c.in_ok-moves.ensures.0) s)
 
 pub new-automaton-requires : goal.new-automaton-requires
 new-automaton-requires c =
@@ -118,5 +118,5 @@ returns-clause-states c =
     subst (λ (p : Spec). Surveys (spec_of p) keys found.next.items found.starts.items found.line_starts.items) same c.in_ok-found.ensures.ok in
     let goes : length found.goes_on.items ≡ length found.keys.items = c.in_ok-found.ensures.len in
     let states_are = ap (λ (p : Parts). states p) c.new-automaton.ensures in
-    subst (λ (n : ℕ). Subsets S n) (kept_length found.keys.items ∙ sym goes ∙ sym states_are)
+    subst (λ (n : ℕ). HasSubsets S n) (kept_length found.keys.items ∙ sym goes ∙ sym states_are)
     (counted S (spec_is_sound S c.args.spec.now.sound) keys found.next.items found.starts.items found.line_starts.items s)

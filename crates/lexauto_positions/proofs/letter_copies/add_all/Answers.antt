@@ -1,6 +1,6 @@
 use Rattle.std.proofs.lemmas.Grind.{common_steps}
 use Rattle.std.proofs.Common.{◌≡◌, ℕ, Bool, ◌+◌, ◌-◌, ◌<◌, ◌||◌, ◌==◌, true, sym, ap, ◌∙◌, arith}
-use Rattle.lex_semantics.specs.Active.{lists}
+use Rattle.lex_semantics.specs.Active.{contains}
 use Rattle.lexauto_positions.specs.Flow.{comes}
 use Rattle.lexauto_positions.specs.LetterCopies.{letter_exits, letter_enters}
 use Rattle.lexauto_positions.proofs.Copies.{comes_step, or_assoc}
@@ -17,12 +17,12 @@ loop-k-preserved c =
       front = rw (next, sym from) c.in_ok-add_letter.ensures.front;
       told = λ S loops q.
           let rest = comes (letter_enters q) (letter_exits true S) loops (at + 1) 1 true (c.args.count - (k + 1)) in
-          let added : lists c.add_letter.new.next.items q ≡ (lists c.loop-k.all.items q || (q == at)) =
-          c.in_ok-add_letter.ensures.next q ∙ ap (λ (n : ℕ). lists c.loop-k.all.items q || (q == (c.args.base + n))) from in
+          let added : contains c.add_letter.new.next.items q ≡ (contains c.loop-k.all.items q || (q == at)) =
+          c.in_ok-add_letter.ensures.next q ∙ ap (λ (n : ℕ). contains c.loop-k.all.items q || (q == (c.args.base + n))) from in
           rw next
           (ap (λ (j : Bool). j || rest) added
-          ∙ or_assoc (lists c.loop-k.all.items q) (q == at) rest
-          ∙ ap (λ (j : Bool). lists c.loop-k.all.items q || j) (sym (comes_step (letter_enters q) (letter_exits true S) loops at 1 true c.args.count k lt))
+          ∙ or_assoc (contains c.loop-k.all.items q) (q == at) rest
+          ∙ ap (λ (j : Bool). contains c.loop-k.all.items q || j) (sym (comes_step (letter_enters q) (letter_exits true S) loops at 1 true c.args.count k lt))
           ∙ c.loop-k.invariant.told S loops q);
     }
 

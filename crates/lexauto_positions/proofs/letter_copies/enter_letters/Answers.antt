@@ -1,6 +1,6 @@
 use Rattle.std.proofs.lemmas.Grind.{common_steps}
 use Rattle.std.proofs.Common.{◌≡◌, ℕ, Bool, ◌+◌, ◌-◌, ◌<◌, ◌||◌, ◌&&◌, ◌==◌, false, sym, ap, ◌∙◌, arith}
-use Rattle.lex_semantics.specs.Active.{lists}
+use Rattle.lex_semantics.specs.Active.{contains}
 use Rattle.lexauto_positions.specs.Flow.{is_zero, comes}
 use Rattle.lexauto_positions.specs.LetterCopies.{letter_exits, letter_enters}
 use Rattle.lexauto_positions.proofs.Copies.{passes_step, comes_step, and_false, or_assoc, and_assoc}
@@ -8,7 +8,7 @@ use Rattle.lexauto_positions.proofs.letter_copies.enter_letters.Goals as goal
 
 pub loop-k-preserved : goal.loop-k-preserved
 loop-k-preserved c =
-    let S = lists c.args.last.now in
+    let S = contains c.args.last.now in
     let skips = c.args.skips in
     let count = c.args.copies.count in
     let loops = c.args.copies.loops in
@@ -34,13 +34,13 @@ loop-k-preserved c =
       told = λ q.
           let rest = comes (letter_enters q) (letter_exits skips S) loops (at + 1) 1 (letter_exits skips S at c.loop-k.left) (count - (k + 1)) in
           let here = letter_enters q at (c.loop-k.left || (loops && (is_zero (count - (k + 1)) && letter_exits skips S at false))) in
-          let added : lists c.add_letter.new.next.items q ≡ (lists c.loop-k.next.items q || here) =
-          c.in_ok-add_letter.ensures.next q ∙ ap (λ (n : ℕ). lists c.loop-k.next.items q || (c.is_entered.result && (q == (c.args.base + n)))) from
-          ∙ ap (λ (j : Bool). lists c.loop-k.next.items q || letter_enters q at j) whole in
+          let added : contains c.add_letter.new.next.items q ≡ (contains c.loop-k.next.items q || here) =
+          c.in_ok-add_letter.ensures.next q ∙ ap (λ (n : ℕ). contains c.loop-k.next.items q || (c.is_entered.result && (q == (c.args.base + n)))) from
+          ∙ ap (λ (j : Bool). contains c.loop-k.next.items q || letter_enters q at j) whole in
           rw (next, left)
           (ap (λ (j : Bool). j || rest) added
-          ∙ or_assoc (lists c.loop-k.next.items q) here rest
-          ∙ ap (λ (j : Bool). lists c.loop-k.next.items q || j) (sym (comes_step (letter_enters q) (letter_exits skips S) loops at 1 c.loop-k.left count k lt))
+          ∙ or_assoc (contains c.loop-k.next.items q) here rest
+          ∙ ap (λ (j : Bool). contains c.loop-k.next.items q || j) (sym (comes_step (letter_enters q) (letter_exits skips S) loops at 1 c.loop-k.left count k lt))
           ∙ c.loop-k.invariant.told q);
     }
 

@@ -1,7 +1,7 @@
 use Rattle.std.proofs.lemmas.Grind.{common_steps}
 use Rattle.std.proofs.Common.{◌≡◌, ◌+◌, ◌≤◌, ◌||◌, ℕ, Bool, [], refl, sym, ap, ◌∙◌, arith}
 use Rattle.std.proofs.Math.Path.{fun_ext}
-use Rattle.lex_semantics.specs.Active.{lists}
+use Rattle.lex_semantics.specs.Active.{contains}
 use Rattle.lex_semantics.specs.Positions.{positions}
 use Rattle.lex_semantics.specs.Subsets.{positions_of_rule}
 use Rattle.lexauto_positions.specs.Flow.{enters}
@@ -15,12 +15,12 @@ returns c =
     let r = shape_of c.args.rule.now in
     let base = c.args.base in
     let old = c.args.next.now.items in
-    let none : lists [] ≡ nowhere = fun_ext (λ x. refl) in
+    let none : contains [] ≡ nowhere = fun_ext (λ x. refl) in
     let within : base + positions r.head ≤ base + positions_of_rule r = omega arith in
     record {
       front = front_wider c.enter.new.next.items (base + positions r.head) (base + positions_of_rule r) within c.in_ok-enter.ensures.front;
       next = λ q. c.in_ok-enter.ensures.next q
-          ∙ ap (λ (b : Bool). lists old q || b) (ap (λ (S : ℕ → Bool). enters r.head S q base c.args.entered) none ∙ sym (first_of_rule r q base c.args.entered));
+          ∙ ap (λ (b : Bool). contains old q || b) (ap (λ (S : ℕ → Bool). enters r.head S q base c.args.entered) none ∙ sym (first_of_rule r q base c.args.entered));
     }
 
 pub returns-in_err-enter-clause-front : goal.returns-in_err-enter-clause-front

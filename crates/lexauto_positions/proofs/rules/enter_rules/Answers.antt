@@ -1,6 +1,6 @@
 use Rattle.std.proofs.Common.{rules, ◌≡◌, ◌≤◌, ◌+◌, ◌||◌, ℕ, Bool, false, List, [], length, map, drop, arith, sym, subst, ◌∙◌}
 use Rattle.std.proofs.lemmas.Grind.{common_steps}
-use Rattle.lex_semantics.specs.Active.{lists}
+use Rattle.lex_semantics.specs.Active.{contains}
 use Rattle.lex_semantics.specs.Spec.{Rule}
 use Rattle.lex_semantics.specs.Subsets.{all_positions}
 use Rattle.lex_semantics.specs.Text.{flag}
@@ -23,8 +23,8 @@ returns c =
     let none : map shape_of (drop i c.args.rules.now) ≡ [] = drop_none shape_of c.args.rules.now i done in
     let place : base + all_positions [] ≡ all_positions all = subst (λ (rs : List Rule). base + all_positions rs ≡ all_positions all) none c.loop-i.invariant.place in
     let end : base ≡ all_positions all = omega (arith, place) in
-    let told : (q : ℕ) → lists next q ≡ f q = λ q.
-    sym (or_false (lists next q)) ∙ subst (λ (rs : List Rule). (lists next q || rules_enter rs (flag c.args.on.now) (λ _. false) q i base) ≡ f q) none (c.loop-i.invariant.told q) in
+    let told : (q : ℕ) → contains next q ≡ f q = λ q.
+    sym (or_false (contains next q)) ∙ subst (λ (rs : List Rule). (contains next q || rules_enter rs (flag c.args.on.now) (λ _. false) q i base) ≡ f q) none (c.loop-i.invariant.told q) in
     front_listed next (all_positions all) f (subst (λ (n : ℕ). IsFront next n) end c.loop-i.invariant.front) told
 
 pub loop-i-preserved : goal.loop-i-preserved

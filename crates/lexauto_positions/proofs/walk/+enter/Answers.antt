@@ -1,7 +1,7 @@
 use Rattle.std.proofs.lemmas.Grind.{common_steps}
 use Rattle.std.proofs.Common.{◌≡◌, ℕ, Bool, ◌+◌, ◌-◌, ◌<◌, ◌≤◌, ◌⊎◌, ◌||◌, ◌&&◌, false, length, sym, ap, subst, ◌∙◌, arith}
 use Rattle.std.specs.Prelude.{slice_index}
-use Rattle.lex_semantics.specs.Active.{lists}
+use Rattle.lex_semantics.specs.Active.{contains}
 use Rattle.lex_semantics.specs.Positions.{positions}
 use Rattle.lexauto_positions.specs.Flow.{is_zero, comes, exits, enters}
 use Rattle.lexauto_positions.specs.Plans.{plan_of, tree_in}
@@ -19,38 +19,38 @@ enter-returns-then-is_quiet-clause-left t c =
     let tree = tree_in (plan_of c.args.part.now) in
     let last = c.args.last.now in
     let quiet = subst (λ (n : ℕ). (length last ≤ c.args.at) ⊎ (c.args.base + n ≤ slice_index last c.args.at)) c.size.ensures (c.is_quiet.ensures.yes c.if-is_quiet.true) in
-    sym (ap (exits tree (lists last) c.args.base) c.if-not-entered.true ∙ quiet_left last c.args.at c.args.base c.requires.cursor tree quiet)
+    sym (ap (exits tree (contains last) c.args.base) c.if-not-entered.true ∙ quiet_left last c.args.at c.args.base c.requires.cursor tree quiet)
 
 pub enter-returns-then-is_quiet-clause-next : goal.enter-returns-then-is_quiet-clause-next
 enter-returns-then-is_quiet-clause-next t c = λ q.
     let tree = tree_in (plan_of c.args.part.now) in
     let last = c.args.last.now in
     let quiet = subst (λ (n : ℕ). (length last ≤ c.args.at) ⊎ (c.args.base + n ≤ slice_index last c.args.at)) c.size.ensures (c.is_quiet.ensures.yes c.if-is_quiet.true) in
-    let none : enters tree (lists last) q c.args.base c.args.entered ≡ false = ap (enters tree (lists last) q c.args.base) c.if-not-entered.true ∙ quiet_next last c.args.at c.args.base c.requires.cursor tree quiet q in
-    sym (ap (λ (j : Bool). lists c.args.next.now.items q || j) none ∙ or_false (lists c.args.next.now.items q))
+    let none : enters tree (contains last) q c.args.base c.args.entered ≡ false = ap (enters tree (contains last) q c.args.base) c.if-not-entered.true ∙ quiet_next last c.args.at c.args.base c.requires.cursor tree quiet q in
+    sym (ap (λ (j : Bool). contains c.args.next.now.items q || j) none ∙ or_false (contains c.args.next.now.items q))
 
 pub enter_copy-returns-then-is_quiet-clause-left : goal.enter_copy-returns-then-is_quiet-clause-left
 enter_copy-returns-then-is_quiet-clause-left t c =
     let tree = tree_in (plan_of c.args.inner.now) in
     let last = c.args.last.now in
     let quiet = subst (λ (n : ℕ). (length last ≤ c.args.at) ⊎ (c.args.base + n ≤ slice_index last c.args.at)) c.size.ensures (c.is_quiet.ensures.yes c.if-is_quiet.true) in
-    sym (ap (exits tree (lists last) c.args.base) c.if-not-entered.true ∙ quiet_left last c.args.at c.args.base c.requires.cursor tree quiet)
+    sym (ap (exits tree (contains last) c.args.base) c.if-not-entered.true ∙ quiet_left last c.args.at c.args.base c.requires.cursor tree quiet)
 
 pub enter_copy-returns-then-is_quiet-clause-next : goal.enter_copy-returns-then-is_quiet-clause-next
 enter_copy-returns-then-is_quiet-clause-next t c = λ q.
     let tree = tree_in (plan_of c.args.inner.now) in
     let last = c.args.last.now in
     let quiet = subst (λ (n : ℕ). (length last ≤ c.args.at) ⊎ (c.args.base + n ≤ slice_index last c.args.at)) c.size.ensures (c.is_quiet.ensures.yes c.if-is_quiet.true) in
-    let again = exits tree (lists last) c.args.base false in
+    let again = exits tree (contains last) c.args.base false in
     let stays : (c.args.entered || (c.args.loops && again)) ≡ false =
     ap (λ (j : Bool). j || (c.args.loops && again)) c.if-not-entered.true ∙ ap (λ (j : Bool). c.args.loops && j) (quiet_left last c.args.at c.args.base c.requires.cursor tree quiet) ∙ and_false c.args.loops in
-    let none : enters tree (lists last) q c.args.base (c.args.entered || (c.args.loops && again)) ≡ false = ap (enters tree (lists last) q c.args.base) stays ∙ quiet_next last c.args.at c.args.base c.requires.cursor tree quiet q in
-    sym (ap (λ (j : Bool). lists c.args.next.now.items q || j) none ∙ or_false (lists c.args.next.now.items q))
+    let none : enters tree (contains last) q c.args.base (c.args.entered || (c.args.loops && again)) ≡ false = ap (enters tree (contains last) q c.args.base) stays ∙ quiet_next last c.args.at c.args.base c.requires.cursor tree quiet q in
+    sym (ap (λ (j : Bool). contains c.args.next.now.items q || j) none ∙ or_false (contains c.args.next.now.items q))
 
 pub enter_copies-returns-in-Some-clause-left : goal.enter_copies-returns-in-Some-clause-left
 enter_copies-returns-in-Some-clause-left t c =
     let tree = tree_in (plan_of c.args.inner.now) in
-    let S = lists c.args.last.now in
+    let S = contains c.args.last.now in
     let skips = c.in-Some.skips in
     let same = letters_pass tree skips c.in-Some.ensures.size c.in-Some.ensures.left S c.args.base c.args.entered c.args.copies.count c.args.copies.least false in
     if_ok_by c.enter_letters.result (λ p. p.left ≡ passes (letter_exits skips S) c.args.base 1 c.args.copies.least false c.args.entered c.args.copies.count)
@@ -60,22 +60,22 @@ enter_copies-returns-in-Some-clause-left t c =
 pub enter_copies-returns-in-Some-clause-next : goal.enter_copies-returns-in-Some-clause-next
 enter_copies-returns-in-Some-clause-next t c =
     let tree = tree_in (plan_of c.args.inner.now) in
-    let S = lists c.args.last.now in
+    let S = contains c.args.last.now in
     let skips = c.in-Some.skips in
     let before = c.args.next.now.items in
     let after = c.enter_letters.new.next.items in
     let loops = c.args.copies.loops in
     let count = c.args.copies.count in
-    if_ok_by c.enter_letters.result (λ p. (q : ℕ) → lists after q ≡ (lists before q || comes (letter_enters q) (letter_exits skips S) loops c.args.base 1 c.args.entered count))
-    (λ p. (q : ℕ) → lists after q ≡ (lists before q || comes (enters tree S q) (exits tree S) loops c.args.base (positions tree) c.args.entered count))
-    (λ p h q. h q ∙ ap (λ (j : Bool). lists before q || j)
+    if_ok_by c.enter_letters.result (λ p. (q : ℕ) → contains after q ≡ (contains before q || comes (letter_enters q) (letter_exits skips S) loops c.args.base 1 c.args.entered count))
+    (λ p. (q : ℕ) → contains after q ≡ (contains before q || comes (enters tree S q) (exits tree S) loops c.args.base (positions tree) c.args.entered count))
+    (λ p h q. h q ∙ ap (λ (j : Bool). contains before q || j)
     (letters_come tree skips c.in-Some.ensures.size c.in-Some.ensures.left S c.args.base c.args.entered count q loops (c.in-Some.ensures.next S q)))
     c.enter_letters.ensures.next
 
 pub enter_copies-loop-k-preserved : goal.enter_copies-loop-k-preserved
 enter_copies-loop-k-preserved t c =
     let tree = tree_in (plan_of c.args.inner.now) in
-    let S = lists c.args.last.now in
+    let S = contains c.args.last.now in
     let count = c.args.copies.count in
     let k = c.loop-k.k in
     let step : c.size-step.result ≡ positions tree = c.size-step.ensures in
@@ -97,9 +97,9 @@ enter_copies-loop-k-preserved t c =
       told = λ q.
           let rest = comes (enters tree S q) (exits tree S) c.args.copies.loops (c.loop-k.after + positions tree) (positions tree) (exits tree S c.loop-k.after c.loop-k.left) (count - (k + 1)) in
           rw (step, c.in_ok-passed.ensures.left)
-          (ap (λ (j : Bool). j || rest) (c.in_ok-passed.ensures.next q ∙ ap (λ (h : Bool). lists c.loop-k.next.items q || enters tree S q c.loop-k.after h) whole)
-          ∙ or_assoc (lists c.loop-k.next.items q) (enters tree S q c.loop-k.after (c.loop-k.left || (c.args.copies.loops && (is_zero (count - (k + 1)) && own)))) rest
-          ∙ ap (λ (j : Bool). lists c.loop-k.next.items q || j) (sym (comes_step (enters tree S q) (exits tree S) c.args.copies.loops c.loop-k.after (positions tree) c.loop-k.left count k lt))
+          (ap (λ (j : Bool). j || rest) (c.in_ok-passed.ensures.next q ∙ ap (λ (h : Bool). contains c.loop-k.next.items q || enters tree S q c.loop-k.after h) whole)
+          ∙ or_assoc (contains c.loop-k.next.items q) (enters tree S q c.loop-k.after (c.loop-k.left || (c.args.copies.loops && (is_zero (count - (k + 1)) && own)))) rest
+          ∙ ap (λ (j : Bool). contains c.loop-k.next.items q || j) (sym (comes_step (enters tree S q) (exits tree S) c.args.copies.loops c.loop-k.after (positions tree) c.loop-k.left count k lt))
           ∙ c.loop-k.invariant.told q);
     }
 

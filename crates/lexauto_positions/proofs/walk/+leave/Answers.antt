@@ -1,7 +1,7 @@
 use Rattle.std.proofs.lemmas.Grind.{common_steps}
 use Rattle.std.proofs.Common.{◌≡◌, ℕ, ◌+◌, ◌<◌, ◌≤◌, ◌⊎◌, ◌||◌, ◌&&◌, length, sym, ap, subst, ◌∙◌, arith}
 use Rattle.std.specs.Prelude.{slice_index}
-use Rattle.lex_semantics.specs.Active.{lists}
+use Rattle.lex_semantics.specs.Active.{contains}
 use Rattle.lex_semantics.specs.Positions.{positions}
 use Rattle.lexauto_positions.specs.Flow.{is_zero, exits}
 use Rattle.lexauto_positions.specs.Plans.{plan_of, tree_in}
@@ -15,12 +15,12 @@ leave-returns-then-is_quiet-clause-left t c =
     let tree = tree_in (plan_of c.args.part.now) in
     let last = c.args.last.now in
     let quiet = subst (λ (n : ℕ). (length last ≤ c.args.at) ⊎ (c.args.base + n ≤ slice_index last c.args.at)) c.size.ensures (c.is_quiet.ensures.yes c.if-is_quiet.true) in
-    sym (ap (exits tree (lists last) c.args.base) c.if-not-entered.true ∙ quiet_left last c.args.at c.args.base c.requires.cursor tree quiet)
+    sym (ap (exits tree (contains last) c.args.base) c.if-not-entered.true ∙ quiet_left last c.args.at c.args.base c.requires.cursor tree quiet)
 
 pub leave_copies-loop-k-preserved : goal.leave_copies-loop-k-preserved
 leave_copies-loop-k-preserved t c =
     let tree = tree_in (plan_of c.args.inner.now) in
-    let S = lists c.args.last.now in
+    let S = contains c.args.last.now in
     let step : c.size-step.result ≡ positions tree = c.size-step.ensures in
     let lt : c.loop-k.k < c.args.copies.count = c.loop-k-test.true in
     let out : c.if-out.out ≡ (c.loop-k.out || (is_zero c.loop-k.needed && c.loop-k.left)) = elim c.if-out.branch [

@@ -1,5 +1,5 @@
 use Rattle.std.proofs.Common.{◌≡◌, ◌+◌, ◌-◌, ◌*◌, ◌||◌, false, drop, map}
-use Rattle.lex_semantics.specs.Active.{lists}
+use Rattle.lex_semantics.specs.Active.{contains}
 use Rattle.lex_semantics.specs.Positions.{positions, positions_of}
 use Rattle.lexauto_positions.specs.Cursors.{IsCursor}
 use Rattle.lexauto_positions.specs.Flow.{passes, exits, exits_each, exits_some}
@@ -11,7 +11,7 @@ invariant-leave_each-loop-part l = record {
   sized : AreSized (plans (map plan_of (drop l.part-index l.parts)));
   place : l.after + positions_of (trees_in (plans (map plan_of (drop l.part-index l.parts)))) ≡ l.base + positions_of (trees_in (plans (map plan_of l.parts)));
   cursor : IsCursor l.last l.passed.at l.after;
-  flow : exits_each (trees_in (plans (map plan_of (drop l.part-index l.parts)))) (lists l.last) l.after l.passed.left ≡ exits_each (trees_in (plans (map plan_of l.parts))) (lists l.last) l.base l.entered;
+  flow : exits_each (trees_in (plans (map plan_of (drop l.part-index l.parts)))) (contains l.last) l.after l.passed.left ≡ exits_each (trees_in (plans (map plan_of l.parts))) (contains l.last) l.base l.entered;
 }
 
 abbrev pub invariant-leave_some-loop-part : goal.invariant-leave_some-loop-part
@@ -19,13 +19,13 @@ invariant-leave_some-loop-part l = record {
   sized : AreSized (plans (map plan_of (drop l.part-index l.parts)));
   place : l.after + positions_of (trees_in (plans (map plan_of (drop l.part-index l.parts)))) ≡ l.base + positions_of (trees_in (plans (map plan_of l.parts)));
   cursor : IsCursor l.last l.cursor l.after;
-  flow : (l.left || exits_some (trees_in (plans (map plan_of (drop l.part-index l.parts)))) (lists l.last) l.after l.entered) ≡ exits_some (trees_in (plans (map plan_of l.parts))) (lists l.last) l.base l.entered;
+  flow : (l.left || exits_some (trees_in (plans (map plan_of (drop l.part-index l.parts)))) (contains l.last) l.after l.entered) ≡ exits_some (trees_in (plans (map plan_of l.parts))) (contains l.last) l.base l.entered;
 }
 
 abbrev pub invariant-leave_copies-loop-k : goal.invariant-leave_copies-loop-k
 invariant-leave_copies-loop-k l = record {
   place : l.after + (l.fn.copies.count - l.k) * positions (tree_in (plan_of l.inner)) ≡ l.base + l.fn.copies.count * positions (tree_in (plan_of l.inner));
   cursor : IsCursor l.last l.cursor l.after;
-  flow : passes (exits (tree_in (plan_of l.inner)) (lists l.last)) l.after (positions (tree_in (plan_of l.inner))) l.needed l.out l.left (l.fn.copies.count - l.k)
-      ≡ passes (exits (tree_in (plan_of l.inner)) (lists l.last)) l.base (positions (tree_in (plan_of l.inner))) l.fn.copies.least false l.entered l.fn.copies.count;
+  flow : passes (exits (tree_in (plan_of l.inner)) (contains l.last)) l.after (positions (tree_in (plan_of l.inner))) l.needed l.out l.left (l.fn.copies.count - l.k)
+      ≡ passes (exits (tree_in (plan_of l.inner)) (contains l.last)) l.base (positions (tree_in (plan_of l.inner))) l.fn.copies.least false l.entered l.fn.copies.count;
 }

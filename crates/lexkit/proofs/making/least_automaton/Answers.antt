@@ -1,6 +1,6 @@
 use Rattle.std.proofs.Common.{◌≤◌, ◌∙◌, ap, sym, subst, Err}
 use Rattle.lex_semantics.specs.Spec.{Spec}
-use Rattle.lex_semantics.specs.Subsets.{Subsets}
+use Rattle.lex_semantics.specs.Subsets.{HasSubsets}
 use Rattle.lexspec.specs.Views.{spec_of}
 use Rattle.lexkit.proofs.Refusing.{by_reason}
 use Rattle.lexkit.proofs.making.least_automaton.Goals as goal
@@ -16,7 +16,7 @@ returns-clause-made c =
     let m = c.in-Ok-minimise.ensures in
     record {
       few_positions = b.few_positions;
-      subsets_are = subst (λ n. Subsets S n) (sym c.len.ensures.states) b.states;
+      subsets_are = subst (λ n. HasSubsets S n) (sym c.len.ensures.states) b.states;
       few_states = subst (λ n. n ≤ c.args.limits.states) (sym c.len.ensures.states) b.few_states;
       conditions = m.conditions ∙ b.conditions;
       table = m.table S b.table;

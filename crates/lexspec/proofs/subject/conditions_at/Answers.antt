@@ -1,5 +1,5 @@
 use Rattle.std.proofs.Common.{rules, ◌∙◌, ◌==◌, ◌≡◌, length, sym, ap}
-use Rattle.lex_semantics.specs.ByteSets.{is_word}
+use Rattle.lex_semantics.specs.ByteSets.{same_bytes}
 use Rattle.lexspec_lines.specs.Lines.{line_in}
 use Rattle.lexspec.proofs.SubjectLaws.{list_open, list_every, list_only}
 use Rattle.lexspec.proofs.subject.conditions_at.Goals as goal
@@ -26,7 +26,7 @@ returns-then-eq c =
       rest = c.split_line.result.1.now;
       line = ap line_in (sym c.skip_first.ensures) ∙ c.split_line.ensures.line;
       split = c.split_before.ensures.split (λ b. b == 62) (λ b r h post. search rules);
-    }) some c.without_bytes-rest.ensures (ap (is_word c.split_before.result.0.now) (sym c.as_slice.ensures) ∙ sym c.eq.ensures ∙ c.if-eq.true)
+    }) some c.without_bytes-rest.ensures (ap (same_bytes c.split_before.result.0.now) (sym c.as_slice.ensures) ∙ sym c.eq.ensures ∙ c.if-eq.true)
 
 pub returns : goal.returns
 returns c =
@@ -38,4 +38,4 @@ returns c =
       rest = c.split_line.result.1.now;
       line = ap line_in (sym c.skip_first.ensures) ∙ c.split_line.ensures.line;
       split = c.split_before.ensures.split (λ b. b == 62) (λ b r h post. search rules);
-    }) some c.without_bytes-rest.ensures (ap (is_word c.split_before.result.0.now) (sym c.as_slice.ensures) ∙ sym c.eq.ensures ∙ c.if-eq.false)
+    }) some c.without_bytes-rest.ensures (ap (same_bytes c.split_before.result.0.now) (sym c.as_slice.ensures) ∙ sym c.eq.ensures ∙ c.if-eq.false)
