@@ -69,6 +69,19 @@ pub record ArePieces (first middle end kept kept_end piece piece_end : ℕ) : Ty
   pub half : 2 * (piece_end - piece) ≤ end - first
   pub either : ((piece ≡ first) × (piece_end ≡ middle)) ⊎ ((piece ≡ middle) × (piece_end ≡ end))
 
+-- One stretch of the block c was made a new block, and the block keeps the other. No state moved.
+pub record IsDivision (old : Blocks) (c piece piece_end : ℕ) (new : Blocks) : Type 0 where
+  pub order : new.order ≡ old.order
+  pub place : new.place ≡ old.place
+  pub same_states : states new ≡ states old
+  pub grown : count new ≡ count old + 1
+  pub piece_is : (slice_index new.first.items (count old) ≡ piece) × (slice_index new.end.items (count old) ≡ piece_end)
+  pub moved : (x : ℕ) → x < states old → piece ≤ place_of old x → place_of old x < piece_end → block_of new x ≡ count old
+  pub rest : (x : ℕ) → ((piece ≤ place_of old x) × (place_of old x < piece_end) → ⊥) → block_of new x ≡ block_of old x
+  pub others : (d : ℕ) → d < count old → d ≢ c → (slice_index new.first.items d ≡ slice_index old.first.items d)
+      × (slice_index new.middle.items d ≡ slice_index old.middle.items d)
+  pub touched : (d : ℕ) → d < count new → IsTouched new d → (d < count old) × (d ≢ c) × IsTouched old d
+
 -- The block c was cut into its marked and its other states, or it has only one sort. None of it is marked any more.
 pub record IsCut (old : Blocks) (c : ℕ) (new : Blocks) (done : Bool) : Type 0 where
   pub same_states : states new ≡ states old

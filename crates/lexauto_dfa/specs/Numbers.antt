@@ -60,6 +60,14 @@ pub record RowAdded (classes table : List ℕ) (old new : Numbers) (rows rows' :
 abbrev pub AreStarts : List ℕ → List ℕ → List ℕ → List ℕ → Type 0
 AreStarts classes starts members numbers = (i : ℕ) → i < length numbers → IsNumberOf classes members (slice_index numbers i) (slice_index starts i)
 
+-- The numbers of the starts were found. Classes that are called by them have numbers.
+pub record StartsAdded (classes starts : List ℕ) (old new : Numbers) (numbers_of : List ℕ) : Type 0 where
+  pub numbers : AreNumbers classes new
+  pub len : length numbers_of ≡ length starts
+  pub each : AreStarts classes starts new.members.items numbers_of
+  pub called : AreCalled (length starts) new.members.items numbers_of
+  pub keeps : Keeps old.members.items new.members.items
+
 -- the numbers of all classes that are called, with their rows; state 0 has the first
 pub record AreMade (classes starts table members numbered rows : List ℕ) : Type 0 where
   pub few : length members ≤ length classes

@@ -22,3 +22,9 @@ AllowMoves letters n known = (a x : ℕ) → a < length letters → x < n → Al
 -- where there is one, it is one of n states
 abbrev pub AreBelow : ℕ → List Predecessors → Type 0
 AreBelow n known = (t x : ℕ) → known_of known t ≡ P.One x → x < n
+
+-- what is known of each of n states
+pub record ArePredecessors (letters : List Letter) (n : ℕ) (known : List Predecessors) : Type 0 where
+  pub len : length known ≡ n
+  pub below : AreBelow n known
+  pub allow : AllowMoves letters n known

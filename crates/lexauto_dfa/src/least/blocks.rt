@@ -1,8 +1,8 @@
 //! Blocks of states.
 ghost use Rattle.std.specs.Prelude.{◌≡◌, ◌≢◌, ◌⊎◌, ◌^◌, ℕ, ◌+◌, ◌*◌, ◌<◌, ◌≤◌};
 ghost use Rattle.std.specs.Prelude.{true, false, length, slice_index, IfOk, OnOk};
-ghost use Rattle.lexauto_dfa.specs.Arranged.{ArePieces, Arranged, IsCut, IsDivided, IsTouched};
-ghost use Rattle.lexauto_dfa.specs.Arranged.{IsMarked, block_of, place_of, size, states, count};
+ghost use Rattle.lexauto_dfa.specs.Arranged.{ArePieces, Arranged, IsCut, IsDivided, IsDivision, IsTouched};
+ghost use Rattle.lexauto_dfa.specs.Arranged.{IsMarked, block_of, size, states, count};
 
 use std::alloc::{AllocError, Global};
 
@@ -22,8 +22,7 @@ pub(crate) fn mark(blocks: &mut Blocks, state: u32) -> bool
     requires state { state < states blocks.old }
     requires arranged { Arranged blocks.old }
     ensures arranged { Arranged blocks.new }
-    ensures block { blocks.new.block ≡ blocks.old.block }
-    ensures first { blocks.new.first ≡ blocks.old.first }
+    ensures same { (blocks.new.block ≡ blocks.old.block) × (blocks.new.first ≡ blocks.old.first) }
     ensures marks { IsMarked blocks.new state }
     ensures keeps { (x : ℕ) → x < states blocks.old → IsMarked blocks.old x → IsMarked blocks.new x }
     ensures only { (x : ℕ) → x < states blocks.old → IsMarked blocks.new x → IsMarked blocks.old x ⊎ (x ≡ state) }
@@ -78,22 +77,7 @@ fn divide(
     requires pieces { IsDivided (slice_index blocks.old.first.items number)
         (slice_index blocks.old.end.items number) kept.from kept.to piece.from piece.to }
     ensures arranged { OnOk result (Arranged blocks.new) }
-    ensures order { OnOk result (blocks.new.order ≡ blocks.old.order) }
-    ensures place { OnOk result (blocks.new.place ≡ blocks.old.place) }
-    ensures states { OnOk result (states blocks.new ≡ states blocks.old) }
-    ensures count { OnOk result (count blocks.new ≡ count blocks.old + 1) }
-    ensures piece_is { OnOk result ((slice_index blocks.new.first.items (count blocks.old) ≡ piece.from)
-        × (slice_index blocks.new.end.items (count blocks.old) ≡ piece.to)) }
-    ensures moved { OnOk result ((x : ℕ) → x < states blocks.old → piece.from ≤ place_of blocks.old x
-        → place_of blocks.old x < piece.to → block_of blocks.new x ≡ count blocks.old) }
-    ensures rest { OnOk result ((x : ℕ)
-        → ((piece.from ≤ place_of blocks.old x) × (place_of blocks.old x < piece.to) → ⊥)
-        → block_of blocks.new x ≡ block_of blocks.old x) }
-    ensures others { OnOk result ((c : ℕ) → c < count blocks.old → c ≢ number
-        → (slice_index blocks.new.first.items c ≡ slice_index blocks.old.first.items c)
-        × (slice_index blocks.new.middle.items c ≡ slice_index blocks.old.middle.items c)) }
-    ensures touched { OnOk result ((c : ℕ) → c < count blocks.new → IsTouched blocks.new c → (c < count blocks.old)
-        × (c ≢ number) × IsTouched blocks.old c) }
+    ensures division { OnOk result (IsDivision blocks.old number piece.from piece.to blocks.new) }
 {
     let new = blocks.first.len() as u32;
     blocks.first[number] = kept.from;

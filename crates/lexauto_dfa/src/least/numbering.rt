@@ -2,8 +2,8 @@
 ghost use Rattle.std.specs.Prelude.{◌≡◌, ◌^◌, ℕ, ◌+◌, ◌*◌, ◌/◌, ◌%◌, ◌++◌, ◌∷◌};
 ghost use Rattle.std.specs.Prelude.{◌<◌, ◌≤◌, List, [], length, slice_index, IfOk, OnOk};
 ghost use Rattle.lexauto_dfa.specs.Sources.{IsRow};
-ghost use Rattle.lexauto_dfa.specs.Numbers.{AreCalled, AreNumbers, AreRows, AreStarts, Grown, HasRows, IsNumberOf};
-ghost use Rattle.lexauto_dfa.specs.Numbers.{Keeps, RowAdded};
+ghost use Rattle.lexauto_dfa.specs.Numbers.{AreCalled, AreNumbers, AreRows, Grown, HasRows, IsNumberOf};
+ghost use Rattle.lexauto_dfa.specs.Numbers.{Keeps, RowAdded, StartsAdded};
 
 use std::alloc::{AllocError, Global};
 
@@ -63,11 +63,7 @@ pub(crate) fn number_starts(
     requires classes { IsRow classes.now }
     requires numbers { AreNumbers classes.now numbers.old }
     requires none { AreCalled (length starts.now) numbers.old.members.items [] }
-    ensures numbers { OnOk result (AreNumbers classes.now numbers.new) }
-    ensures len { IfOk result (λ v. length v.items ≡ length starts.now) }
-    ensures each { IfOk result (λ v. AreStarts classes.now starts.now numbers.new.members.items v.items) }
-    ensures called { IfOk result (λ v. AreCalled (length starts.now) numbers.new.members.items v.items) }
-    ensures keeps { OnOk result (Keeps numbers.old.members.items numbers.new.members.items) }
+    ensures { IfOk result (λ v. StartsAdded classes.now starts.now numbers.old numbers.new v.items) }
 {
     let mut called = Vec::new(alloc);
     for start in starts {
@@ -106,10 +102,7 @@ pub(crate) fn number_rows(
     classes: &[u32],
     table: &[u32],
 ) -> Result<Vec<u32>, AllocError>
-    requires len { length table.now ≡ 256 * length classes.now }
-    requires table { (i : ℕ) → i < length table.now → slice_index table.now i < length classes.now }
-    requires few { length classes.now < 2 ^ 32 }
-    requires classes { IsRow classes.now }
+    requires has_rows { HasRows classes.now table.now }
     requires numbers { AreNumbers classes.now numbers.old }
     ensures numbers { OnOk result (AreNumbers classes.now numbers.new) }
     ensures len { IfOk result (λ v. length v.items ≡ 256 * length numbers.new.members.items) }

@@ -1,6 +1,7 @@
 //! The coarsest partition of the states, by their labels and the letters.
 ghost use Rattle.std.specs.Prelude.{◌≡◌, ◌^◌, ℕ, ◌<◌, ◌≤◌, length, slice_index, IfOk, OnOk};
-ghost use Rattle.lexauto_dfa.specs.Arranged.{Arranged, IsTouched, block_of, count, states};
+ghost use Rattle.lexauto_dfa.specs.Arranged.{Arranged, block_of, states};
+ghost use Rattle.lexauto_dfa.specs.Going.{AreReady};
 ghost use Rattle.lexauto_dfa.specs.Labels.{AreAlike, IsOneBlock};
 ghost use Rattle.lexauto_dfa.specs.Letters.{AreLetters, machine};
 ghost use Rattle.lexauto_dfa.specs.Futures.{IsCoarsest};
@@ -52,15 +53,10 @@ fn split_by_labels(
     waiting: &mut Vec<u32>,
 ) -> Result<(), AllocError>
     requires row { length labels.now.row.items ≡ states blocks.old }
-    requires arranged { Arranged blocks.old }
-    requires untouched { (c : ℕ) → c < count blocks.old → IsTouched blocks.old c → ⊥ }
-    requires known { (i : ℕ) → i < length waiting.old.items → slice_index waiting.old.items i < count blocks.old }
+    requires ready { AreReady blocks.old waiting.old.items }
     requires alike { AreAlike labels.now.row.items 0 blocks.old waiting.old.items }
-    ensures arranged { OnOk result (Arranged blocks.new) }
+    ensures ready { OnOk result (AreReady blocks.new waiting.new.items) }
     ensures same_states { OnOk result (states blocks.new ≡ states blocks.old) }
-    ensures untouched { OnOk result ((c : ℕ) → c < count blocks.new → IsTouched blocks.new c → ⊥) }
-    ensures known { OnOk result ((i : ℕ) → i < length waiting.new.items
-        → slice_index waiting.new.items i < count blocks.new) }
     ensures alike { OnOk result (AreAlike labels.now.row.items (states blocks.old) blocks.new waiting.new.items) }
 {
     let mut touched = Vec::new(alloc);

@@ -1,9 +1,9 @@
 //! Cutting blocks until states of one block go to one block by each letter.
 ghost use Rattle.std.specs.Prelude.{◌≡◌, ◌↔◌, ℕ, ◌<◌, Bool, true, List, length, slice_index, IfOk, OnOk};
-ghost use Rattle.lexauto_dfa.specs.Arranged.{Arranged, IsTouched, block_of, count, states};
-ghost use Rattle.lexauto_dfa.specs.Going.{Counts};
+ghost use Rattle.lexauto_dfa.specs.Arranged.{Arranged, block_of, count, states};
+ghost use Rattle.lexauto_dfa.specs.Going.{AreReady, Counts};
 ghost use Rattle.lexauto_dfa.specs.Letters.{AreLetters, IsMembership, machine};
-ghost use Rattle.lexauto_dfa.specs.Predecessors.{AllowMoves, AreBelow};
+ghost use Rattle.lexauto_dfa.specs.Predecessors.{ArePredecessors};
 ghost use Rattle.lexauto_dfa.specs.Sources.{Has};
 ghost use Rattle.lexauto_dfa.specs.Splits.{Cuts, Refining, Using};
 ghost use Rattle.lexauto_dfa.specs.Futures.{IsCoarsest};
@@ -26,11 +26,8 @@ pub(crate) fn split(
 ) -> Result<(), AllocError>
     requires targets { (i : ℕ) → i < length targets.now → slice_index targets.now i < states blocks.old }
     requires row { length letter.now.row.items ≡ states blocks.old }
-    requires arranged { Arranged blocks.old }
-    requires untouched { (c : ℕ) → c < count blocks.old → IsTouched blocks.old c → ⊥ }
-    requires known { (i : ℕ) → i < length waiting.old.items → slice_index waiting.old.items i < count blocks.old }
-    ensures arranged { OnOk result (Arranged blocks.new) }
-    ensures untouched { OnOk result ((c : ℕ) → c < count blocks.new → IsTouched blocks.new c → ⊥) }
+    requires ready { AreReady blocks.old waiting.old.items }
+    ensures ready { OnOk result (AreReady blocks.new waiting.new.items) }
     ensures counts { OnOk result (Counts blocks.old waiting.old.items blocks.new waiting.new.items) }
     ensures cuts { OnOk result ((m : ℕ → Bool)
         → ((x : ℕ) → x < states blocks.old → (m x ≡ true) ↔ Has targets.now (slice_index letter.now.row.items x))
@@ -55,14 +52,9 @@ fn split_by_all(
 ) -> Result<(), AllocError>
     requires targets { (i : ℕ) → i < length targets.now → slice_index targets.now i < states blocks.old }
     requires rows { AreLetters letters.now (states blocks.old) }
-    requires len { length known.now ≡ states blocks.old }
-    requires below { AreBelow (states blocks.old) known.now }
-    requires allow { AllowMoves letters.now (states blocks.old) known.now }
-    requires arranged { Arranged blocks.old }
-    requires untouched { (c : ℕ) → c < count blocks.old → IsTouched blocks.old c → ⊥ }
-    requires waiting { (i : ℕ) → i < length waiting.old.items → slice_index waiting.old.items i < count blocks.old }
-    ensures arranged { OnOk result (Arranged blocks.new) }
-    ensures untouched { OnOk result ((c : ℕ) → c < count blocks.new → IsTouched blocks.new c → ⊥) }
+    requires known { ArePredecessors letters.now (states blocks.old) known.now }
+    requires ready { AreReady blocks.old waiting.old.items }
+    ensures ready { OnOk result (AreReady blocks.new waiting.new.items) }
     ensures counts { OnOk result (Counts blocks.old waiting.old.items blocks.new waiting.new.items) }
     ensures used { OnOk result ((labels : List ℕ) (coarse : ℕ → ℕ) (inside : ℕ → Bool)
         → length labels ≡ states blocks.old → IsMembership inside targets.now (states blocks.old)
@@ -100,9 +92,7 @@ pub(crate) fn split_by_waiting(
     waiting: &mut Vec<u32>,
 ) -> Result<(), AllocError>
     requires rows { AreLetters letters.now (states blocks.old) }
-    requires arranged { Arranged blocks.old }
-    requires untouched { (c : ℕ) → c < count blocks.old → IsTouched blocks.old c → ⊥ }
-    requires known { (i : ℕ) → i < length waiting.old.items → slice_index waiting.old.items i < count blocks.old }
+    requires ready { AreReady blocks.old waiting.old.items }
     ensures arranged { OnOk result (Arranged blocks.new) }
     ensures same_states { OnOk result (states blocks.new ≡ states blocks.old) }
     ensures coarsest { OnOk result ((labels : List ℕ) → length labels ≡ states blocks.old

@@ -12,7 +12,7 @@ returns-clause-half c = λ t.
     let low = c.requires.number in
     let f = get_or_read b.first.items _ _ low c.index-first.ensures 0 in
     let e = get_or_read b.end.items _ _ (omega (arith, a.ends, low)) c.index-end.ensures 0 in
-    let p = c.in_ok-divide.ensures.piece_is in
+    let p = c.in_ok-divide.ensures.division.piece_is in
     let p0 = p.0 in
     let p1 = p.1 in
     let h = c.halves-pieces.ensures.half in
@@ -33,5 +33,5 @@ returns-clause-cut c =
     subst (λ (i : ℕ). ArePieces i (slice_index b.middle.items n) (slice_index b.end.items n) kept.from kept.to piece.from piece.to) f
     (subst (λ (i : ℕ). ArePieces c.index-first.result.now i (slice_index b.end.items n) kept.from kept.to piece.from piece.to) m
     (subst (λ (i : ℕ). ArePieces c.index-first.result.now c.index-middle.result.now i kept.from kept.to piece.from piece.to) e c.halves-pieces.ensures)) in
-    let d = c.in_ok-divide.ensures in
-    pieces_cut b c.divide.new.blocks a n kept.from kept.to piece.from piece.to low two d.place d.states d.count d.moved d.rest d.others d.touched
+    let d = c.in_ok-divide.ensures.division in
+    pieces_cut b c.divide.new.blocks a n kept.from kept.to piece.from piece.to low two d.place d.same_states d.grown d.moved d.rest d.others d.touched

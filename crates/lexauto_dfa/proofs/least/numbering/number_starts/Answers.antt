@@ -25,3 +25,8 @@ loop-start-preserved c =
           (call_more (length ss) old called x k new c.in_ok-number.ensures.grown (inl (omega (arith, v.len, low))) v.called);
       keeps = keeps_again c.args.numbers.now.members.items old new v.keeps f;
     }
+
+pub returns : goal.returns
+returns c =
+    let v = c.loop-start.invariant in
+    record { numbers = v.numbers; len = search rules; each = v.each; called = v.called; keeps = v.keeps }

@@ -7,10 +7,8 @@ loop-label-preserved c =
     let v = c.loop-label.invariant in
     let k = c.in_ok-split.ensures.counts in
     record {
-      arranged = c.in_ok-split.ensures.arranged;
+      ready = c.in_ok-split.ensures.ready;
       same_states = k.same_states ∙ v.same_states;
-      untouched = c.in_ok-split.ensures.untouched;
-      known = k.known;
       alike = one_more c.args.labels.now.row.items c.loop-label.label c.loop-label.blocks c.split.new.blocks c.loop-label.waiting.items c.split.new.waiting.items k.same_states
           c.in_ok-split.ensures.cuts v.alike;
     }

@@ -22,7 +22,7 @@ returns-then-is_settled-clause-used c =
     let k = c.loop-index.index in
     let low : k < length letters = search rules in
     let done = all_passed letters c.args.targets.now c.args.blocks.now c.args.waiting.now.items c.loop-index.blocks c.loop-index.waiting.items c.requires.rows
-    (λ a x la lx has. c.is_settled.ensures c.if-is_settled.true (slice_index (row_of letters a) x) x has (c.requires.allow a x la lx))
+    (λ a x la lx has. c.is_settled.ensures c.if-is_settled.true (slice_index (row_of letters a) x) x has (c.requires.known.allow a x la lx))
     (length letters - k) k (omega (arith, low)) c.loop-index.invariant in
     done.used
 
@@ -35,8 +35,8 @@ loop-index-preserved c =
     let low : k < length c.args.letters.now = search rules in
     let row = row_is c.args.letters.now k c.index-letters-index.result low c.index-letters-index.is in
     record {
-      arranged = c.in_ok-split.ensures.arranged;
-      untouched = c.in_ok-split.ensures.untouched;
+      arranged = c.in_ok-split.ensures.ready.arranged;
+      untouched = c.in_ok-split.ensures.ready.untouched;
       counts = record {
         same_states = n.same_states ∙ v.counts.same_states;
         grown = omega (arith, n.grown, v.counts.grown);

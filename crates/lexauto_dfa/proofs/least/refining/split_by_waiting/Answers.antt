@@ -14,15 +14,15 @@ members-requires-clause-number c =
     let v = c.rounds.invariant in
     last_known c.rounds.waiting.items c.pop.new.self.items c.in-Some.number (count c.rounds.blocks) c.in-Some.ensures.items v.known
 
-pub split_by_all-requires-clause-waiting : goal.split_by_all-requires-clause-waiting
-split_by_all-requires-clause-waiting c =
+pub split_by_all-requires-clause-ready : goal.split_by_all-requires-clause-ready
+split_by_all-requires-clause-ready c =
     let v = c.rounds.invariant in
-    left_known c.rounds.waiting.items c.pop.new.self.items c.in-Some.number (count c.rounds.blocks) c.in-Some.ensures.items v.known
+    record { arranged = v.arranged; untouched = v.untouched; known = left_known c.rounds.waiting.items c.pop.new.self.items c.in-Some.number (count c.rounds.blocks) c.in-Some.ensures.items v.known }
 
 pub rounds-smaller : goal.rounds-smaller
 rounds-smaller c =
     let k = c.in_ok-split_by_all.ensures.counts in
-    let f = few c.split_by_all.new.blocks c.in_ok-split_by_all.ensures.arranged in
+    let f = few c.split_by_all.new.blocks c.in_ok-split_by_all.ensures.ready.arranged in
     let l : length c.pop.new.self.items + 1 ≡ length c.rounds.waiting.items = search (rules, c.in-Some.ensures.len) in
     let less : length c.split_by_all.new.waiting.items + (states c.split_by_all.new.blocks - count c.split_by_all.new.blocks) < length c.rounds.waiting.items + (states c.rounds.blocks - count c.rounds.blocks) =
     omega (arith, k.weight, k.grown, k.same_states, f, l) in
@@ -34,8 +34,8 @@ rounds-preserved c =
     let k = c.in_ok-split_by_all.ensures.counts in
     let targets : c.deref-in-Some.result.now ≡ c.in_ok-targets.targets.items = c.deref-in-Some.ensures.value in
     record {
-      arranged = c.in_ok-split_by_all.ensures.arranged;
-      untouched = c.in_ok-split_by_all.ensures.untouched;
+      arranged = c.in_ok-split_by_all.ensures.ready.arranged;
+      untouched = c.in_ok-split_by_all.ensures.ready.untouched;
       known = k.known;
       same_states = k.same_states ∙ v.same_states;
       refining = λ labels len r.
