@@ -6,7 +6,7 @@ use Rattle.clap.specs.declared.error.kind.ErrorKind.TheVariants as kind
 use Rattle.clap.specs.declared.parser.matches.ArgMatches.{ArgMatches}
 use Rattle.lex_command.specs.Refusal.{refusal_of}
 use Rattle.lex_command.specs.declared.error.ArgsError.TheVariants.{Usage}
-use Rattle.lex_command.specs.LookLine.{AsksFor, IsLookOf, about_of, lexlook_app}
+use Rattle.lex_command.specs.LookLine.{AsksToShow, IsLookOf, about_of, lexlook_app}
 use Rattle.lex_command.specs.declared.look.args.Look.{Look}
 use Rattle.lex_command.specs.declared.look.args.Look.TheVariants.{About as OfItself, One, Same}
 use Rattle.lex_command.specs.declared.look.args.About.{About}
@@ -30,7 +30,7 @@ rows_are words a m is matches = (matches (ap is_simple is ∙ lexlook_is_simple)
 
 -- what the matches ask for is what the words ask for
 pub asked_by : (words : List Text) (a : App) (m : ArgMatches) (look : Look) → a ≡ lexlook_app → about_of words ≡ None
-    → HasMatchesOf a words m → fault_of a words ≡ [] → IsLookOf (subcommand_rows_of m) look → AsksFor words look
+    → HasMatchesOf a words m → fault_of a words ≡ [] → IsLookOf (subcommand_rows_of m) look → AsksToShow words look
 asked_by words a m (OfItself what) is plain matches fault h = absurd (no_about_look (subcommand_rows_of m) what h)
 asked_by words a m (One what file patterns) is plain matches fault h = (
   plain,
@@ -45,21 +45,21 @@ asked_by words a m (Same left right patterns) is plain matches fault h = (
 
 -- and what the words ask for is what the matches ask for
 pub asks_by : (words : List Text) (a : App) (m : ArgMatches) (look : Look) → a ≡ lexlook_app → about_of words ≡ None
-    → HasMatchesOf a words m → AsksFor words look → IsLookOf (subcommand_rows_of m) look
+    → HasMatchesOf a words m → AsksToShow words look → IsLookOf (subcommand_rows_of m) look
 asks_by words a m (OfItself what) is plain matches h = absurd (clash (about_of words) what h plain)
 asks_by words a m (One what file patterns) is plain matches h =
     subst (λ (r : Option (Text × List Row)). IsLookOf r (One what file patterns)) (sym (rows_are words a m is matches)) h.2
 asks_by words a m (Same left right patterns) is plain matches h =
     subst (λ (r : Option (Text × List Row)). IsLookOf r (Same left right patterns)) (sym (rows_are words a m is matches)) h.2
 
-none_fault : (words : List Text) (a : App) (look : Look) → a ≡ lexlook_app → about_of words ≡ None → AsksFor words look → fault_of a words ≡ []
+none_fault : (words : List Text) (a : App) (look : Look) → a ≡ lexlook_app → about_of words ≡ None → AsksToShow words look → fault_of a words ≡ []
 none_fault words a (OfItself what) is plain h = absurd (clash (about_of words) what h plain)
 none_fault words a (One what file patterns) is plain h = ap (λ (b : App). fault_of b words) is ∙ h.1
 none_fault words a (Same left right patterns) is plain h = ap (λ (b : App). fault_of b words) is ∙ h.1
 
 -- words that are refused as no line of the program's ask for nothing
 pub asks_for_none : (words : List Text) (a : App) (e : Error) (look : Look) → a ≡ lexlook_app → about_of words ≡ None → HasKind (fault_of a words) e
-    → refusal_of (kind_of e) ≡ Usage → AsksFor words look → ⊥
+    → refusal_of (kind_of e) ≡ Usage → AsksToShow words look → ⊥
 asks_for_none words a e look is plain (inl memory) usage h =
     let bad : refusal_of kind.OutOfMemory ≡ Usage = ap refusal_of (sym memory) ∙ usage in
     cc

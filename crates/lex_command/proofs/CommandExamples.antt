@@ -3,16 +3,16 @@ use Rattle.std.proofs.Common.{◌≡◌, ◌≢◌, ◌↔◌, ◌&&◌, refl, B
 use Rattle.clap.specs.Words.{Row, Text, first_of, matches_of}
 use Rattle.clap.proofs.OnLiterals.{clap_on_literals}
 use Rattle.lex_command.specs.CommandLine.{IsJobOf, files_of, lex_app, makes_tables, reads_patterns}
-use Rattle.lex_command.specs.Flags.{has}
+use Rattle.lex_command.specs.Flags.{has_flag}
 use Rattle.lex_command.specs.CommandExamples.{AsksForA, Making, Nothing, ScanningBy}
 use Rattle.lex_command.specs.declared.job.args.Job.{Job}
 use Rattle.lex_command.specs.declared.job.args.Job.TheVariants.{Generate, ScanSpec, ScanTable}
 
 -- what was met asks for tables
 making : (met : List Row) (names : List Text) (name : Option Text) (counts backs : Bool) → first_of (codes "scan-spec") met ≡ None
-    → first_of (codes "scan-table") met ≡ None → files_of met ≡ names → first_of (codes "out") met ≡ name → has (codes "stdout") met ≡ false
-    → (has (codes "stats") met && not (has (codes "no-stats") met)) ≡ counts → has (codes "backup") met ≡ backs → has (codes "fold") met ≡ false
-    → has (codes "posix") met ≡ false → has (codes "quiet") met ≡ false
+    → first_of (codes "scan-table") met ≡ None → files_of met ≡ names → first_of (codes "out") met ≡ name → has_flag (codes "stdout") met ≡ false
+    → (has_flag (codes "stats") met && not (has_flag (codes "no-stats") met)) ≡ counts → has_flag (codes "backup") met ≡ backs → has_flag (codes "fold") met ≡ false
+    → has_flag (codes "posix") met ≡ false → has_flag (codes "quiet") met ≡ false
     → (separated : Bool) (job : Job) → IsJobOf met separated job ↔ Making names name counts backs job
 making met names name counts backs spec table files out stdout stats backup fold posix quiet separated (Generate o-files o-out o-stdout o-stats o-backup o-patterns o-quiet) =
     rw (spec, table, files, out, stdout, stats, backup, fold, posix, quiet) ((λ h. h), (λ h. h))
@@ -23,7 +23,7 @@ making met names name counts backs spec table files out stdout stats backup fold
 
 -- what was met asks for a scan by a specification
 scanning : (met : List Row) (name : Text) (folds : Bool) → first_of (codes "scan-spec") met ≡ Some name → first_of (codes "scan-table") met ≡ None
-    → (name ≢ codes "-") → makes_tables met ≡ false → has (codes "fold") met ≡ folds → has (codes "posix") met ≡ false → has (codes "quiet") met ≡ false
+    → (name ≢ codes "-") → makes_tables met ≡ false → has_flag (codes "fold") met ≡ folds → has_flag (codes "posix") met ≡ false → has_flag (codes "quiet") met ≡ false
     → (job : Job) → IsJobOf met false job ↔ ScanningBy name folds job
 scanning met name folds spec table named makes fold posix quiet (Generate o-files o-out o-stdout o-stats o-backup o-patterns o-quiet) = rw (spec, table) ((λ h. h), (λ h. h))
 scanning met name folds spec table named makes fold posix quiet (ScanSpec o-file o-patterns o-quiet) =

@@ -9,7 +9,7 @@ use Rattle.clap.specs.Words.{new_rule, with_rule}
 use Rattle.clap.specs.Lexer.{usize_max}
 use Rattle.clap.specs.Simple.{on_top}
 use Rattle.clap.specs.declared.builder.action.ArgAction.TheVariants.{Append, Set}
-use Rattle.lex_command.specs.Flags.{flag_rule, has, is_separator, patterns_of}
+use Rattle.lex_command.specs.Flags.{flag_rule, has_flag, is_separator, patterns_of}
 use Rattle.lex_command.specs.declared.job.args.Job.{Job}
 use Rattle.lex_command.specs.declared.job.args.Job.TheVariants.{Generate, ScanSpec, ScanTable}
 
@@ -91,30 +91,30 @@ has_value_behind_equals (word ∷ rest) = not (is_separator word)
 
 -- something stands there that only making tables takes: `-t`, `-n`, `-v`, `-b`, `-o` or a file
 abbrev pub makes_tables : List Row → Bool
-makes_tables met = has (codes "stdout") met
-    || (has (codes "no-stats") met
-    || (has (codes "stats") met
-    || (has (codes "backup") met
+makes_tables met = has_flag (codes "stdout") met
+    || (has_flag (codes "no-stats") met
+    || (has_flag (codes "stats") met
+    || (has_flag (codes "backup") met
     || (is_some (first_of (codes "out") met) || is_some (first_of (codes "file") met)))))
 
 -- something stands there that only reading patterns takes: `-i`, `-X` or `-w`
 abbrev pub reads_patterns : List Row → Bool
-reads_patterns met = has (codes "fold") met || (has (codes "posix") met || has (codes "quiet") met)
+reads_patterns met = has_flag (codes "fold") met || (has_flag (codes "posix") met || has_flag (codes "quiet") met)
 
 -- the files that stand there
 abbrev pub files_of : List Row → List Text
 files_of met = unwrap_or (all_of (codes "file") met) []
 
 -- the making of tables that was asked for; `-n` outweighs `-v`
-abbrev pub Makes : List Row → Job → Type 0
-Makes met (Generate files out stdout stats backup patterns quiet) = (map string_bytes files.items ≡ files_of met)
+abbrev pub AsksToMake : List Row → Job → Type 0
+AsksToMake met (Generate files out stdout stats backup patterns quiet) = (map string_bytes files.items ≡ files_of met)
     × (option_map string_bytes out ≡ first_of (codes "out") met)
-    × (stdout ≡ has (codes "stdout") met)
-    × (stats ≡ (has (codes "stats") met && not (has (codes "no-stats") met)))
-    × (backup ≡ has (codes "backup") met)
+    × (stdout ≡ has_flag (codes "stdout") met)
+    × (stats ≡ (has_flag (codes "stats") met && not (has_flag (codes "no-stats") met)))
+    × (backup ≡ has_flag (codes "backup") met)
     × (patterns ≡ patterns_of met)
-    × (quiet ≡ has (codes "quiet") met)
-Makes met _ = ⊥
+    × (quiet ≡ has_flag (codes "quiet") met)
+AsksToMake met _ = ⊥
 
 -- the scan by the specification in the file that was asked for
 abbrev pub ScansBySpec : List Row → Text → Job → Type 0
@@ -122,7 +122,7 @@ ScansBySpec met name (ScanSpec file patterns quiet) = (string_bytes file ≡ nam
     × (name ≢ codes "-")
     × (makes_tables met ≡ false)
     × (patterns ≡ patterns_of met)
-    × (quiet ≡ has (codes "quiet") met)
+    × (quiet ≡ has_flag (codes "quiet") met)
 ScansBySpec met name _ = ⊥
 
 -- the scan by the table in the file that was asked for
@@ -135,7 +135,7 @@ ScansByTable met name _ = ⊥
 
 -- with neither word of a scan tables are made; a scan has one of the two, and no `--`
 abbrev pub IsJobBy : Option Text → Option Text → Bool → List Row → Job → Type 0
-IsJobBy None None separated met job = Makes met job
+IsJobBy None None separated met job = AsksToMake met job
 IsJobBy (Some name) None false met job = ScansBySpec met name job
 IsJobBy None (Some name) false met job = ScansByTable met name job
 IsJobBy _ _ _ met job = ⊥

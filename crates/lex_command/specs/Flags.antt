@@ -18,9 +18,9 @@ abbrev pub is_separator : Text → Bool
 is_separator word = bytes_eq word (codes "--")
 
 -- the flag stands there
-abbrev pub has : Text → List Row → Bool
-has flag met = nat_lt 0 (count_of flag met)
+abbrev pub has_flag : Text → List Row → Bool
+has_flag flag met = nat_lt 0 (count_of flag met)
 
 -- how patterns are read: letters for both cases with `-i`, intervals for series with `-X`
 abbrev pub patterns_of : List Row → PatternFlags
-patterns_of met = record { fold = has (codes "fold") met; posix = has (codes "posix") met }
+patterns_of met = record { fold = has_flag (codes "fold") met; posix = has_flag (codes "posix") met }

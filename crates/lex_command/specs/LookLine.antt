@@ -79,8 +79,8 @@ IsLookOf p look = ⊥
 
 -- The words ask for something of the program itself if one of them does, before any `--`. Else they are a line of the program's, and
 -- ask for what the subcommand does.
-abbrev pub AsksFor : List Text → Look → Type 0
-AsksFor words (OfItself what) = about_of words ≡ Some what
-AsksFor words look = (about_of words ≡ None)
+abbrev pub AsksToShow : List Text → Look → Type 0
+AsksToShow words (OfItself what) = about_of words ≡ Some what
+AsksToShow words look = (about_of words ≡ None)
     × (fault_of lexlook_app words ≡ [])
     × IsLookOf (subcommand_of lexlook_app words) look

@@ -1,7 +1,7 @@
 //! What both command lines have: flags, words that have a value, and how patterns are read.
 ghost use Rattle.std.specs.Prelude.{◌≡◌, IfOk, false, fold, map, option_map};
 ghost use Rattle.clap.specs.Words.{app_of, first_of, found_of, rows_of, rule_of, with_rule};
-ghost use Rattle.lex_command.specs.Flags.{flag_rule, has, patterns_of};
+ghost use Rattle.lex_command.specs.Flags.{flag_rule, has_flag, patterns_of};
 
 use clap::{Arg, ArgAction, ArgMatches, Command};
 use std::alloc::{AllocError, Global};
@@ -41,7 +41,7 @@ pub(crate) fn with_flags<'a>(
 
 /// Whether the flag stands there.
 pub(crate) fn has(matches: &ArgMatches<'_>, flag: &str) -> bool
-    ensures { result ≡ has flag.now (rows_of (found_of matches.now)) }
+    ensures { result ≡ has_flag flag.now (rows_of (found_of matches.now)) }
 {
     matches.get_count(flag) > 0
 }

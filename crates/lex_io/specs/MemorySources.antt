@@ -16,8 +16,8 @@ call_count source = source.calls
 abbrev pub ends_of : MemorySource → ℕ
 ends_of source = source.ends
 
-abbrev pub failures_of : MemorySource → ℕ
-failures_of source = source.failures
+abbrev pub source_failures : MemorySource → ℕ
+source_failures source = source.failures
 
 -- where it will pause, counted in calls
 abbrev pub pause_of : MemorySource → Option Pause

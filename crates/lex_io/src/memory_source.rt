@@ -93,7 +93,7 @@ impl<'a> MemorySource<'a> {
 }
 
 impl Source for MemorySource<'_> {
-    ghost use Rattle.lex_io.specs.MemorySources.{rest_of, ends_of, failures_of, call_count, pause_of};
+    ghost use Rattle.lex_io.specs.MemorySources.{rest_of, ends_of, source_failures, call_count, pause_of};
     ghost use Rattle.lex_io.specs.MemorySources.{nearer, nearer_by, shown_of, IsFault, IsEnd};
     ghost use Rattle.lex_io.specs.declared.memory_source.Pause.TheVariants.{Fault, End};
 
@@ -101,7 +101,7 @@ impl Source for MemorySource<'_> {
 
     ghost ends = { λ s. ends_of s };
 
-    ghost failures = { λ s. failures_of s };
+    ghost failures = { λ s. source_failures s };
 
     ghost ready = { λ s. shown_of s };
 
@@ -111,10 +111,10 @@ impl Source for MemorySource<'_> {
     /// has no byte left.
     fn next(&mut self) -> Result<Option<u8>, ReadFault>
         requires few_ends { ends_of self.old < 2 ^ 64 - 1 }
-        requires few_failures { failures_of self.old < 2 ^ 64 - 1 }
+        requires few_failures { source_failures self.old < 2 ^ 64 - 1 }
         ensures byte { Takes (rest_of self.old) (rest_of self.new) (given result) }
         ensures ends { ends_of self.new ≡ ends_of self.old + end_count result }
-        ensures failures { failures_of self.new ≡ failures_of self.old + fault_count result }
+        ensures failures { source_failures self.new ≡ source_failures self.old + fault_count result }
         ensures fault { IsFault result ↔ pause_of self.old ≡ Some (Fault 0) }
         ensures end { IsEnd result ↔ ((pause_of self.old ≡ Some (End 0)) ⊎ ((rest_of self.old ≡ [])
             × (pause_of self.old ≡ Some (Fault 0) → ⊥))) }
@@ -163,7 +163,7 @@ impl Source for MemorySource<'_> {
         requires { count ≤ length (shown_of self.old) }
         ensures bytes { Takes (rest_of self.old) (rest_of self.new) (take count (shown_of self.old)) }
         ensures ends { ends_of self.new ≡ ends_of self.old }
-        ensures failures { failures_of self.new ≡ failures_of self.old }
+        ensures failures { source_failures self.new ≡ source_failures self.old }
         ensures pause { pause_of self.new ≡ nearer_by count (pause_of self.old) }
         ensures calls { call_count self.new ≡ min (call_count self.old + count) (2 ^ 64 - 1) }
     {

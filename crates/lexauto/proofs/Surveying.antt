@@ -7,7 +7,7 @@ use Rattle.lex_semantics.specs.Sound.{IsSound}
 use Rattle.lex_semantics.specs.Subsets.{HasSubsets, all_positions}
 use Rattle.lexauto.specs.Moving.{followers_in, reading_in}
 use Rattle.lexauto.specs.Keys.{Key, At}
-use Rattle.lexauto.specs.Explored.{IsAutomaton, MoreThan, Reached, key_at, step_by}
+use Rattle.lexauto.specs.Explored.{IsExplored, MoreThan, Reached, key_at, step_by}
 use Rattle.lexauto.specs.WordKeys.{step_in, IsRoot, AreRoots, AreStartPlaces, Grows, Surveys}
 use Rattle.lexauto.proofs.Counting.{root_shape, reached_shape, too_many_subsets}
 
@@ -39,13 +39,13 @@ module _ (S : Spec) (limit n : ℕ) where
       too_many_subsets S limit n (ks, many, apart, λ i k a. reached_shape S sound roots only k (reached i k a)) s
 
 pub surveyed : (S : Spec) (count : ℕ) → all_positions S.rules ≡ count → (find : Key → Option ℕ) (old roots keys : List Key) (next starts line_starts : List ℕ)
-    → AreRoots S find roots → IsAutomaton (step_by (followers_in S.rules count) (reading_in S.rules)) roots keys next
+    → AreRoots S find roots → IsExplored (step_by (followers_in S.rules count) (reading_in S.rules)) roots keys next
     → AreStartPlaces S false old starts → Grows old roots → length starts ≡ length S.conditions
     → AreStartPlaces S true roots line_starts → length line_starts ≡ length S.conditions → Surveys S keys next starts line_starts
 surveyed S count same find old roots keys next starts line_starts r automaton first grows first_len second second_len = record {
   roots = roots;
   only = r.only;
-  automaton = subst (λ (m : ℕ). IsAutomaton (step_by (followers_in S.rules m) (reading_in S.rules)) roots keys next) (sym same) automaton;
+  automaton = subst (λ (m : ℕ). IsExplored (step_by (followers_in S.rules m) (reading_in S.rules)) roots keys next) (sym same) automaton;
   dead = r.dead;
   starts_are = λ c h. grows (slice_index starts c) _ (first c h);
   starts_len = first_len;

@@ -7,7 +7,7 @@ use Rattle.std.proofs.lemmas.List.{get_or_push, get_or_append_left}
 use Rattle.lexauto.specs.Keys.{Key, At, Absent, Apart, Finds, Found}
 use Rattle.lex_semantics.specs.ByteSets.{has}
 use Rattle.lex_semantics.specs.Text.{IsText}
-use Rattle.lexauto.specs.Explored.{Changes, run, Reached, IsAutomaton, MoreThan, key_at, Exploring, Held, AreImages, TellsSoFar}
+use Rattle.lexauto.specs.Explored.{Changes, run, Reached, IsExplored, MoreThan, key_at, Exploring, Held, AreImages, TellsSoFar}
 use Rattle.lex_semantics.specs.Reading.{is_empty}
 use Rattle.lexauto.proofs.Places.{at_longer, at_shorter}
 
@@ -160,7 +160,7 @@ module _ (step : Key → ℕ → Key) where
       closed done i k [] a h = (i, a)
       closed done i k (b ∷ w) a h = closed done (slice_index next (i * 256 + b)) (step k b) w (all_moves done i b k h.0 a) h.1
 
-      pub finished : length keys ≤ length next / 256 → IsAutomaton step root keys next
+      pub finished : length keys ≤ length next / 256 → IsExplored step root keys next
       finished done = record {
         starts = e.starts;
         apart = apart;

@@ -19,7 +19,7 @@ abbrev pub Reached : (Key → ℕ → Key) → List Key → Key → Type 0
 Reached step roots k = (i : ℕ) × (root : Key) × At roots i root × ((w : List ℕ) × IsText w × (run step root w ≡ k))
 
 -- these keys are all that are reached, each once, the roots first, and their moves are the steps
-pub record IsAutomaton (step : Key → ℕ → Key) (roots : List Key) (keys : List Key) (next : List ℕ) : Type 0 where
+pub record IsExplored (step : Key → ℕ → Key) (roots : List Key) (keys : List Key) (next : List ℕ) : Type 0 where
   pub starts : (i : ℕ) (k : Key) → At roots i k → At keys i k
   pub apart : Apart keys
   pub only : (i : ℕ) (k : Key) → At keys i k → Reached step roots k

@@ -7,7 +7,7 @@ use Rattle.lexauto_positions.specs.RuleAutomaton.{is_active}
 use Rattle.lexauto.specs.Sets.{tagged}
 use Rattle.lexauto.specs.Moving.{followers_in, reading_in}
 use Rattle.lexauto.specs.Keys.{Key, At, Finds}
-use Rattle.lexauto.specs.Explored.{step_by, IsAutomaton}
+use Rattle.lexauto.specs.Explored.{step_by, IsExplored}
 
 -- the key of a start: the active rules
 abbrev pub start_key : Spec → ℕ → Bool → Key
@@ -44,7 +44,7 @@ Grows old new = (i : ℕ) (k : Key) → At old i k → At new i k
 pub record Surveys (S : Spec) (keys : List Key) (next starts line_starts : List ℕ) : Type 0 where
   pub roots : List Key
   pub only : (i : ℕ) (k : Key) → At roots i k → IsRoot S k
-  pub automaton : IsAutomaton (step_in S) roots keys next
+  pub automaton : IsExplored (step_in S) roots keys next
   pub dead : At roots 0 []
   pub starts_are : AreStartPlaces S false roots starts
   pub starts_len : length starts ≡ length S.conditions

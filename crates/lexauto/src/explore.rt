@@ -6,7 +6,7 @@ ghost use Rattle.lex_semantics.specs.Text.{Ascending};
 ghost use Rattle.lexauto_positions.specs.Cursors.{Increases};
 ghost use Rattle.lexauto.specs.Sets.{lasts_in};
 ghost use Rattle.lexauto.specs.declared.explore.ExploreError.TheVariants.{Memory};
-ghost use Rattle.lexauto.specs.Explored.{Changes, GoOn, IsAutomaton, MoreThan, Reached, AreImages, goes_by, step_by};
+ghost use Rattle.lexauto.specs.Explored.{Changes, GoOn, IsExplored, MoreThan, Reached, AreImages, goes_by, step_by};
 ghost use Rattle.lexauto.specs.Moving.{HaveNoneAfter};
 ghost use Rattle.lexauto.specs.Keys.{At, Absent, Found, Finds, keys_in};
 ghost use Rattle.lexauto.specs.KeyPacking.{look_kept, kept_in, packed, unpacked};
@@ -278,7 +278,7 @@ pub(crate) fn explore<M: Moves>(
 ) -> Result<Explored, ExploreError>
     requires finds { Finds (look_kept roots.places) (kept_in roots.keys.items) }
     requires room { length roots.keys.items ≤ limit }
-    ensures ok { IfOk result (λ t. IsAutomaton (step_by (M.follow moves.now) (M.read moves.now))
+    ensures ok { IfOk result (λ t. IsExplored (step_by (M.follow moves.now) (M.read moves.now))
         (kept_in roots.keys.items) (kept_in t.keys.items) t.next.items) }
     ensures room { IfOk result (λ t. length t.keys.items ≤ limit) }
     ensures accepts { IfOk result (λ t. AreImages [] (M.accept moves.now) (kept_in t.keys.items)

@@ -5,7 +5,7 @@ use Rattle.std.proofs.lemmas.Bool.{leb-true, eqb-true, cond-true, cond-false, ca
 use Rattle.lex_semantics.specs.Text.{IsText}
 use Rattle.lexauto_dfa.specs.Machines.{moving}
 use Rattle.lexauto_dfa.proofs.Below.{holds}
-use Rattle.lexauto_dfa.specs.Parts.{states, next, after, accepts, IsReached}
+use Rattle.lexauto_dfa.specs.Parts.{states, next, after, accepts, IsReachedIn}
 use Rattle.lexauto_dfa.specs.declared.dfa.Parts.{Parts}
 use Rattle.lexauto_dfa.specs.Numbering.{InOrder}
 use Rattle.lexauto_dfa.specs.Automata.{bare}
@@ -30,7 +30,7 @@ module _ (p : Parts) (is : IsOfA p) where
   count : states p ≡ 3
   count = ap (λ l. length l) is.goes_on
 
-  reached : (s : ℕ) → s < states p → s ≢ 0 → IsReached p s
+  reached : (s : ℕ) → s < states p → s ≢ 0 → IsReachedIn p s
   reached zero lt not = absurd (not refl)
   reached (suc zero) lt not = (0, false, [], omega (arith, ap (λ l. length l) is.starts), tt, ap (λ l. slice_index l 0) is.starts)
   reached (suc (suc zero)) lt not = (0, false, 97 ∷ [], omega (arith, ap (λ l. length l) is.starts), (omega arith, tt), ap (λ s. next p s 97) (ap (λ l. slice_index l 0) is.starts) ∙ goes 1 97)

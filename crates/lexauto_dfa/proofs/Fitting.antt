@@ -11,7 +11,7 @@ use Rattle.lex_semantics.specs.Reports.{HasFit}
 use Rattle.lex_semantics.specs.Machine.{state_after}
 use Rattle.lex_semantics.specs.MachineLaws.{MachineLaws}
 use Rattle.lex_semantics.specs.TableFor.{TableFor}
-use Rattle.lexauto_dfa.specs.Parts.{states, conditions, start, accepts, IsReached}
+use Rattle.lexauto_dfa.specs.Parts.{states, conditions, start, accepts, IsReachedIn}
 use Rattle.lexauto_dfa.specs.Invariant.{IsAutomaton}
 use Rattle.lexauto_dfa.specs.Automata.{machine_in}
 use Rattle.lexauto_dfa.specs.declared.dfa.Parts.{Parts}
@@ -21,7 +21,7 @@ there : (S : Spec) (c : ℕ) (line_start : Bool) (w : List ℕ) (i : ℕ) → Ha
 there S c line_start w i (k, fit) = slice_get_within S.rules i fit.rule fit.at
 
 module _ (p : Parts) (a : IsAutomaton p) (S : Spec) (sound : IsSound S) (count : conditions p ≡ length S.conditions) (table : TableFor (machine_in p S) S) where
-  reached : (s i : ℕ) → Among (accepts p s) i → IsReached p s → i < length S.rules
+  reached : (s i : ℕ) → Among (accepts p s) i → IsReachedIn p s → i < length S.rules
   reached s i among (c, line_start, w, low, text, e) =
       let known : c < length S.conditions = omega (arith, low, count) in
       let same : state_after (machine_in p S) c line_start w ≡ s = walk_after p S (start p c line_start) w ∙ e in

@@ -5,7 +5,7 @@ use Rattle.std.proofs.Common.{rules, inl, inr, refl, ap, sym, subst, ◌∙◌, 
 use Rattle.std.proofs.lemmas.Bool.{cases_lt, cond-true}
 use Rattle.lex_semantics.specs.Text.{IsText, Among}
 use Rattle.lexauto_dfa.specs.Invariant.{IsAutomaton}
-use Rattle.lexauto_dfa.specs.Parts.{conditions, states, start, next, lists_in, accepts, goes_on, after, IsReached, LeadsOn}
+use Rattle.lexauto_dfa.specs.Parts.{conditions, states, start, next, lists_in, accepts, goes_on, after, IsReachedIn, LeadsOn}
 use Rattle.lexauto_dfa.specs.declared.dfa.Parts.{Parts}
 use Rattle.lexauto_dfa.proofs.Machinery.{past_end, dead_after}
 use Rattle.lexauto_dfa.specs.LeastTables as A
@@ -65,12 +65,12 @@ start_low p c line_start a = elim (cases_lt c (conditions p)) [
     known true h = a.lines_known c (let l = a.lines in omega (arith, l, h))
     known false h = a.starts_known c h
 
-pub reached_in : (p : Parts) → length p.line_starts.items ≡ length p.starts.items → (s : ℕ) → A.IsReached (automaton_of p) s → IsReached p s
+pub reached_in : (p : Parts) → length p.line_starts.items ≡ length p.starts.items → (s : ℕ) → A.IsReached (automaton_of p) s → IsReachedIn p s
 reached_in p lines s (i, w, low, text, e) =
     let (c, line_start, known, is) = turn_at p.starts.items p.line_starts.items i lines low in
     (c, line_start, w, known, text, ap (λ (t : ℕ). after p t w) (sym is) ∙ sym (after_same p (slice_index (by_turns p.starts.items p.line_starts.items) i) w text) ∙ e)
 
-reached_out : (p : Parts) → length p.line_starts.items ≡ length p.starts.items → (s : ℕ) → IsReached p s → A.IsReached (automaton_of p) s
+reached_out : (p : Parts) → length p.line_starts.items ≡ length p.starts.items → (s : ℕ) → IsReachedIn p s → A.IsReached (automaton_of p) s
 reached_out p lines s (c, line_start, w, low, text, e) = from line_start (after_same p (start p c line_start) w text ∙ e)
   where
     len : length (by_turns p.starts.items p.line_starts.items) ≡ 2 * length p.starts.items

@@ -13,7 +13,7 @@ use Rattle.lex_semantics.proofs.Actions.{action_of}
 use Rattle.lex_semantics.specs.Machine.{walk}
 use Rattle.lex_semantics.specs.MachineLaws.{MachineLaws, LeadsToAccept}
 use Rattle.lexauto_dfa.specs.Machines as M
-use Rattle.lexauto_dfa.specs.Parts.{states, start, next, lists_in, accepts, goes_on, after, IsReached, LeadsOn}
+use Rattle.lexauto_dfa.specs.Parts.{states, start, next, lists_in, accepts, goes_on, after, IsReachedIn, LeadsOn}
 use Rattle.lexauto_dfa.specs.Invariant.{IsAutomaton}
 use Rattle.lexauto_dfa.specs.Automata.{machine_in}
 use Rattle.lexauto_dfa.specs.declared.dfa.Parts.{Parts}
@@ -73,7 +73,7 @@ automaton_of_laws p S count laws reached some few lines rows lists starts_known 
   );
 }
   where
-    from : (s : ℕ) → s ≢ 0 → M.IsDeadOrReached (machine_in p S) S s → IsReached p s
+    from : (s : ℕ) → s ≢ 0 → M.IsDeadOrReached (machine_in p S) S s → IsReachedIn p s
     from s other (inl e) = absurd (other e)
     from s other (inr (c, line_start, w, low, text, e)) = (c, line_start, w, omega (arith, count, low), text, sym (walk_after p S (start p c line_start) w) ∙ e)
 

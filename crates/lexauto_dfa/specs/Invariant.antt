@@ -4,7 +4,7 @@ use Rattle.std.specs.Coded.{×_prop, Unit-prop, le_prop}
 use Rattle.std.proofs.Props.{props}
 use Rattle.lex_semantics.specs.Limits.{max_states}
 use Rattle.lex_semantics.specs.Text.{Ascending}
-use Rattle.lexauto_dfa.specs.Parts.{states, next, accepts, goes_on, IsReached, LeadsOn}
+use Rattle.lexauto_dfa.specs.Parts.{states, next, accepts, goes_on, IsReachedIn, LeadsOn}
 use Rattle.lexauto_dfa.specs.declared.dfa.Parts.{Parts}
 
 pub record IsAutomaton (p : Parts) : Type 0 where
@@ -21,7 +21,7 @@ pub record IsAutomaton (p : Parts) : Type 0 where
   -- state 0 is dead
   pub dead_stays : (b : ℕ) → next p 0 b ≡ 0
   pub dead_accepts : accepts p 0 ≡ []
-  pub reached : (s : ℕ) → s < states p → s ≢ 0 → ∥ IsReached p s ∥₁
+  pub reached : (s : ℕ) → s < states p → s ≢ 0 → ∥ IsReachedIn p s ∥₁
   pub ascending : (s : ℕ) → s < states p → Ascending (accepts p s)
   pub goes_on : (s : ℕ) → s < states p → (goes_on p s ≡ true) ↔ ∥ LeadsOn p s ∥₁
 

@@ -40,7 +40,7 @@ impl Dfa {
 impl Dfa {
     ghost use Rattle.lex_semantics.specs.Limits.{max_states};
     ghost use Rattle.lex_semantics.specs.Text.{Ascending};
-    ghost use Rattle.lexauto_dfa.specs.Parts.{IsReached, LeadsOn};
+    ghost use Rattle.lexauto_dfa.specs.Parts.{IsReachedIn, LeadsOn};
     ghost use Rattle.lexauto_dfa.specs.Automata.{lists_of, conditions_of, states_of};
     ghost use Rattle.lexauto_dfa.specs.Automata.{start_of, next_of, accepts_of, goes_on_of};
 
@@ -99,7 +99,7 @@ impl Dfa {
         ensures states { result ≡ states_of self.now }
         ensures some { 1 ≤ result }
         ensures few { result ≤ max_states }
-        ensures reached { (s : ℕ) → s < result → s ≢ 0 → ∥ IsReached (lists_of self.now) s ∥₁ }
+        ensures reached { (s : ℕ) → s < result → s ≢ 0 → ∥ IsReachedIn (lists_of self.now) s ∥₁ }
     {
         self.parts.goes_on.len() as u32
     }

@@ -6,7 +6,7 @@ use Rattle.std.specs.Prelude.{IfOk, Result, Ok, Err}
 use Rattle.lex_semantics.specs.Tree.{Tree, Trees, Empty, Cat, Alt, Star, Repeat, tree, trees}
 use Rattle.lex_semantics.specs.Positions.{positions, positions_of, copies}
 use Rattle.lex_semantics.specs.Shapes.{IsSoundTree}
-use Rattle.lexauto_positions.specs.Flow.{is_none, passes, comes, exits, exits_each, exits_some, enters, enters_each, enters_some}
+use Rattle.lexauto_positions.specs.Flow.{has_no_number, passes, comes, exits, exits_each, exits_some, enters, enters_each, enters_some}
 use Rattle.lexauto_positions.specs.RuleFlow.{reads, each_read, copies_read}
 use Rattle.lexauto_positions.specs.Alike.{Alike, AlikeAll}
 use Rattle.lexauto_positions.specs.Plans.{plans, tree_in, trees_in, trees_laid, plan_of, IsSized, AreSized}
@@ -93,7 +93,7 @@ module _ (m : ℕ) (n : Option ℕ) where
   copies_left k x S base i = passes (x S) base k m false i (copies m n)
 
   abbrev copies_next : ℕ → Left → Next → Next
-  copies_next k x y S q base i = comes (y S q) (x S) (is_none n) base k i (copies m n)
+  copies_next k x y S q base i = comes (y S q) (x S) (has_no_number n) base k i (copies m n)
 
   abbrev copies_letters : ℕ → Letters → Letters
   copies_letters k z b q base = copies_read (z b q) base k (copies m n)

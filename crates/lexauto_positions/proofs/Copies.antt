@@ -5,7 +5,7 @@ use Rattle.std.proofs.lemmas.Bool.{ne_eqb}
 use Rattle.lex_semantics.specs.Tree.{Tree, Trees, Empty, Set, Cat, Alt, Star, Repeat, no_trees, tree}
 use Rattle.lex_semantics.specs.Positions.{copies, positions, positions_of}
 use Rattle.lex_semantics.specs.Shapes.{IsSoundTree, AreSoundTrees}
-use Rattle.lexauto_positions.specs.Flow.{is_zero, is_none, passes, comes, exits, exits_each, exits_some, enters, enters_each, enters_some}
+use Rattle.lexauto_positions.specs.Flow.{is_zero, has_no_number, passes, comes, exits, exits_each, exits_some, enters, enters_each, enters_some}
 
 pub and_false : (b : Bool) → (b && false) ≡ false
 and_false true = refl
@@ -95,7 +95,7 @@ module _ (S : ℕ → Bool) where
       nothing_comes (Star t) h z base i = nothing_comes t h z base (i || exits t S base false)
       nothing_comes (Repeat t m n) h z base i =
           let b = bounds_some m n h.1 in
-          comes_nothing (exits t S) (nothing_left t h.0 (factor_zero (copies m n) (positions t) b.1 z)) (positions t) (enters t S q) (nothing_comes t h.0 (factor_zero (copies m n) (positions t) b.1 z)) (is_none n) base i (copies m n)
+          comes_nothing (exits t S) (nothing_left t h.0 (factor_zero (copies m n) (positions t) b.1 z)) (positions t) (enters t S q) (nothing_comes t h.0 (factor_zero (copies m n) (positions t) b.1 z)) (has_no_number n) base i (copies m n)
 
       nothing_comes_each : (ts : Trees) → AreSoundTrees ts → positions_of ts ≡ 0 → (base : ℕ) (i : Bool) → enters_each ts S q base i ≡ false
       nothing_comes_each no_trees h z base i = refl

@@ -6,7 +6,7 @@ use Rattle.lex_semantics.specs.Tree.{Tree, Trees, Empty, Set, Cat, Alt, Star, Re
 use Rattle.lex_semantics.specs.Positions.{copies, positions}
 use Rattle.lexauto_positions.specs.PositionAutomaton.{Quad, fail, skip, cat, plus, opt, times, chain, repeated, quad, quad_all, quad_one}
 use Rattle.lexauto_positions.specs.Flows.{Exits, Enters}
-use Rattle.lexauto_positions.specs.Flow.{is_none, passes, comes, exits, exits_each, exits_some, enters, enters_each, enters_some}
+use Rattle.lexauto_positions.specs.Flow.{has_no_number, passes, comes, exits, exits_each, exits_some, enters, enters_each, enters_some}
 use Rattle.lexauto_positions.proofs.Flows.{exits_skip, exits_leaf, enters_leaf, exits_cat, enters_cat, exits_alt, enters_alt, enters_plus, exits_opt}
 use Rattle.lexauto_positions.proofs.Copies.{or_false}
 
@@ -168,7 +168,7 @@ module _ (S : ℕ → Bool) where
           both (or_is (come (base + j * s) (i || false)) (comes come leave true (base + j * s + s) s (leave (base + j * s) i) (suc m)))
           (both (either (comes_outside j i) (both more (enters_by (chain x (suc j) m) q (each j i)))) (back (enters_cat In (x j) (chain x (suc j) m) (i ≡ true) q)))
 
-      pub comes_is : (m : ℕ) (n : Option ℕ) (i : Bool) → (comes come leave (is_none n) base s i (copies m n) ≡ true) ↔ Enters (repeated x m n) (i ≡ true) In q
+      pub comes_is : (m : ℕ) (n : Option ℕ) (i : Bool) → (comes come leave (has_no_number n) base s i (copies m n) ≡ true) ↔ Enters (repeated x m n) (i ≡ true) In q
       comes_is m (Some n) i =
           let P : ℕ → Type 0 = λ b. (comes come leave false b s i n ≡ true) ↔ Enters (times x 0 m n) (i ≡ true) In q in
           subst P (sym at_first) (comes_times n 0 m i)

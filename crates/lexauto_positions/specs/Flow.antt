@@ -7,9 +7,9 @@ abbrev pub is_zero : ℕ → Bool
 is_zero zero = true
 is_zero (suc n) = false
 
-abbrev pub is_none : Option ℕ → Bool
-is_none None = true
-is_none (Some n) = false
+abbrev pub has_no_number : Option ℕ → Bool
+has_no_number None = true
+has_no_number (Some n) = false
 
 -- Whether n copies are left, the first at `base` and each further one `step` on, where `leave` passes one of them and
 -- after `needed` of them the others may be left out. `out`: they are left by now.
@@ -49,7 +49,7 @@ abbrev mutual
   enters (Cat ts) S q base i = enters_each ts S q base i
   enters (Alt ts) S q base i = enters_some ts S q base i
   enters (Star t) S q base i = enters t S q base (i || exits t S base false)
-  enters (Repeat t m n) S q base i = comes (enters t S q) (exits t S) (is_none n) base (positions t) i (copies m n)
+  enters (Repeat t m n) S q base i = comes (enters t S q) (exits t S) (has_no_number n) base (positions t) i (copies m n)
 
   pub enters_each : Trees → (ℕ → Bool) → ℕ → ℕ → Bool → Bool
   enters_each no_trees S q base i = false

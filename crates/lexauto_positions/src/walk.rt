@@ -4,7 +4,7 @@ ghost use Rattle.std.specs.Prelude.{◌==◌, true, false, length, map, slice_in
 ghost use Rattle.lex_semantics.specs.Active.{contains};
 ghost use Rattle.lex_semantics.specs.Positions.{positions, positions_of, copies};
 ghost use Rattle.lexauto_positions.specs.Cursors.{IsCursor, IsFront};
-ghost use Rattle.lexauto_positions.specs.Flow.{is_zero, is_none, passes, comes, exits, exits_each};
+ghost use Rattle.lexauto_positions.specs.Flow.{is_zero, has_no_number, passes, comes, exits, exits_each};
 ghost use Rattle.lexauto_positions.specs.Flow.{exits_some, enters, enters_each, enters_some};
 ghost use Rattle.lexauto_positions.specs.Plans.{plan_of, plans, tree_in, trees_in, IsSized, AreSized};
 
@@ -37,7 +37,7 @@ pub(crate) struct Copies {
 pub(crate) fn copies_of(least: u8, most: Option<u8>) -> Copies
     ensures least { result.least ≡ least }
     ensures count { result.count ≡ copies least most }
-    ensures loops { result.loops ≡ is_none most }
+    ensures loops { result.loops ≡ has_no_number most }
 {
     match most {
         Some(most) => Copies {

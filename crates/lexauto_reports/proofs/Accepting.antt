@@ -13,7 +13,7 @@ use Rattle.lex_semantics.specs.TableFor.{TableFor}
 use Rattle.lex_semantics.specs.TableLaws.{IsAccepted}
 use Rattle.lex_semantics.proofs.Fronts.{among_left, among_right, among_append}
 use Rattle.lex_semantics.proofs.TableReports.{useless_is}
-use Rattle.lexauto_dfa.specs.Parts.{conditions, states, start, lists_in, accepts, IsReached}
+use Rattle.lexauto_dfa.specs.Parts.{conditions, states, start, lists_in, accepts, IsReachedIn}
 use Rattle.lexauto_dfa.specs.Automata.{machine_in, accepts_of}
 use Rattle.lexauto_dfa.specs.Invariant.{IsAutomaton}
 use Rattle.lexauto_dfa.specs.declared.dfa.Dfa.{Dfa}
@@ -145,10 +145,10 @@ few_rules c r a b e =
 
 module _ (p : Parts) (automaton : IsAutomaton p) (S : Spec) (count : conditions p ≡ length S.conditions) (table : TableFor (machine_in p S) S) where
   -- a state that accepts a rule is reached
-  reached : (s i : ℕ) → s < states p → Among (accepts p s) i → ∥ IsReached p s ∥₁
+  reached : (s i : ℕ) → s < states p → Among (accepts p s) i → ∥ IsReachedIn p s ∥₁
   reached s i h a = automaton.reached s h (λ zero_is. subst (λ l. Among l i) (ap (accepts p) zero_is ∙ automaton.dead_accepts) a)
 
-  accepted_at : (s i : ℕ) → Among (accepts p s) i → IsReached p s → IsAccepted (machine_in p S) S i
+  accepted_at : (s i : ℕ) → Among (accepts p s) i → IsReachedIn p s → IsAccepted (machine_in p S) S i
   accepted_at s i a (c, line_start, w, known, text, is) = (
     c,
     line_start,

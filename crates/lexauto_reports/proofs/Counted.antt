@@ -5,7 +5,7 @@ use Rattle.lex_semantics.proofs.Texts.{is_text_append}
 use Rattle.lexauto_dfa.specs.Automata.{bare}
 use Rattle.lexauto_dfa.specs.Parts.{start, next, after}
 use Rattle.lexauto_dfa.specs.declared.dfa.Parts.{Parts}
-use Rattle.lexauto_reports.specs.BackWords.{Leads}
+use Rattle.lexauto_reports.specs.BackWords.{IsWordTo}
 use Rattle.lexauto_reports.specs.Counting.{step, walk, LeadsTo}
 
 step_is : (p : Parts) (s n b : ℕ) → n ≤ 2 → step p (3 * s + n) b ≡ 3 * next p s b + min (n + 1) 2
@@ -27,12 +27,12 @@ from_start p s w =
     let n : min (0 + length w) 2 ≡ min (length w) 2 = omega arith in
     ap (λ (x : ℕ). walk p x w) e ∙ walk_is p s 0 w (omega arith) ∙ ap (λ (k : ℕ). 3 * after p s w + k) n
 
-pub leads_from : (p : Parts) (s : ℕ) (w : List ℕ) → LeadsTo p w (3 * s + 2) → Leads (bare p) s w
+pub leads_from : (p : Parts) (s : ℕ) (w : List ℕ) → LeadsTo p w (3 * s + 2) → IsWordTo (bare p) s w
 leads_from p s w (y, (c, line_start, known, e), text, is) =
     let there : 3 * after p (start p c line_start) w + min (length w) 2 ≡ 3 * s + 2 = sym (from_start p (start p c line_start) w) ∙ ap (λ (x : ℕ). walk p x w) (sym e) ∙ is in
     (c, line_start, known, text, omega (arith, there), omega (arith, there))
 
-pub leads_into : (p : Parts) (s : ℕ) (w : List ℕ) → Leads (bare p) s w → LeadsTo p w (3 * s + 2)
+pub leads_into : (p : Parts) (s : ℕ) (w : List ℕ) → IsWordTo (bare p) s w → LeadsTo p w (3 * s + 2)
 leads_into p s w (c, line_start, known, text, two, is) =
     let there = from_start p (start p c line_start) w in
     (3 * start p c line_start, (c, line_start, known, refl), text, omega (arith, there, two, is))

@@ -19,16 +19,16 @@ abbrev pub Precedes : List ℕ → List ℕ → Type 0
 Precedes w v = (length w < length v) ⊎ ((length w ≡ length v) × Smaller w v)
 
 -- a word of two bytes or more leads to the state from a start
-abbrev pub Leads : Machine → ℕ → List ℕ → Type 0
-Leads M s w = (c : ℕ) × (line_start : Bool) × (c < M.conditions) × IsText w × (2 ≤ length w) × (state_after M c line_start w ≡ s)
+abbrev pub IsWordTo : Machine → ℕ → List ℕ → Type 0
+IsWordTo M s w = (c : ℕ) × (line_start : Bool) × (c < M.conditions) × IsText w × (2 ≤ length w) × (state_after M c line_start w ≡ s)
 
 -- of the words of two bytes or more that lead to the state, it is the shortest, and of these the first in byte order
 abbrev pub IsFirstWord : Machine → ℕ → List ℕ → Type 0
-IsFirstWord M s w = Leads M s w × ((v : List ℕ) → Leads M s v → (w ≡ v) ⊎ Precedes w v)
+IsFirstWord M s w = IsWordTo M s w × ((v : List ℕ) → IsWordTo M s v → (w ≡ v) ⊎ Precedes w v)
 
 -- the state goes on and accepts nothing, and a word of two bytes or more leads to it
 abbrev pub BacksUp : Parts → ℕ → Type 0
-BacksUp p s = (goes_on p s ≡ true) × (accepts p s ≡ []) × (w : List ℕ) × Leads (bare p) s w
+BacksUp p s = (goes_on p s ≡ true) × (accepts p s ≡ []) × (w : List ℕ) × IsWordTo (bare p) s w
 
 -- the machine is in the state after some back word of the specification
 abbrev pub IsAfterBackWord : Machine → Spec → ℕ → Type 0

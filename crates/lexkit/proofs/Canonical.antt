@@ -11,7 +11,7 @@ use Rattle.lexauto_dfa.specs.declared.dfa.Dfa.{Dfa}
 use Rattle.lexauto_dfa.specs.declared.dfa.Parts.{Parts}
 use Rattle.lexauto_dfa.specs.Least.{IsLeast, IsNumbered}
 use Rattle.lexauto_dfa.specs.LeastMachines as Machines
-use Rattle.lexauto_reports.specs.BackWords.{Leads, IsFirstWord, IsAfterBackWord}
+use Rattle.lexauto_reports.specs.BackWords.{IsWordTo, IsFirstWord, IsAfterBackWord}
 use Rattle.lexauto_reports.specs.declared.backup.BackUp.{BackUp}
 use Rattle.lextab_packed.specs.Machines.{table_machine}
 use Rattle.lextab_packed.specs.Steps.{step_of}
@@ -34,10 +34,10 @@ module _ (p : Parts) (S : Spec) (count : conditions p ≡ length S.conditions) w
   numbered_in n = subst (λ k. InOrder 0 (flat_map (λ c. start p c false ∷ start p c true ∷ []) (range_with_len 0 k)
       ++ flat_map (λ s. map (next p s) (range_with_len 0 256)) (range_with_len 0 (states p))) (states p - 1)) count n
 
-  leads_in : (s : ℕ) (w : List ℕ) → Leads (bare p) s w → Leads (machine_in p S) s w
+  leads_in : (s : ℕ) (w : List ℕ) → IsWordTo (bare p) s w → IsWordTo (machine_in p S) s w
   leads_in s w (c, line_start, low, text, two, e) = (c, line_start, omega (arith, low, count), text, two, e)
 
-  leads_out : (s : ℕ) (w : List ℕ) → Leads (machine_in p S) s w → Leads (bare p) s w
+  leads_out : (s : ℕ) (w : List ℕ) → IsWordTo (machine_in p S) s w → IsWordTo (bare p) s w
   leads_out s w (c, line_start, low, text, two, e) = (c, line_start, omega (arith, low, count), text, two, e)
 
   first_in : (s : ℕ) (w : List ℕ) → IsFirstWord (bare p) s w → IsFirstWord (machine_in p S) s w

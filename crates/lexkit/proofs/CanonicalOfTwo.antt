@@ -22,7 +22,7 @@ use Rattle.lextab_packed.proofs.Places.{each_of}
 use Rattle.lextab.specs.Packing.{IsPacked}
 use Rattle.lextab.specs.PackingExamples.{by_a, twice_a, TwiceA}
 use Rattle.lextab.proofs.Tabled.{packing_of, packed_of}
-use Rattle.lexkit.specs.CanonicalExamples.{two_as, table_of_two_as, CanonicalOfTwo}
+use Rattle.lexkit.specs.CanonicalExamples.{echo_two_as, table_of_two_as, CanonicalOfTwo}
 
 abbrev goes_on : ℕ → Bool
 goes_on s = slice_index_or (false ∷ true ∷ true ∷ false ∷ []) s false
@@ -96,28 +96,28 @@ place_of (b ∷ w) (low, text) = elim (cases_eq b 97) [
 abbrev aa : Rule
 aa = rule (string (codes "aa")) (Echo ∷ [])
 
-fits : (c : ℕ) (line_start : Bool) → c < 1 → Fits two_as c line_start two_a 0 2
-fits zero line_start low = word_fits two_as 0 line_start two_a 0 aa refl refl refl (string_in two_a (is_a, (is_a, tt))) (omega arith)
+fits : (c : ℕ) (line_start : Bool) → c < 1 → Fits echo_two_as c line_start two_a 0 2
+fits zero line_start low = word_fits echo_two_as 0 line_start two_a 0 aa refl refl refl (string_in two_a (is_a, (is_a, tt))) (omega arith)
 fits (suc c) line_start low = absurd (omega (arith, low))
 
-only_fits : (c : ℕ) (line_start : Bool) (w : List ℕ) (i k : ℕ) → Fits two_as c line_start w i k → (i ≡ 0) × (w ≡ two_a)
-only_fits c line_start w zero k h = (refl, string_is two_a (is_a, (is_a, tt)) w (fits_word two_as c line_start w 0 aa refl refl k h).0)
+only_fits : (c : ℕ) (line_start : Bool) (w : List ℕ) (i k : ℕ) → Fits echo_two_as c line_start w i k → (i ≡ 0) × (w ≡ two_a)
+only_fits c line_start w zero k h = (refl, string_is two_a (is_a, (is_a, tt)) w (fits_word echo_two_as c line_start w 0 aa refl refl k h).0)
 only_fits c line_start w (suc zero) k h = absurd (let e = h.at in cc)
 only_fits c line_start w (suc (suc i)) k h = absurd (let e = h.at in cc)
 
-accepts : (c : ℕ) (line_start : Bool) (w : List ℕ) (s i : ℕ) → c < 1 → Place w s → Among (M.accepts s) i ↔ Accepted two_as c line_start w i
-accepts c line_start w s i low = by_place (λ w s. Among (M.accepts s) i ↔ Accepted two_as c line_start w i)
+accepts : (c : ℕ) (line_start : Bool) (w : List ℕ) (s i : ℕ) → c < 1 → Place w s → Among (M.accepts s) i ↔ Accepted echo_two_as c line_start w i
+accepts c line_start w s i low = by_place (λ w s. Among (M.accepts s) i ↔ Accepted echo_two_as c line_start w i)
     (λ a. absurd a, λ ((k, h), first). absurd (let e : 0 ≡ 2 = ap (λ l. length l) (only_fits c line_start [] i k h).1 in omega (arith, e)))
     (λ a. absurd a, λ ((k, h), first). absurd (let e : 1 ≡ 2 = ap (λ l. length l) (only_fits c line_start (97 ∷ []) i k h).1 in omega (arith, e)))
     (to, λ ((k, h), first). inl (only_fits c line_start two_a i k h).0)
     (λ w never. (λ a. absurd a, λ ((k, h), first). absurd (never [] (append-nil w ∙ (only_fits c line_start w i k h).1)))) w s
   where
-    to : (i ≡ 0) ⊎ ⊥ → Accepted two_as c line_start two_a i
+    to : (i ≡ 0) ⊎ ⊥ → Accepted echo_two_as c line_start two_a i
     to (inr e) = absurd e
-    to (inl e) = subst (Accepted two_as c line_start two_a) (sym e) ((2, fits c line_start low), λ none j less. absurd (omega (arith, less)))
+    to (inl e) = subst (Accepted echo_two_as c line_start two_a) (sym e) ((2, fits c line_start low), λ none j less. absurd (omega (arith, less)))
 
-live : (c : ℕ) (line_start : Bool) (w : List ℕ) (s : ℕ) → c < 1 → Place w s → (goes_on s ≡ true) ↔ Live two_as c line_start w
-live c line_start w s low = by_place (λ w s. (goes_on s ≡ true) ↔ Live two_as c line_start w)
+live : (c : ℕ) (line_start : Bool) (w : List ℕ) (s : ℕ) → c < 1 → Place w s → (goes_on s ≡ true) ↔ Live echo_two_as c line_start w
+live c line_start w s low = by_place (λ w s. (goes_on s ≡ true) ↔ Live echo_two_as c line_start w)
     (λ e. (two_a, (omega arith, (omega arith, tt)), omega arith, 0, 2, fits c line_start low), λ l. refl)
     (λ e. (97 ∷ [], (omega arith, tt), omega arith, 0, 2, fits c line_start low), λ l. refl)
     (λ e. absurd cc, λ (u, text, some, i, k, h). absurd (let e : suc (suc (length u)) ≡ 2 = ap (λ l. length l) (only_fits c line_start (two_a ++ u) i k h).1 in omega (arith, e, some)))
@@ -134,7 +134,7 @@ placed c line_start w low text = subst (λ s. Place w (fold (step_of table_of_tw
 ordered : (w : List ℕ) (s : ℕ) → Place w s → Ascending (M.accepts s)
 ordered = by_place (λ w s. Ascending (M.accepts s)) tt tt ((λ y a. absurd a), tt) (λ w never. tt)
 
-table : TableFor M two_as
+table : TableFor M echo_two_as
 table = record {
   conditions = refl;
   count = refl;
@@ -146,16 +146,16 @@ table = record {
   ending = ending;
 }
   where
-    cut : (i : ℕ) (r : Rule) → slice_get two_as.rules i ≡ Some r → M.cut i ≡ r.cut
+    cut : (i : ℕ) (r : Rule) → slice_get echo_two_as.rules i ≡ Some r → M.cut i ≡ r.cut
     cut zero r e = let same : aa ≡ r = cc in ap (λ z. z.cut) same
     cut (suc zero) r e = absurd cc
     cut (suc (suc i)) r e = absurd cc
 
-    statements : (i : ℕ) → i < 1 → M.statements i ≡ statements_at (slice_get two_as.rules i)
+    statements : (i : ℕ) → i < 1 → M.statements i ≡ statements_at (slice_get echo_two_as.rules i)
     statements zero low = refl
     statements (suc i) low = absurd (omega (arith, low))
 
-    ending : (c : ℕ) → c < 1 → M.ending c ≡ end_at (slice_get two_as.conditions c)
+    ending : (c : ℕ) → c < 1 → M.ending c ≡ end_at (slice_get echo_two_as.conditions c)
     ending zero low = refl
     ending (suc c) low = absurd (omega (arith, low))
 

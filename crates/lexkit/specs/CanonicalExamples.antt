@@ -6,8 +6,8 @@ use Rattle.lextab_packed.specs.Table.{Table}
 use Rattle.lextab_file.specs.File.{file_of}
 use Rattle.lexkit.specs.Canonical.{IsCanonical}
 
-abbrev pub two_as : Spec
-two_as = echoing (string (codes "aa"))
+abbrev pub echo_two_as : Spec
+echo_two_as = echoing (string (codes "aa"))
 
 -- Matches start in state 1, from which `a` leads to state 2, and from there to state 3, where the rule is accepted.
 abbrev pub table_of_two_as : Table
@@ -23,4 +23,4 @@ table_of_two_as = record {
 }
 
 abbrev pub CanonicalOfTwo : Type 0
-CanonicalOfTwo = IsCanonical two_as (file_of table_of_two_as)
+CanonicalOfTwo = IsCanonical echo_two_as (file_of table_of_two_as)

@@ -8,7 +8,7 @@ use Rattle.lextab_packed.specs.Table.{Table}
 use Rattle.lextab_packed.specs.Steps.{machine_of_table}
 use Rattle.lextab_packed.specs.Invariant.{GoesOn}
 use Rattle.lextab_file.specs.File.{IsFileOf}
-use Rattle.lextab_file.specs.Refusals.{is_out_of_memory, refusal_of}
+use Rattle.lextab_file.specs.Refusals.{is_out_of_memory, read_refusal}
 use Rattle.lextab_file.specs.declared.error.TableError.TheVariants as errors
 use Rattle.lextab_file.specs.declared.error.TableError.{TableError}
 use Rattle.lex_semantics.specs.Subsets.{HasSubsets, all_positions}
@@ -60,7 +60,7 @@ TableRefusal bytes e = (t : Table) → IsFileOf t bytes → ⊥
 
 -- of bytes that are refused the fault is told that comes first from the left
 abbrev pub TellsFault : List ℕ → ScanError → Type 0
-TellsFault bytes (scans.Table e) = is_out_of_memory e ≡ false → refusal_of bytes ≡ Some e
+TellsFault bytes (scans.Table e) = is_out_of_memory e ≡ false → read_refusal bytes ≡ Some e
 TellsFault bytes other = ⊤
 
 -- What the calls of the source from s to s' give, and what those of the sink from t to t' write; whether the source has answered its

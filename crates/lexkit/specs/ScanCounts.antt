@@ -15,7 +15,7 @@ write_faults (Err (Run runs.Write)) = 1
 write_faults other = 0
 
 -- where the scan has ended, or the stack of conditions was at fault, what was written has been handed on
-abbrev pub HandedOn : Bool → Result ℕ ScanError → Type 0
-HandedOn flushed (Ok status) = flushed ≡ true
-HandedOn flushed (Err (Run runs.Stack)) = flushed ≡ true
-HandedOn flushed other = ⊤
+abbrev pub HandedOnAtEnd : Bool → Result ℕ ScanError → Type 0
+HandedOnAtEnd flushed (Ok status) = flushed ≡ true
+HandedOnAtEnd flushed (Err (Run runs.Stack)) = flushed ≡ true
+HandedOnAtEnd flushed other = ⊤

@@ -5,7 +5,7 @@ ghost use Rattle.lexscan_window.specs.declared.error.RunError.TheVariants.{Faile
 ghost use Rattle.lexkit.specs.Headline.{Headline, IsWithin, ScansBy, TableHeadline, TellsFault};
 ghost use Rattle.lexkit.specs.Generated.{HasTables};
 ghost use Rattle.lexkit.specs.declared.options.Options.{Options as Asked};
-ghost use Rattle.lexkit.specs.ScanCounts.{HandedOn, read_faults, write_faults};
+ghost use Rattle.lexkit.specs.ScanCounts.{HandedOnAtEnd, read_faults, write_faults};
 ghost use Rattle.lex_semantics.specs.Limits.{max_positions, max_states};
 ghost use Rattle.lex_semantics.specs.Sound.{IsSound};
 ghost use Rattle.lex_semantics.specs.Spec.{Spec as Meant};
@@ -49,7 +49,7 @@ pub fn scan_spec<S: Source, K: Sink>(
     ensures ends_stay { S.ends source.old ≤ S.ends source.new }
     ensures one_end { S.ends source.new ≤ S.ends source.old + 1 }
     ensures not_failed { IsErrOf result (ScanError.Run Failed) → ⊥ }
-    ensures handed_on { HandedOn (K.flushed sink.new) result }
+    ensures handed_on { HandedOnAtEnd (K.flushed sink.new) result }
 {
     let spec = match read_text(alloc, text, options) {
         Err(error) => return Err(ScanError::Generate(error)),
@@ -80,7 +80,7 @@ pub fn scan_by<S: Source, K: Sink>(
     ensures ends_stay { S.ends source.old ≤ S.ends source.new }
     ensures one_end { S.ends source.new ≤ S.ends source.old + 1 }
     ensures not_failed { IsErrOf result (ScanError.Run Failed) → ⊥ }
-    ensures handed_on { HandedOn (K.flushed sink.new) result }
+    ensures handed_on { HandedOnAtEnd (K.flushed sink.new) result }
 {
     let least = match least_automaton(alloc, spec, limits) {
         Err(error) => return Err(ScanError::Generate(error)),
@@ -116,7 +116,7 @@ pub fn scan_made<S: Source, K: Sink>(
     ensures ends_stay { S.ends source.old ≤ S.ends source.new }
     ensures one_end { S.ends source.new ≤ S.ends source.old + 1 }
     ensures not_failed { IsErrOf result (ScanError.Run Failed) → ⊥ }
-    ensures handed_on { HandedOn (K.flushed sink.new) result }
+    ensures handed_on { HandedOnAtEnd (K.flushed sink.new) result }
 {
     let flat = match Flat::new(alloc, tables) {
         Err(_) => return Err(ScanError::Generate(GenError::OutOfMemory)),
@@ -149,7 +149,7 @@ pub fn scan_table<S: Source, K: Sink>(
     ensures ends_stay { S.ends source.old ≤ S.ends source.new }
     ensures one_end { S.ends source.new ≤ S.ends source.old + 1 }
     ensures not_failed { IsErrOf result (ScanError.Run Failed) → ⊥ }
-    ensures handed_on { HandedOn (K.flushed sink.new) result }
+    ensures handed_on { HandedOnAtEnd (K.flushed sink.new) result }
 {
     let flat = match read_flat(alloc, bytes) {
         Err(error) => return Err(ScanError::Table(error)),

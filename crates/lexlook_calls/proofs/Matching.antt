@@ -2,7 +2,7 @@
 use Rattle.std.proofs.Common.{◌≡◌, ◌↔◌, ◌≤◌, ℕ, Bool, List, length, take, Option, Some, None, sym, ◌∙◌, arith}
 use Rattle.std.proofs.lemmas.List.{length-take-le}
 use Rattle.lex_semantics.proofs.Texts.{is_text_take}
-use Rattle.lexlook_specs.specs.Matches.{RuleMatches, IsInput, IsCopied, Takes}
+use Rattle.lexlook_specs.specs.Matches.{RuleMatches, IsInput, IsCopied, TakesText}
 use Rattle.lexlook_specs.specs.Words.{AreTakers, AreWords, IsFirst, IsWordOf, TellsDefault}
 use Rattle.lexlook_specs.specs.declared.words.finding.ShownText.{ShownText}
 use Rattle.lexlook_specs.specs.declared.words.finding.Word.{Word}
@@ -23,10 +23,10 @@ module _ (m n : RuleMatches) (a : AreAlike m n) where
   from_input : (c : ℕ) (w : List ℕ) → IsInput n c w → IsInput m c w
   from_input c w h = record { condition = (let e = a.conditions in let low = h.condition in omega (arith, e, low)); text = h.text; some = h.some }
 
-  to_takes : (c : ℕ) (line : Bool) (w : List ℕ) (i : ℕ) → IsInput m c w → Takes m c line w i → Takes n c line w i
+  to_takes : (c : ℕ) (line : Bool) (w : List ℕ) (i : ℕ) → IsInput m c w → TakesText m c line w i → TakesText n c line w i
   to_takes c line w i h t = ((a.fits c line w i h).0 t.0, λ j low f. sym (a.gives_up j) ∙ t.1 j low ((a.fits c line w j h).1 f))
 
-  from_takes : (c : ℕ) (line : Bool) (w : List ℕ) (i : ℕ) → IsInput m c w → Takes n c line w i → Takes m c line w i
+  from_takes : (c : ℕ) (line : Bool) (w : List ℕ) (i : ℕ) → IsInput m c w → TakesText n c line w i → TakesText m c line w i
   from_takes c line w i h t = ((a.fits c line w i h).1 t.0, λ j low f. a.gives_up j ∙ t.1 j low ((a.fits c line w j h).0 f))
 
   front_input : (c k : ℕ) (y : List ℕ) → IsInput m c y → 1 ≤ k → k ≤ length y → IsInput m c (take k y)
@@ -60,7 +60,7 @@ module _ (m n : RuleMatches) (a : AreAlike m n) where
   }
 
   to_tells : (i : ℕ) (x : Word) → IsWordOf m i x → IsWordOf n i x
-  to_tells i (Taken q) t = to_first (λ c line w. Takes m c line w i) (λ c line w. Takes n c line w i) (λ c line w h. (to_takes c line w i h, from_takes c line w i h)) q t
+  to_tells i (Taken q) t = to_first (λ c line w. TakesText m c line w i) (λ c line w. TakesText n c line w i) (λ c line w h. (to_takes c line w i h, from_takes c line w i h)) q t
   to_tells i (Never js) t = to_takers i js.items t
 
   to_default : (o : Option ShownText) → TellsDefault m o → TellsDefault n o

@@ -25,7 +25,7 @@ use Rattle.lexlook_tables.specs.Comparing.{Compares}
 use Rattle.lexlook_tables.specs.Scans.{BeginTogether}
 use Rattle.lexlook_tables.specs.declared.same.tables.Comparison.{Comparison}
 use Rattle.lexlook_tables.specs.declared.same.tables.Comparison.TheVariants.{Same, Conditions, Ends, Texts}
-use Rattle.lexlook_calls.specs.Compared.{Holds}
+use Rattle.lexlook_calls.specs.Compared.{HoldsOfSides}
 use Rattle.lexlook_calls.specs.Looks.{names_of}
 use Rattle.lexlook_calls.specs.Naming.{AreNamed, ArePaired}
 use Rattle.lexlook_calls.specs.SameFiles.{SameScanAlike, EqualAreSame}
@@ -116,7 +116,7 @@ module _ (one_table : (t u : Table) (x y : List ℕ) → IsTable t → IsTable u
       not_file : is_table_file g.bytes.now ≡ false → ⊥
       not_file e = (let f : true ≡ false = sym file ∙ e in cc)
 
-      by : (s t : Option Spec) (M N : Machine) → StandsFor options g.bytes.now M s → StandsFor options g.bytes.now N t → (c : Comparison) → Holds (record { name = a.name; machine = M; given = s }) (record { name = b.name; machine = N; given = t }) order c → c ≡ Same
+      by : (s t : Option Spec) (M N : Machine) → StandsFor options g.bytes.now M s → StandsFor options g.bytes.now N t → (c : Comparison) → HoldsOfSides (record { name = a.name; machine = M; given = s }) (record { name = b.name; machine = N; given = t }) order c → c ≡ Same
       by (Some S) t M N x y c held = absurd (not_file x.0)
       by None (Some T) M N x y c held = absurd (not_file y.0)
       by None None M N x y Same held = refl

@@ -13,7 +13,7 @@ use Rattle.lexlook_tables.specs.Comparing.{Compares}
 use Rattle.lexlook_tables.specs.declared.same.tables.Comparison.{Comparison}
 use Rattle.lexlook_tables.specs.declared.same.tables.Comparison.TheVariants.{Same, Conditions, Ends, Texts}
 use Rattle.lexlook_tables.proofs.Lists.{some_at}
-use Rattle.lexlook_calls.specs.Compared.{Holds, IsFirstRefused, TellsSame}
+use Rattle.lexlook_calls.specs.Compared.{HoldsOfSides, IsFirstRefused, TellsSame}
 use Rattle.lexlook_calls.specs.Looks.{names_of}
 use Rattle.lexlook_calls.specs.Lines.{Side, IsLabelled}
 use Rattle.lexlook_calls.specs.Naming.{ArePaired}
@@ -73,7 +73,7 @@ last_of [] y d = refl
 last_of (x ∷ xs) y d = last_of xs y d
 
 -- what a comparison found holds of files whose conditions are paired so
-pub holds_of : (a b : Side) (order : List ℕ) (told : Comparison) → ArePaired a.given b.given order → Compares order a.machine b.machine told → Holds a b order told
+pub holds_of : (a b : Side) (order : List ℕ) (told : Comparison) → ArePaired a.given b.given order → Compares order a.machine b.machine told → HoldsOfSides a b order told
 holds_of a b order Same paired same = (paired, same)
 holds_of a b order Conditions paired differ = λ o p. differ
 holds_of a b order (Ends c) paired ends = (paired, ends)

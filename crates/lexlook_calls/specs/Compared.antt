@@ -13,11 +13,11 @@ use Rattle.lexlook_calls.specs.declared.error.LookError.{LookError}
 use Rattle.lexlook_calls.specs.declared.error.LookError.TheVariants.{Refused, Table, OutOfMemory, Write}
 
 -- This holds of two files whose conditions are paired so. Their conditions are told to differ if no pairing leaves as many.
-abbrev pub Holds : Side → Side → List ℕ → Comparison → Type 0
-Holds a b order Same = ArePaired a.given b.given order × Compares order a.machine b.machine Same
-Holds a b order Conditions = (o : List ℕ) → ArePaired a.given b.given o → a.machine.conditions ≡ b.machine.conditions → ⊥
-Holds a b order (Ends c) = ArePaired a.given b.given order × Compares order a.machine b.machine (Ends c)
-Holds a b order (Texts d) = ArePaired a.given b.given order × Compares order a.machine b.machine (Texts d)
+abbrev pub HoldsOfSides : Side → Side → List ℕ → Comparison → Type 0
+HoldsOfSides a b order Same = ArePaired a.given b.given order × Compares order a.machine b.machine Same
+HoldsOfSides a b order Conditions = (o : List ℕ) → ArePaired a.given b.given o → a.machine.conditions ≡ b.machine.conditions → ⊥
+HoldsOfSides a b order (Ends c) = ArePaired a.given b.given order × Compares order a.machine b.machine (Ends c)
+HoldsOfSides a b order (Texts d) = ArePaired a.given b.given order × Compares order a.machine b.machine (Texts d)
 
 -- the file is this one
 pub record IsSideOf (options : Options) (g : Given) (a : Side) : Type 0 where
@@ -34,7 +34,7 @@ is_same (Texts d) = false
 pub record Says {K : Type 0} (wrote : K → List ℕ → K → Type 0) (a b : Side) (s t : K) (answer : Result Bool LookError) : Type 0 where
   pub order : List ℕ
   pub told : Comparison
-  pub holds : Holds a b order told
+  pub holds : HoldsOfSides a b order told
   pub all : Bool
   pub counts : Counts all a.machine b.machine
   pub written : Appended (λ xs. wrote s xs t) (told_line a b order all told) answer

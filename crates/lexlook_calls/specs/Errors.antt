@@ -21,9 +21,9 @@ told_of pictures.OutOfMemory = OutOfMemory
 told_of pictures.Write = Write
 
 -- 1 where the answer is a write fault
-abbrev pub write_fault_count : {T : Type 0} → Result T LookError → ℕ
-write_fault_count (Ok v) = 0
-write_fault_count (Err Write) = 1
-write_fault_count (Err (Refused e)) = 0
-write_fault_count (Err (Table e)) = 0
-write_fault_count (Err OutOfMemory) = 0
+abbrev pub look_fault_count : {T : Type 0} → Result T LookError → ℕ
+look_fault_count (Ok v) = 0
+look_fault_count (Err Write) = 1
+look_fault_count (Err (Refused e)) = 0
+look_fault_count (Err (Table e)) = 0
+look_fault_count (Err OutOfMemory) = 0

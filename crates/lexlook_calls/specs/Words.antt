@@ -25,8 +25,8 @@ abbrev pub line_words : List ℕ → ℕ → List ℕ
 line_words lines i = codes " line " ++ decimal (slice_index lines i)
 
 -- a text, in which condition, and where a match of it is at the start of a line
-abbrev pub place_words : List (List ℕ) → ShownText → List ℕ
-place_words names p = concat (
+abbrev pub shown_place : List (List ℕ) → ShownText → List ℕ
+shown_place names p = concat (
     codes ": \"" ∷ flat_map in_quotes p.text.items ∷ codes "\" in " ∷ slice_index_or names p.condition [] ∷ start_words p.line_start
     ∷ codes "\n" ∷ [])
 
@@ -36,7 +36,7 @@ never_words lines [] = codes ": rule cannot be matched, no text fits it\n"
 never_words lines (j ∷ js) = concat (codes ": rule cannot be matched, its texts are taken at" ∷ flat_map (line_words lines) (j ∷ js) ∷ codes "\n" ∷ [])
 
 abbrev pub told_words : List (List ℕ) → List ℕ → Word → List ℕ
-told_words names lines (Taken p) = place_words names p
+told_words names lines (Taken p) = shown_place names p
 told_words names lines (Never js) = never_words lines js.items
 
 -- the line of a rule
@@ -47,7 +47,7 @@ word_line names lines i (Some x) = concat (codes "at" ∷ line_words lines i ∷
 -- the line of the default rule
 abbrev pub default_line : List (List ℕ) → Option ShownText → List ℕ
 default_line names None = codes "default rule cannot be matched\n"
-default_line names (Some p) = codes "default rule" ++ place_words names p
+default_line names (Some p) = codes "default rule" ++ shown_place names p
 
 -- a line for each rule, in the order of the file, and that of the default rule
 abbrev pub word_lines : List (List ℕ) → List ℕ → Words → List ℕ

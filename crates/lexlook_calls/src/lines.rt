@@ -4,7 +4,7 @@ ghost use Rattle.lex_semantics.specs.Limits.{max_positions, max_states};
 ghost use Rattle.lextab_packed.specs.Machines.{table_machine};
 ghost use Rattle.lexlook_calls.specs.Cuts.{rule_place, obstacle_line, cut_line, HasCondition, HasRule, CanTell};
 ghost use Rattle.lexlook_calls.specs.Cuts.{is_nothing, CutsOf, TellsCuts};
-ghost use Rattle.lexlook_calls.specs.Errors.{write_fault_count};
+ghost use Rattle.lexlook_calls.specs.Errors.{look_fault_count};
 ghost use Rattle.lexlook_calls.specs.Lines.{IsLabelled, side_as};
 ghost use Rattle.lexlook_calls.specs.Sides.{read_as};
 
@@ -117,7 +117,7 @@ fn tell_cuts<K: Sink>(alloc: Global, side: &Side, sink: &mut K) -> Result<bool, 
     requires few { K.failures sink.old < 2 ^ 64 - 1 }
     requires labels { (name : List ℕ) → IsLabelled (side_as name side.now) }
     ensures told { CutsOf K.wrote (table_machine side.now.tables) (read_as side.now.spec) sink.old sink.new result }
-    ensures failures { K.failures sink.new ≡ K.failures sink.old + write_fault_count result }
+    ensures failures { K.failures sink.new ≡ K.failures sink.old + look_fault_count result }
 {
     let found = match find_obstacle_in(alloc, &side.tables) {
         Err(_) => return Err(LookError::OutOfMemory),
@@ -146,7 +146,7 @@ pub fn tell_lines<K: Sink>(
     requires few_states { options.limits.states ≤ max_states }
     requires few { K.failures sink.old < 2 ^ 64 - 1 }
     ensures told { TellsCuts K.wrote options bytes.now sink.old sink.new result }
-    ensures failures { K.failures sink.new ≡ K.failures sink.old + write_fault_count result }
+    ensures failures { K.failures sink.new ≡ K.failures sink.old + look_fault_count result }
 {
     match side_of(alloc, bytes, options) {
         Err(error) => Err(error),

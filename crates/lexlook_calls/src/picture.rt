@@ -5,8 +5,8 @@ ghost use Rattle.lex_semantics.specs.Limits.{max_positions, max_states};
 ghost use Rattle.lex_semantics.specs.Text.{Among};
 ghost use Rattle.lexauto_dfa.specs.Automata.{accepts_of, conditions_of, states_of};
 ghost use Rattle.lexspec.specs.Views.{conditions_in, rules_in, spec_of};
-ghost use Rattle.lexlook_specs.specs.Faults.{write_fault_count as picture_fault_count};
-ghost use Rattle.lexlook_calls.specs.Errors.{write_fault_count};
+ghost use Rattle.lexlook_specs.specs.Faults.{look_fault_count as picture_fault_count};
+ghost use Rattle.lexlook_calls.specs.Errors.{look_fault_count};
 ghost use Rattle.lexlook_calls.specs.Looks.{Draws, picture_of};
 
 use crate::error::LookError;
@@ -48,7 +48,7 @@ pub fn draw<K: Sink>(
     requires few_states { options.limits.states ≤ max_states }
     requires few { K.failures sink.old < 2 ^ 64 - 1 }
     ensures told { Draws K.wrote options text.now sink.old sink.new result }
-    ensures failures { K.failures sink.new ≡ K.failures sink.old + write_fault_count result }
+    ensures failures { K.failures sink.new ≡ K.failures sink.old + look_fault_count result }
 {
     let spec = read_text(alloc, text, options)?;
     let least = least_automaton(alloc, &spec, options.limits)?;

@@ -2,8 +2,8 @@
 ghost use Rattle.std.specs.Prelude.{◌≡◌, ◌≤◌, ◌<◌, ◌+◌, ◌-◌, ◌^◌, List, ℕ, None, IfOk, IfSome};
 ghost use Rattle.lex_semantics.specs.Limits.{max_positions, max_states};
 ghost use Rattle.lexlook_tables.specs.declared.same.tables.Comparison.TheVariants.{Same, Conditions, Ends, Texts};
-ghost use Rattle.lexlook_calls.specs.Compared.{Holds, SaysOf, TellsSame, is_same};
-ghost use Rattle.lexlook_calls.specs.Errors.{write_fault_count};
+ghost use Rattle.lexlook_calls.specs.Compared.{HoldsOfSides, SaysOf, TellsSame, is_same};
+ghost use Rattle.lexlook_calls.specs.Errors.{look_fault_count};
 ghost use Rattle.lexlook_calls.specs.Lines.{IsLabelled, side_as};
 ghost use Rattle.lexlook_calls.specs.Naming.{ArePaired};
 ghost use Rattle.lexlook_calls.specs.Sides.{read_as};
@@ -64,7 +64,7 @@ fn compare_sides(alloc: Global, left: &Side, right: &Side) -> Result<Finding, Al
     requires left { (name : List ℕ) → IsLabelled (side_as name left.now) }
     requires right { (name : List ℕ) → IsLabelled (side_as name right.now) }
     ensures { IfOk result (λ f. (name other : List ℕ)
-        → Holds (side_as name left.now) (side_as other right.now) f.order.items f.told) }
+        → HoldsOfSides (side_as name left.now) (side_as other right.now) f.order.items f.told) }
 {
     match pairing(alloc, &left.spec, &right.spec)? {
         None => Ok(Finding {
@@ -97,7 +97,7 @@ fn tell<K: Sink>(
     requires right { (name : List ℕ) → IsLabelled (side_as name right.side.now) }
     ensures told { SaysOf K.wrote (side_as left.entry.name.now left.entry.side.now)
         (side_as right.entry.name.now right.entry.side.now) sink.old sink.new result }
-    ensures failures { K.failures sink.new ≡ K.failures sink.old + write_fault_count result }
+    ensures failures { K.failures sink.new ≡ K.failures sink.old + look_fault_count result }
 {
     let found = match compare_sides(alloc, left.side, right.side) {
         Err(_) => return Err(LookError::OutOfMemory),
@@ -127,7 +127,7 @@ pub fn tell_same<K: Sink>(
     requires few_states { options.limits.states ≤ max_states }
     requires few { K.failures sink.old < 2 ^ 64 - 1 }
     ensures told { TellsSame K.wrote options left.entry right.entry sink.old sink.new result }
-    ensures failures { K.failures sink.new ≡ K.failures sink.old + write_fault_count result }
+    ensures failures { K.failures sink.new ≡ K.failures sink.old + look_fault_count result }
 {
     let first = match side_of(alloc, left.bytes, options) {
         Err(error) => return Err(error),

@@ -1,7 +1,7 @@
 //! The lines of the matches of a scan.
 ghost use Rattle.std.specs.Prelude.{◌≡◌, ◌+◌, ◌-◌, ◌^◌, ◌<◌, ◌≤◌, nat_lt, IsErrOf};
 ghost use Rattle.lex_semantics.specs.Limits.{max_positions, max_states};
-ghost use Rattle.lexkit.specs.ScanCounts.{HandedOn, read_faults, write_faults};
+ghost use Rattle.lexkit.specs.ScanCounts.{HandedOnAtEnd, read_faults, write_faults};
 ghost use Rattle.lexlook_calls.specs.Tracing.{Traces};
 ghost use Rattle.lexscan_window.specs.declared.error.RunError.TheVariants.{Failed};
 
@@ -34,7 +34,7 @@ pub fn trace<S: Source, K: Sink>(
     ensures ends_stay { S.ends source.old ≤ S.ends source.new }
     ensures one_end { S.ends source.new ≤ S.ends source.old + 1 }
     ensures not_failed { IsErrOf result (ScanError.Run Failed) → ⊥ }
-    ensures handed_on { HandedOn (K.flushed sink.new) result }
+    ensures handed_on { HandedOnAtEnd (K.flushed sink.new) result }
 {
     let spec = match read_text(alloc, text, options) {
         Err(error) => return Err(ScanError::Generate(error)),

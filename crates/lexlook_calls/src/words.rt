@@ -9,10 +9,10 @@ ghost use Rattle.lex_semantics.specs.Text.{Among};
 ghost use Rattle.lexspec.specs.Views.{conditions_in, rules_in, spec_of};
 ghost use Rattle.lexkit.specs.Generated.{SpecRefusal, lines_of};
 ghost use Rattle.lexlook_specs.specs.Rejecting.{rejecting};
-ghost use Rattle.lexlook_calls.specs.Errors.{write_fault_count};
+ghost use Rattle.lexlook_calls.specs.Errors.{look_fault_count};
 ghost use Rattle.lexlook_calls.specs.Looks.{names_of};
 ghost use Rattle.lexlook_calls.specs.Words.{AreLabelled, AreWordsOf, HasLabels, TellsWords};
-ghost use Rattle.lexlook_calls.specs.Words.{default_line, line_words, never_words, place_words, word_line, word_lines};
+ghost use Rattle.lexlook_calls.specs.Words.{default_line, line_words, never_words, shown_place, word_line, word_lines};
 
 use crate::error::LookError;
 use crate::labels::{add_start, add_string, names_of};
@@ -49,7 +49,7 @@ fn name_of<'a>(names: &[&'a [u8]], condition: u8) -> &'a [u8]
 /// Appends a text and where a match of it starts.
 fn add_place(text: &mut Vec<u8>, names: &[&[u8]], place: &ShownText) -> Result<(), AllocError>
     requires { place.now.condition < length names.now }
-    ensures { OnOk result (text.new.items ≡ text.old.items ++ place_words (map (λ n. n.now) names.now) place.now) }
+    ensures { OnOk result (text.new.items ≡ text.old.items ++ shown_place (map (λ n. n.now) names.now) place.now) }
 {
     add(text, b": \"")?;
     add_string(text, place.text.as_slice())?;
@@ -183,7 +183,7 @@ pub fn tell_words<K: Sink>(
     requires few_states { options.limits.states ≤ max_states }
     requires few { K.failures sink.old < 2 ^ 64 - 1 }
     ensures told { TellsWords K.wrote options text.now sink.old sink.new result }
-    ensures failures { K.failures sink.new ≡ K.failures sink.old + write_fault_count result }
+    ensures failures { K.failures sink.new ≡ K.failures sink.old + look_fault_count result }
 {
     let spec = read_text(alloc, text, options)?;
     let found = words_of(alloc, spec, options.limits)?;

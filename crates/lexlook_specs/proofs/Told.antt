@@ -27,7 +27,7 @@ flag_not b t f = absurd cc
 
 module _ (p : Parts) (a : IsAutomaton p) (rejects : List Bool) where
   -- an automaton's state tells which rules take the text
-  pub takes_is : (c : ℕ) (line : Bool) (w : List ℕ) (i : ℕ) → M.Takes (matches_in p rejects) c line w i ↔ MeetsAfter p rejects w (Takes i) c line
+  pub takes_is : (c : ℕ) (line : Bool) (w : List ℕ) (i : ℕ) → M.TakesText (matches_in p rejects) c line w i ↔ MeetsAfter p rejects w (Takes i) c line
   takes_is c line w i =
       let r = takers_are rejects (accepts p (after p (start p c line) w)) i (ascending_at p a (after p (start p c line) w)) in
       (λ t. r.1 t, λ t. r.0 t)
@@ -46,7 +46,7 @@ module _ (p : Parts) (a : IsAutomaton p) (rejects : List Bool) where
 
   module _ (words : List (List ℕ)) (places : List (Option ℕ)) (found : AreFound p words places) where
     -- a rule that takes a text does so at the place of a word that is not after it
-    pub takes_placed : (c : ℕ) (line : Bool) (w : List ℕ) (i : ℕ) → IsInput (matches_in p rejects) c w → M.Takes (matches_in p rejects) c line w i
+    pub takes_placed : (c : ℕ) (line : Bool) (w : List ℕ) (i : ℕ) → IsInput (matches_in p rejects) c w → M.TakesText (matches_in p rejects) c line w i
         → (j : ℕ) × TakesAt p rejects places (states p) i j × NotAfter (at words j) w
     takes_placed c line w i h t =
         let s = after p (start p c line) w in
@@ -58,7 +58,7 @@ module _ (p : Parts) (a : IsAutomaton p) (rejects : List Bool) where
     pub first_taken : (i j : ℕ) (x : Start) (q : ShownText) → TakesAt p rejects places (states p) i j → ((k : ℕ) → TakesAt p rejects places (states p) i k → j ≤ k)
         → IsFirstStart p rejects (at words j) (Takes i) (conditions p) (Some x)
         → q.condition ≡ x.condition → q.line_start ≡ x.line_start → q.text.items ≡ at words j
-        → IsFirst (matches_in p rejects) (λ c line w. M.Takes (matches_in p rejects) c line w i) q
+        → IsFirst (matches_in p rejects) (λ c line w. M.TakesText (matches_in p rejects) c line w i) q
     first_taken i j x q (s, low, m, is) least begins same_c same_l same_w =
         let there = placed_leads p words places found s j is in
         let l = there.3 in

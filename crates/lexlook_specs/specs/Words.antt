@@ -3,7 +3,7 @@
 use Rattle.std.specs.Prelude.{◌≡◌, ◌⊎◌, ◌↔◌, ℕ, ◌<◌, Bool, true, List, length, Option, Some, None, slice_get}
 use Rattle.lex_semantics.specs.Text.{Among, Ascending}
 use Rattle.lexauto_reports.specs.BackWords.{Precedes}
-use Rattle.lexlook_specs.specs.Matches.{RuleMatches, IsInput, Takes, TakesOf, IsCopied}
+use Rattle.lexlook_specs.specs.Matches.{RuleMatches, IsInput, TakesText, TakesOf, IsCopied}
 use Rattle.lexlook_specs.specs.declared.words.finding.ShownText.{ShownText}
 use Rattle.lexlook_specs.specs.declared.words.finding.Word.{Word}
 use Rattle.lexlook_specs.specs.declared.words.finding.Word.TheVariants.{Taken, Never}
@@ -25,13 +25,13 @@ pub record IsFirst (m : RuleMatches) (P : ℕ → Bool → List ℕ → Type 0) 
 
 -- the rules that take the texts of one that takes none, ascending
 pub record AreTakers (m : RuleMatches) (i : ℕ) (js : List ℕ) : Type 0 where
-  pub none : (c : ℕ) (line : Bool) (w : List ℕ) → IsInput m c w → Takes m c line w i → ⊥
+  pub none : (c : ℕ) (line : Bool) (w : List ℕ) → IsInput m c w → TakesText m c line w i → ⊥
   pub ascending : Ascending js
   pub takers : (j : ℕ) → Among js j ↔ TakesOf m i j
 
 -- what is told of a rule: the first text that it takes, or by which rules its texts are taken
 abbrev pub IsWordOf : RuleMatches → ℕ → Word → Type 0
-IsWordOf m i (Taken p) = IsFirst m (λ c line w. Takes m c line w i) p
+IsWordOf m i (Taken p) = IsFirst m (λ c line w. TakesText m c line w i) p
 IsWordOf m i (Never js) = AreTakers m i js.items
 
 -- what is told of the default rule: the first text of which it copies a byte, which is one byte long

@@ -12,7 +12,7 @@ use Rattle.lextab_packed.specs.Views.{table_of}
 use Rattle.lextab_packed.specs.declared.tables.Tables.{Tables}
 use Rattle.lextab_packed.proofs.Places.{row_is}
 use Rattle.lextab_packed.proofs.Rejecting.{some_rejects}
-use Rattle.lexlook_tables.specs.Same.{deed_of, deed_in, AreSame, number_in, rules_at}
+use Rattle.lexlook_tables.specs.Same.{deed_of, deed_in, AlwaysAgree, number_in, rules_at}
 use Rattle.lexlook_tables.specs.Comparing.{Counts, HaveEnds}
 use Rattle.lexlook_tables.specs.Scans.{ScanAlike, BeginTogether}
 use Rattle.lexlook_tables.proofs.Scanning.{scan_alike}
@@ -38,12 +38,12 @@ module _ (t : Tables) (none : NoReject (table_machine t)) where
   first_is_all s = take_all 1 ((table_machine t).accepts s) (one_at_most s)
 
 -- so two tables do the same of all rules of a state
-all_same : (order : List ℕ) (all : Bool) (t u : Tables) → Counts all (table_machine t) (table_machine u) → AreSame order all (table_machine t) (table_machine u) → AreSame order true (table_machine t) (table_machine u)
+all_same : (order : List ℕ) (all : Bool) (t u : Tables) → Counts all (table_machine t) (table_machine u) → AlwaysAgree order all (table_machine t) (table_machine u) → AlwaysAgree order true (table_machine t) (table_machine u)
 all_same order true t u counts same = same
 all_same order false t u counts same = λ c line w lt text some. (
     let s = state_after (table_machine t) c line w in
     let r = state_after (table_machine u) (number_in order c) line w in
     ap (map (deed_in order (table_machine t))) (sym (first_is_all t counts.0 s)) ∙ same c line w lt text some ∙ ap (map (deed_of (table_machine u))) (first_is_all u counts.1 r))
 
-pub tables_scan_alike : (order : List ℕ) (all : Bool) (t u : Tables) → Counts all (table_machine t) (table_machine u) → AreSame order all (table_machine t) (table_machine u) → HaveEnds order (table_machine t) (table_machine u) None → BeginTogether order → ScanAlike (table_machine t) (table_machine u)
+pub tables_scan_alike : (order : List ℕ) (all : Bool) (t u : Tables) → Counts all (table_machine t) (table_machine u) → AlwaysAgree order all (table_machine t) (table_machine u) → HaveEnds order (table_machine t) (table_machine u) None → BeginTogether order → ScanAlike (table_machine t) (table_machine u)
 tables_scan_alike order all t u counts same ends = scan_alike order (table_machine t) (table_machine u) t.laws u.laws (all_same order all t u counts same) ends

@@ -5,7 +5,7 @@ use Rattle.std.specs.List.{list_any}
 use Rattle.std.proofs.lemmas.Bool.{and_parts, or_parts, eqb-true}
 use Rattle.lex_semantics.specs.Text.{Among}
 use Rattle.lex_semantics.specs.Spec.{Statement, Echo, Print, Begin, More, Less, Reject, End, Push, Pop, is_reject, has_reject}
-use Rattle.lexlook_tables.specs.Lines.{is_unsteady, is_begin, is_home, strays, is_steady, ends_line}
+use Rattle.lexlook_tables.specs.Lines.{is_unsteady, is_begin, is_home, strays, is_steady, leaves_line}
 
 -- An action neither ends the scan nor uses the stack of conditions, and sets no condition where it has REJECT.
 pub record IsSteady (ss : List Statement) : Type 0 where
@@ -68,7 +68,7 @@ steady_of ss e = record {
     plain : list_any is_unsteady ss ≡ false
     plain = not_true (list_any is_unsteady ss) both.0
 
-pub ends_of : (c : ℕ) (ss : List Statement) → ends_line c ss ≡ true → EndsLine c ss
+pub ends_of : (c : ℕ) (ss : List Statement) → leaves_line c ss ≡ true → EndsLine c ss
 ends_of c ss e = record { home = λ d at. home d (none_passes strays ss (Begin d) none at); begins = begins (nat_eq c 0) refl both.0; no_more = λ at. differ (none_passes strays ss More none at) }
   where
     both : ((nat_eq c 0 || list_any is_home ss) ≡ true) × (not (list_any strays ss) ≡ true)

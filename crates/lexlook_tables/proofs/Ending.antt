@@ -6,7 +6,7 @@ use Rattle.std.proofs.lemmas.List.{take_more, take_all, length-append, length-ma
 use Rattle.lex_semantics.specs.Text.{IsText}
 use Rattle.lex_semantics.specs.Machine.{Machine, walk, state_after}
 use Rattle.lex_semantics.proofs.MachineLaws.{walk-append}
-use Rattle.lexlook_tables.specs.Same.{deeds_at, deeds_in, number_in, Agree, AreSame, Differs, key}
+use Rattle.lexlook_tables.specs.Same.{deeds_at, deeds_in, number_in, Agree, AlwaysAgree, Differs, key}
 use Rattle.lexlook_tables.specs.declared.same.differing.Difference.{Difference}
 use Rattle.lexlook_tables.specs.declared.same.pairs.Pair.{Pair}
 use Rattle.lexlook_tables.specs.Searching.{HasAt, KeyAt, IsKey, start_key, IsFrom, IsSeen, AreStarts, Searched, DifferAt, IsTextOf}
@@ -141,7 +141,7 @@ module _ (order : List ℕ) (all : Bool) (M N : Machine) (m n : ℕ) (ps : List 
         ap (deeds_in order all M) (sym (r.3 ∙ ap (state_after M c line) whole)) ∙ h.agree r.1.left r.1.right inside.0 inside.1 (r.6 some) ∙ ap (deeds_at all N) (r.4 ∙ ap (state_after N (number_in order c) line) whole)
 
   -- at its end
-  pub are_same : length ps ≤ place → AreSame order all M N
+  pub are_same : length ps ≤ place → AlwaysAgree order all M N
   are_same done c line w below text some = agrees (length w) (λ i q at less. (let l = slice_get_within ps i q at in omega (arith, l, done))) c line w below text some (omega arith)
 
   -- where a byte leads to states that do not do the same

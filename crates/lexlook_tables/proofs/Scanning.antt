@@ -23,7 +23,7 @@ use Rattle.lex_semantics.proofs.Fronts.{among_append, among_left, among_right}
 use Rattle.lex_semantics.proofs.MachineRun.{state_sound, machine_listed, machine_run_exists}
 use Rattle.lex_semantics.proofs.Once.{one_candidates, one_run}
 use Rattle.lex_semantics.proofs.Texts.{is_text_drop}
-use Rattle.lexlook_tables.specs.Same.{number_in, renumbered, Deed, deed_of, deed_in, deeds_at, deeds_in, AreSame}
+use Rattle.lexlook_tables.specs.Same.{number_in, renumbered, Deed, deed_of, deed_in, deeds_at, deeds_in, AlwaysAgree}
 use Rattle.lexlook_tables.specs.Comparing.{HaveEnds}
 use Rattle.lexlook_tables.specs.Scans.{ScanAlike, BeginTogether}
 
@@ -259,7 +259,7 @@ module _ (M : Machine) (laws : MachineLaws M) where
       a : Acting
       a = record { text = kept ++ take m.keep y; written = out; condition = c; stack = cs; more = false; ended = None }
 
-module _ (order : List ℕ) (M N : Machine) (laws : MachineLaws M) (other : MachineLaws N) (same : AreSame order true M N) (ends : HaveEnds order M N None) where
+module _ (order : List ℕ) (M N : Machine) (laws : MachineLaws M) (other : MachineLaws N) (same : AlwaysAgree order true M N) (ends : HaveEnds order M N None) where
   abbrev R : Rules
   R = rules_of_machine M
 

@@ -7,7 +7,7 @@ use Rattle.lex_semantics.specs.Machine.{Machine, walk, state_after}
 use Rattle.lex_semantics.specs.MachineLaws.{MachineLaws}
 use Rattle.lex_semantics.proofs.MachineLaws.{walk-append}
 use Rattle.lexauto_reports.specs.BackWords.{Smaller}
-use Rattle.lexlook_tables.specs.Lines.{may_keep_last, is_steady, ends_line, after_line, LinesEnd, TakesLine}
+use Rattle.lexlook_tables.specs.Lines.{may_keep_last, is_steady, leaves_line, after_line, LinesEnd, TakesLine}
 use Rattle.lexlook_tables.specs.Reaching.{IsReached}
 use Rattle.lexlook_tables.specs.Obstacles.{FirstOf, Along, UnsteadyRule, RuleBeyond, StrayingRule, HindersAt, HindersIn, Hinders}
 use Rattle.lexlook_tables.specs.declared.lines.cutting.Obstacle.{Obstacle}
@@ -40,14 +40,14 @@ all_steady M none j lt = by (is_steady (M.statements j)) refl
     by false e = absurd (none j (j ∷ []) (lt, e, refl))
 
 -- the first rule that a state accepts and that strays
-pub straying_some : (M : Machine) (c s i : ℕ) → Ascending (M.accepts s) → (k : ℕ) → k < length (M.accepts s) → get_or (M.accepts s) k 0 ≡ i → may_keep_last (M.cut i) ≡ true → ends_line c (M.statements i) ≡ false
-    → ((j : ℕ) → Among (take k (M.accepts s)) j → may_keep_last (M.cut j) ≡ true → ends_line c (M.statements j) ≡ true) → FirstOf (StrayingRule M c s) (Some i)
+pub straying_some : (M : Machine) (c s i : ℕ) → Ascending (M.accepts s) → (k : ℕ) → k < length (M.accepts s) → get_or (M.accepts s) k 0 ≡ i → may_keep_last (M.cut i) ≡ true → leaves_line c (M.statements i) ≡ false
+    → ((j : ℕ) → Among (take k (M.accepts s)) j → may_keep_last (M.cut j) ≡ true → leaves_line c (M.statements j) ≡ true) → FirstOf (StrayingRule M c s) (Some i)
 straying_some M c s i asc k lt is keeps not before = (i ∷ [], (subst (Among (M.accepts s)) is (among_at (M.accepts s) k lt), keeps, not, refl), no)
   where
     no : (j : ℕ) (l : List ℕ) → StrayingRule M c s j l → Smaller l (i ∷ []) → ⊥
     no j l g less = differ (sym g.2 ∙ before j (among_before (M.accepts s) k j asc lt g.0 (subst (λ z. j < z) (sym is) (one_less j i (subst (λ z. Smaller z (i ∷ [])) g.3 less)))) g.1)
 
-pub straying_none : (M : Machine) (c s : ℕ) → ((j : ℕ) → Among (M.accepts s) j → may_keep_last (M.cut j) ≡ true → ends_line c (M.statements j) ≡ true) → FirstOf (StrayingRule M c s) None
+pub straying_none : (M : Machine) (c s : ℕ) → ((j : ℕ) → Among (M.accepts s) j → may_keep_last (M.cut j) ≡ true → leaves_line c (M.statements j) ≡ true) → FirstOf (StrayingRule M c s) None
 straying_none M c s keeps j l g = differ (sym g.2 ∙ keeps j g.0 g.1)
 
 -- what does not lead to a rule goes on no more, and the other way round
@@ -175,10 +175,10 @@ module _ (M : Machine) (c : ℕ) where
           stopped line w text = ap M.goes_on (newline line w) ∙ stops M laws (M.next (state_after M c line w) 10)
               (λ i k g. none (Crosses c i) (length w ∷ cond line 1 0 ∷ w ++ 0 ∷ k) (to_texts line w text (Crosses c i) (0 ∷ k) (refl, k, g, refl))) (M.goes_on (M.next (state_after M c line w) 10)) refl
 
-          ended : (line : Bool) (w : List ℕ) → IsText w → (i : ℕ) → Among (M.accepts (after_line M c line w)) i → may_keep_last (M.cut i) ≡ true → ends_line c (M.statements i) ≡ true
-          ended line w text i at keeps = by (ends_line c (M.statements i)) refl
+          ended : (line : Bool) (w : List ℕ) → IsText w → (i : ℕ) → Among (M.accepts (after_line M c line w)) i → may_keep_last (M.cut i) ≡ true → leaves_line c (M.statements i) ≡ true
+          ended line w text i at keeps = by (leaves_line c (M.statements i)) refl
             where
-              by : (b : Bool) → ends_line c (M.statements i) ≡ b → ends_line c (M.statements i) ≡ true
+              by : (b : Bool) → leaves_line c (M.statements i) ≡ b → leaves_line c (M.statements i) ≡ true
               by true e = e
               by false e = absurd (none (Strays c i) (length w ∷ cond line 1 0 ∷ w ++ 1 ∷ i ∷ []) (to_texts line w text (Strays c i) (1 ∷ i ∷ []) (refl, i ∷ [], (subst (λ z. Among (M.accepts z) i) (newline line w) at, keeps, e, refl), refl)))
 

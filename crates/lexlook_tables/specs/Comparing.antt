@@ -4,7 +4,7 @@ use Rattle.lex_semantics.specs.Machine.{Machine}
 use Rattle.lex_semantics.specs.MachineLaws.{NoReject, SomeReject}
 use Rattle.lexlook_tables.specs.declared.same.tables.Comparison.{Comparison}
 use Rattle.lexlook_tables.specs.declared.same.tables.Comparison.TheVariants.{Same, Conditions, Ends, Texts}
-use Rattle.lexlook_tables.specs.Same.{AreSame, Differs, number_in}
+use Rattle.lexlook_tables.specs.Same.{AlwaysAgree, Differs, number_in}
 use Rattle.lexlook_tables.specs.Scans.{ScanAlike, BeginTogether}
 
 -- all rules that a state accepts count where some rule has REJECT, and else the first alone
@@ -23,7 +23,7 @@ pub record DoSame (order : List ℕ) (M N : Machine) : Type 0 where
   pub ends : HaveEnds order M N None
   pub all : Bool
   pub counts : Counts all M N
-  pub same : AreSame order all M N
+  pub same : AlwaysAgree order all M N
   pub scan : BeginTogether order → ScanAlike M N
 
 abbrev pub Compares : List ℕ → Machine → Machine → Comparison → Type 0

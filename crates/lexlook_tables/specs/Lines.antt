@@ -45,8 +45,8 @@ abbrev pub is_steady : List Statement → Bool
 is_steady ss = not (list_any is_unsteady ss) && not (list_any is_begin ss && has_reject ss)
 
 -- An action that takes a newline in condition c leaves the scan in INITIAL, with no text kept by yymore.
-abbrev pub ends_line : ℕ → List Statement → Bool
-ends_line c ss = (nat_eq c 0 || list_any is_home ss) && not (list_any strays ss)
+abbrev pub leaves_line : ℕ → List Statement → Bool
+leaves_line c ss = (nat_eq c 0 || list_any is_home ss) && not (list_any strays ss)
 
 -- after the newline that ends this text
 abbrev pub after_line : Machine → ℕ → Bool → List ℕ → ℕ
@@ -54,7 +54,7 @@ after_line M c line w = state_after M c line (w ++ 10 ∷ [])
 
 -- each rule that takes the newline after this text leaves the scan in INITIAL
 abbrev pub EndsLineAfter : Machine → ℕ → Bool → List ℕ → Type 0
-EndsLineAfter M c line w = (i : ℕ) → Among (M.accepts (after_line M c line w)) i → may_keep_last (M.cut i) ≡ true → ends_line c (M.statements i) ≡ true
+EndsLineAfter M c line w = (i : ℕ) → Among (M.accepts (after_line M c line w)) i → may_keep_last (M.cut i) ≡ true → leaves_line c (M.statements i) ≡ true
 
 -- a newline alone is taken by some rule, and not by the default rule (POSIX, Actions in lex)
 pub record TakesLine (M : Machine) (c : ℕ) (line : Bool) : Type 0 where

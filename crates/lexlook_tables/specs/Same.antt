@@ -50,8 +50,8 @@ abbrev pub Agree : List ℕ → Bool → Machine → Machine → ℕ → Bool �
 Agree order all M N c line w = deeds_in order all M (state_after M c line w) ≡ deeds_at all N (state_after N (number_in order c) line w)
 
 -- of each match
-abbrev pub AreSame : List ℕ → Bool → Machine → Machine → Type 0
-AreSame order all M N = (c : ℕ) (line : Bool) (w : List ℕ) → c < M.conditions → IsText w → 1 ≤ length w → Agree order all M N c line w
+abbrev pub AlwaysAgree : List ℕ → Bool → Machine → Machine → Type 0
+AlwaysAgree order all M N = (c : ℕ) (line : Bool) (w : List ℕ) → c < M.conditions → IsText w → 1 ≤ length w → Agree order all M N c line w
 
 -- of each match of fewer bytes than this
 abbrev pub AgreeBelow : List ℕ → Bool → Machine → Machine → ℕ → Type 0

@@ -3,8 +3,8 @@ use Rattle.std.proofs.Common.{rules, ◌≡◌, ℕ, ◌+◌, ◌*◌, Bool, tru
 use Rattle.lex_semantics.specs.Positions.{positions, positions_of, copies}
 use Rattle.lex_semantics.specs.Shapes.{nodes, nodes_of}
 use Rattle.lex_semantics.specs.Tree.{Tree, Trees, Empty, Set, Cat, Alt, Star, Repeat, no_trees, tree}
-use Rattle.lexre.specs.Lengths.{least, least_of_each, least_of_some, greatest, greatest_of_each, greatest_of_some, lesser, larger, plus, repeated, unbounded}
-use Rattle.lexre.specs.Views.{emptied, emptied_each, marked, parts_of, tree_of}
+use Rattle.lexre.specs.Lengths.{least, least_of_each, least_of_some, greatest, greatest_of_each, greatest_of_some, lesser, larger, length_sum, length_repeated, unbounded}
+use Rattle.lexre.specs.Views.{emptied, emptied_each, emptied_if, parts_of, tree_of}
 use Rattle.lexre.specs.declared.pattern.Operands.{Operands}
 use Rattle.lexre.specs.declared.pattern.Pattern.{Pattern}
 use Rattle.lexre.specs.declared.pattern.Pattern.TheFolds as F
@@ -49,7 +49,7 @@ mutual
   same_nodes_each no_trees = refl
   same_nodes_each (tree t ts) = omega (arith, same_nodes t, same_nodes_each ts)
 
-pub marked_nodes : (b : Bool) (ts : Trees) → nodes_of (marked b ts) ≡ nodes_of ts
+pub marked_nodes : (b : Bool) (ts : Trees) → nodes_of (emptied_if b ts) ≡ nodes_of ts
 marked_nodes false ts = refl
 marked_nodes true ts = same_nodes_each ts
 
@@ -74,7 +74,7 @@ mutual
   least_zero_some no_trees = refl
   least_zero_some (tree t ts) = ap (λ k. unwrap_or (lesser (Some k) (least_of_some (emptied_each ts))) 0) (least_zero t) ∙ lesser_zero (least_of_some (emptied_each ts))
 
-repeated_zero : (n : Option ℕ) → repeated n (Some 0) ≡ Some 0
+repeated_zero : (n : Option ℕ) → length_repeated n (Some 0) ≡ Some 0
 repeated_zero None = refl
 repeated_zero (Some k) = ap Some (omega arith)
 
@@ -85,11 +85,11 @@ mutual
   greatest_zero (Cat ts) = greatest_zero_each ts
   greatest_zero (Alt ts) = greatest_zero_some ts
   greatest_zero (Star t) = ap unbounded (greatest_zero t)
-  greatest_zero (Repeat t m n) = ap (repeated n) (greatest_zero t) ∙ repeated_zero n
+  greatest_zero (Repeat t m n) = ap (length_repeated n) (greatest_zero t) ∙ repeated_zero n
 
   pub greatest_zero_each : (ts : Trees) → greatest_of_each (emptied_each ts) ≡ Some 0
   greatest_zero_each no_trees = refl
-  greatest_zero_each (tree t ts) = ap (λ g. plus g (greatest_of_each (emptied_each ts))) (greatest_zero t) ∙ ap (plus (Some 0)) (greatest_zero_each ts)
+  greatest_zero_each (tree t ts) = ap (λ g. length_sum g (greatest_of_each (emptied_each ts))) (greatest_zero t) ∙ ap (length_sum (Some 0)) (greatest_zero_each ts)
 
   pub greatest_zero_some : (ts : Trees) → greatest_of_some (emptied_each ts) ≡ Some 0
   greatest_zero_some no_trees = refl
@@ -97,31 +97,31 @@ mutual
 
 -- Parts that are marked.
 
-pub marked_again : (b : Bool) (ts : Trees) → b ≡ true → emptied_each (marked b ts) ≡ marked b ts
+pub marked_again : (b : Bool) (ts : Trees) → b ≡ true → emptied_each (emptied_if b ts) ≡ emptied_if b ts
 marked_again true ts e = each_emptied_again ts
 marked_again false ts e = cc
 
-pub marked_positions : (b : Bool) (ts : Trees) → b ≡ true → positions_of (marked b ts) ≡ 0
+pub marked_positions : (b : Bool) (ts : Trees) → b ≡ true → positions_of (emptied_if b ts) ≡ 0
 marked_positions true ts e = no_positions_each ts
 marked_positions false ts e = cc
 
-pub marked_least : (b : Bool) (ts : Trees) → b ≡ true → least_of_each (marked b ts) ≡ 0
+pub marked_least : (b : Bool) (ts : Trees) → b ≡ true → least_of_each (emptied_if b ts) ≡ 0
 marked_least true ts e = least_zero_each ts
 marked_least false ts e = cc
 
-pub marked_least_some : (b : Bool) (ts : Trees) → b ≡ true → unwrap_or (least_of_some (marked b ts)) 0 ≡ 0
+pub marked_least_some : (b : Bool) (ts : Trees) → b ≡ true → unwrap_or (least_of_some (emptied_if b ts)) 0 ≡ 0
 marked_least_some true ts e = least_zero_some ts
 marked_least_some false ts e = cc
 
-pub marked_greatest : (b : Bool) (ts : Trees) → b ≡ true → greatest_of_each (marked b ts) ≡ Some 0
+pub marked_greatest : (b : Bool) (ts : Trees) → b ≡ true → greatest_of_each (emptied_if b ts) ≡ Some 0
 marked_greatest true ts e = greatest_zero_each ts
 marked_greatest false ts e = cc
 
-pub marked_greatest_some : (b : Bool) (ts : Trees) → b ≡ true → greatest_of_some (marked b ts) ≡ Some 0
+pub marked_greatest_some : (b : Bool) (ts : Trees) → b ≡ true → greatest_of_some (emptied_if b ts) ≡ Some 0
 marked_greatest_some true ts e = greatest_zero_some ts
 marked_greatest_some false ts e = cc
 
-pub marked_rightly : (b : Bool) (ts : Trees) → (b ≡ true → emptied_each ts ≡ ts) → marked b ts ≡ ts
+pub marked_rightly : (b : Bool) (ts : Trees) → (b ≡ true → emptied_each ts ≡ ts) → emptied_if b ts ≡ ts
 marked_rightly true ts same = same refl
 marked_rightly false ts same = refl
 

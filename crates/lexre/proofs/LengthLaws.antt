@@ -6,14 +6,14 @@ use Rattle.std.specs.Result.{OkIff, result_ok}
 use Rattle.lex_semantics.specs.Tree.{Tree, Trees, Empty, Set, Cat, Alt, Star, Repeat, no_trees, tree, Iterates, In, InEach, InSome}
 use Rattle.lex_semantics.specs.Shapes.{Language, LongestIs, HasLengths, IsSoundTree, AreSoundTrees, HasPart}
 use Rattle.lexre_bytes.proofs.Narrowing.{fits, too_large}
-use Rattle.lexre.specs.Lengths.{plus, larger, lesser, unbounded, repeated, least, least_of_each, least_of_some, greatest, greatest_of_each, greatest_of_some, capped, PassesLimit}
+use Rattle.lexre.specs.Lengths.{length_sum, larger, lesser, unbounded, length_repeated, least, least_of_each, least_of_some, greatest, greatest_of_each, greatest_of_some, capped, PassesLimit}
 
 -- ---- caps
 
 cap_times : (k n : ℕ) → min (2 ^ 32) (k * min (2 ^ 32) n) ≡ min (2 ^ 32) (k * n)
 cap_times k n = grind arith
 
-pub capped_scaled : (k m r : ℕ) (x : Option ℕ) → Some m ≡ option_map capped x → r ≡ min (2 ^ 32) (k * m) → Some r ≡ option_map capped (repeated (Some k) x)
+pub capped_scaled : (k m r : ℕ) (x : Option ℕ) → Some m ≡ option_map capped x → r ≡ min (2 ^ 32) (k * m) → Some r ≡ option_map capped (length_repeated (Some k) x)
 capped_scaled k m r None e f = cc
 capped_scaled k m r (Some n) e f =
     let here : m ≡ min (2 ^ 32) n = cc in
@@ -40,7 +40,7 @@ Both L M w = (u : List ℕ) × (v : List ℕ) × (w ≡ u ++ v) × L u × M v
 of_two : (w u v : List ℕ) → w ≡ u ++ v → length w ≡ length u + length v
 of_two w u v e = ap length e ∙ length-append u v
 
-both_longest : (L M : Language) (a b : ℕ) (x y : Option ℕ) → HasLengths L a x → HasLengths M b y → LongestIs (Both L M) (plus x y)
+both_longest : (L M : Language) (a b : ℕ) (x y : Option ℕ) → HasLengths L a x → HasLengths M b y → LongestIs (Both L M) (length_sum x y)
 both_longest L M a b (Some m) (Some n) h k =
     let p = h.longest in
     let q = k.longest in (
@@ -56,7 +56,7 @@ both_longest L M a b None y h k =
     let q = k.shortest in
     (p.0 ++ q.0, (p.0, q.0, refl, p.1, q.1), omega (arith, of_two (p.0 ++ q.0) p.0 q.0 refl, p.2))
 
-both_lengths : (L M : Language) (a b : ℕ) (x y : Option ℕ) → HasLengths L a x → HasLengths M b y → HasLengths (Both L M) (a + b) (plus x y)
+both_lengths : (L M : Language) (a b : ℕ) (x y : Option ℕ) → HasLengths L a x → HasLengths M b y → HasLengths (Both L M) (a + b) (length_sum x y)
 both_lengths L M a b x y h k = record {
   shortest = (let p = h.shortest in
       let q = k.shortest in
@@ -123,7 +123,7 @@ times_more k a n h = grind arith
 times_less : (m k a : ℕ) → m ≤ k → m * a ≤ k * a
 times_less m k a h = grind arith
 
-several_longest : (L : Language) (a least : ℕ) (most x : Option ℕ) → IfSome most (λ n. (least ≤ n) × (1 ≤ n)) → HasLengths L a x → LongestIs (Several L least most) (repeated most x)
+several_longest : (L : Language) (a least : ℕ) (most x : Option ℕ) → IfSome most (λ n. (least ≤ n) × (1 ≤ n)) → HasLengths L a x → LongestIs (Several L least most) (length_repeated most x)
 several_longest L a least None None ok h = λ n.
     let w = h.longest n in
     let v = several_of L least None w.0 w.1 (suc least) (omega arith) tt in
@@ -149,7 +149,7 @@ several_longest L a least (Some m) (Some b) ok h =
       λ u (k, low, high, joined). omega (arith, at_most L b h.longest.1 0 k u joined, times_less k m b high),
     )
 
-several_lengths : (L : Language) (a least : ℕ) (most x : Option ℕ) → IfSome most (λ n. (least ≤ n) × (1 ≤ n)) → HasLengths L a x → HasLengths (Several L least most) (least * a) (repeated most x)
+several_lengths : (L : Language) (a least : ℕ) (most x : Option ℕ) → IfSome most (λ n. (least ≤ n) × (1 ≤ n)) → HasLengths L a x → HasLengths (Several L least most) (least * a) (length_repeated most x)
 several_lengths L a least most x ok h = record {
   shortest = (let w = h.shortest in
       let v = several_of L least most w.0 w.1 least (omega arith) (fits_below least most ok) in

@@ -10,7 +10,7 @@ use Rattle.lex_semantics.specs.Shapes.{IsSoundTree, nodes}
 use Rattle.lex_semantics.specs.Tree.{Tree}
 use Rattle.lexre.specs.Definitions.{Definitions}
 use Rattle.lexre.specs.Counting.{capped_nodes}
-use Rattle.lexre.specs.Names.{Trees, usable, AreKnown}
+use Rattle.lexre.specs.Names.{NamedTrees, usable, AreKnown}
 use Rattle.lexre.specs.Reading.{StandsIn, NoneWithin}
 use Rattle.lexre.specs.declared.options.ReadOptions.{ReadOptions}
 use Rattle.lexre.proofs.GrammarLaws.{chosen}
@@ -33,7 +33,7 @@ some_usable left k u e =
     let (below, same) = chosen (nat_le k.1 left) k u e in
     (leb-true k.1 left below, same)
 
-pub known_usable : (how : ReadOptions) (definitions : Definitions) (trees : Trees) (left : ℕ) (n : List ℕ) (t : Tree) (needed : ℕ) → AreKnown how definitions trees
+pub known_usable : (how : ReadOptions) (definitions : Definitions) (trees : NamedTrees) (left : ℕ) (n : List ℕ) (t : Tree) (needed : ℕ) → AreKnown how definitions trees
     → usable left (map.get trees n) ≡ Some (t, needed) → (needed ≤ left) × StandsIn how definitions needed n t × IsSoundTree t
 known_usable how definitions trees left n t needed known e = go (map.get trees n) refl e
   where
@@ -51,7 +51,7 @@ nothing_known how definitions n t left e = absurd (none_some (sym (map.get-empty
 abbrev Meant : ReadOptions → Definitions → List ℕ → Tree × ℕ → Type 0
 Meant how definitions n k = StandsIn how definitions k.1 n k.0 × IsSoundTree k.0
 
-pub still_known : (how : ReadOptions) (definitions : Definitions) (trees : Trees) (n : List ℕ) (t : Tree) (needed : ℕ) → AreKnown how definitions trees
+pub still_known : (how : ReadOptions) (definitions : Definitions) (trees : NamedTrees) (n : List ℕ) (t : Tree) (needed : ℕ) → AreKnown how definitions trees
     → StandsIn how definitions needed n t → IsSoundTree t → AreKnown how definitions (map.insert trees n (t, needed))
 still_known how definitions trees n t needed known stands sound q u k e =
     go (slice_cmp nat_cmp q n) refl (sym (map.get-insert nat_list_cmp_total trees n (t, needed) q) ∙ e)

@@ -12,7 +12,7 @@ use Rattle.lexre_bytes.specs.Lexical.{after_word, run_at, number_at, name_at, es
 use Rattle.lexre_bytes.specs.Symbols.{item, name}
 use Rattle.lexre.specs.Grammar.{SpellsWithin}
 use Rattle.lexre.specs.Limits.{max_nodes, max_open}
-use Rattle.lexre.specs.PatternExamples.{a, b, c, ab, a_or_b, letter, quote, backslash, signed_often, repeated_often, enclosed, Is, IsNone, plain, folding, over_series, Items, Classes, ClassNames, Escapes, Folded, Joined, Operators, OverItems, OverSeries, Named, Bounds, Refused, RefusedItems}
+use Rattle.lexre.specs.PatternExamples.{a, b, c, ab, a_or_b, one_letter, quote, backslash, signed_often, repeated_often, enclosed, Is, IsNone, plain, folding, over_series, Items, Classes, ClassNames, Escapes, Folded, Joined, Operators, OverItems, OverSeries, Named, Bounds, Refused, RefusedItems}
 use Rattle.lexre.specs.Running.{state, fresh, pushed}
 use Rattle.lexre.specs.declared.options.ReadOptions.{ReadOptions}
 use Rattle.lexre.proofs.GrammarLaws.{spelled_runs, runs_spelled}
@@ -32,7 +32,7 @@ unfolding after_word run_at number_at name_at escape_at quoted_tree class_name_a
 items = (
   is_tree plain 20 (codes "a") a refl refl,
   is_tree plain 20 (codes ".") (Set (complement (single 10))) refl refl,
-  is_tree plain 20 (backslash ++ codes "n") (letter 10) refl refl,
+  is_tree plain 20 (backslash ++ codes "n") (one_letter 10) refl refl,
   is_tree plain 20 (codes "[a-c]") (Set (range_set 97 99)) refl refl,
   is_tree plain 20 (codes "[^a]") (Set (complement (single 97))) refl refl,
   is_tree plain 20 (quote ++ quote) Empty refl refl,
@@ -70,12 +70,12 @@ class_names = (
 pub escapes : Escapes
 unfolding after_word run_at number_at name_at escape_at quoted_tree class_name_at enclosed_by bracketed_at range_at element_at elements_at class_at span class_set bounded interval_at braces_at symbol_at has set_of empty_set single range_set union complement other_case fold_case is_alpha is_digit is_alnum simple_escape octal_at hexadecimal_at until_quote take_up_to is_xdigit
 escapes = (
-  is_tree plain 20 (codes "\\x411") (Cat (trees (letter 65 ∷ letter 49 ∷ []))) refl refl,
-  is_tree plain 20 (codes "\\1011") (Cat (trees (letter 65 ∷ letter 49 ∷ []))) refl refl,
-  is_tree plain 20 (codes "\\x") (letter 120) refl refl,
-  is_tree plain 20 (codes "\\a\\b\\f\\n\\r\\t\\v") (Cat (trees (letter 7 ∷ letter 8 ∷ letter 12 ∷ letter 10 ∷ letter 13 ∷ letter 9 ∷ letter 11 ∷ []))) refl refl,
-  is_tree plain 20 (codes "\\*") (letter 42) refl refl,
-  is_tree plain 20 (codes "\"a\\\"b\"") (Cat (trees (a ∷ letter 34 ∷ b ∷ []))) refl refl,
+  is_tree plain 20 (codes "\\x411") (Cat (trees (one_letter 65 ∷ one_letter 49 ∷ []))) refl refl,
+  is_tree plain 20 (codes "\\1011") (Cat (trees (one_letter 65 ∷ one_letter 49 ∷ []))) refl refl,
+  is_tree plain 20 (codes "\\x") (one_letter 120) refl refl,
+  is_tree plain 20 (codes "\\a\\b\\f\\n\\r\\t\\v") (Cat (trees (one_letter 7 ∷ one_letter 8 ∷ one_letter 12 ∷ one_letter 10 ∷ one_letter 13 ∷ one_letter 9 ∷ one_letter 11 ∷ []))) refl refl,
+  is_tree plain 20 (codes "\\*") (one_letter 42) refl refl,
+  is_tree plain 20 (codes "\"a\\\"b\"") (Cat (trees (a ∷ one_letter 34 ∷ b ∷ []))) refl refl,
 )
 
 pub folded : Folded

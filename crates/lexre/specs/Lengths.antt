@@ -4,10 +4,10 @@ use Rattle.lex_semantics.specs.Tree.{Tree, Trees, Empty, Set, Cat, Alt, Star, Re
 use Rattle.lex_semantics.specs.Shapes.{HasLengths}
 
 -- Of two greatest lengths, None where there is none: their sum.
-abbrev pub plus : Option ℕ → Option ℕ → Option ℕ
-plus (Some m) (Some n) = Some (m + n)
-plus (Some m) None = None
-plus None n = None
+abbrev pub length_sum : Option ℕ → Option ℕ → Option ℕ
+length_sum (Some m) (Some n) = Some (m + n)
+length_sum (Some m) None = None
+length_sum None n = None
 
 -- the larger of the two
 abbrev pub larger : Option ℕ → Option ℕ → Option ℕ
@@ -28,9 +28,9 @@ unbounded (Some (suc n)) = None
 unbounded None = None
 
 -- up to k times, or any number of times
-abbrev pub repeated : Option ℕ → Option ℕ → Option ℕ
-repeated None greatest = unbounded greatest
-repeated (Some k) greatest = option_map (λ n. k * n) greatest
+abbrev pub length_repeated : Option ℕ → Option ℕ → Option ℕ
+length_repeated None greatest = unbounded greatest
+length_repeated (Some k) greatest = option_map (λ n. k * n) greatest
 
 abbrev mutual
   pub least : Tree → ℕ
@@ -56,11 +56,11 @@ abbrev mutual
   greatest (Cat ts) = greatest_of_each ts
   greatest (Alt ts) = greatest_of_some ts
   greatest (Star t) = unbounded (greatest t)
-  greatest (Repeat t m n) = repeated n (greatest t)
+  greatest (Repeat t m n) = length_repeated n (greatest t)
 
   pub greatest_of_each : Trees → Option ℕ
   greatest_of_each no_trees = Some 0
-  greatest_of_each (tree t ts) = plus (greatest t) (greatest_of_each ts)
+  greatest_of_each (tree t ts) = length_sum (greatest t) (greatest_of_each ts)
 
   pub greatest_of_some : Trees → Option ℕ
   greatest_of_some no_trees = Some 0

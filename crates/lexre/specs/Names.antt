@@ -18,13 +18,13 @@ abbrev pub open_of : NameCache → List (List ℕ)
 open_of names = map (λ v. v.items) names.being_read.items
 
 -- names to trees, each with how many parentheses and names have to be opened for it
-abbrev pub Trees : Type 0
-Trees = FinMap (slice_cmp nat_cmp) (Tree × ℕ)
+abbrev pub NamedTrees : Type 0
+NamedTrees = FinMap (slice_cmp nat_cmp) (Tree × ℕ)
 
 abbrev pub tree_kept : Kept → Tree × ℕ
 tree_kept k = (tree_of k.tree.pattern, k.needed)
 
-abbrev pub trees_of : NameCache → Trees
+abbrev pub trees_of : NameCache → NamedTrees
 trees_of names = map_of tree_kept names.kept.entries
 
 -- what is kept of a name, unless it needs more than may be opened
@@ -33,5 +33,5 @@ usable left None = None
 usable left (Some k) = if nat_le k.1 left then Some k else None
 
 -- each name stands for the tree that is kept of it, which is sound
-abbrev pub AreKnown : ReadOptions → Definitions → Trees → Type 0
+abbrev pub AreKnown : ReadOptions → Definitions → NamedTrees → Type 0
 AreKnown how definitions trees = (n : List ℕ) (t : Tree) (needed : ℕ) → get trees n ≡ Some (t, needed) → StandsIn how definitions needed n t × IsSoundTree t

@@ -2,7 +2,7 @@
 use Rattle.std.specs.Prelude.{◌≡◌, ℕ, ◌<◌, List, Option, Some}
 use Rattle.lex_semantics.specs.Shapes.{nodes}
 use Rattle.lexre_bytes.specs.Symbols.{Symbol, item}
-pub use Rattle.lexre_bytes.specs.PatternMemory.{UnlessMemory}
+pub use Rattle.lexre_bytes.specs.PatternMemory.{UnlessPatternMemory}
 use Rattle.lexre.specs.Limits.{max_nodes}
 
 -- how many nodes the tree of a symbol has

@@ -20,17 +20,17 @@ folding = record { fold = true; posix = false }
 abbrev pub over_series : ReadOptions
 over_series = record { fold = false; posix = true }
 
-abbrev pub letter : ℕ → Tree
-letter b = Set (single b)
+abbrev pub one_letter : ℕ → Tree
+one_letter b = Set (single b)
 
 abbrev pub a : Tree
-a = letter 97
+a = one_letter 97
 
 abbrev pub b : Tree
-b = letter 98
+b = one_letter 98
 
 abbrev pub c : Tree
-c = letter 99
+c = one_letter 99
 
 -- `ab` and `a|b`
 abbrev pub ab : Tree
@@ -58,7 +58,7 @@ abbrev pub Items : Type 0
 Items =
     Is plain (codes "a") a
     × Is plain (codes ".") (Set (complement (single 10)))
-    × Is plain (backslash ++ codes "n") (letter 10)
+    × Is plain (backslash ++ codes "n") (one_letter 10)
     × Is plain (codes "[a-c]") (Set (range_set 97 99))
     × Is plain (codes "[^a]") (Set (complement (single 97)))
     × Is plain (quote ++ quote) Empty
@@ -95,12 +95,12 @@ ClassNames =
 -- are the same.
 abbrev pub Escapes : Type 0
 Escapes =
-    Is plain (codes "\\x411") (Cat (trees (letter 65 ∷ letter 49 ∷ [])))
-    × Is plain (codes "\\1011") (Cat (trees (letter 65 ∷ letter 49 ∷ [])))
-    × Is plain (codes "\\x") (letter 120)
-    × Is plain (codes "\\a\\b\\f\\n\\r\\t\\v") (Cat (trees (letter 7 ∷ letter 8 ∷ letter 12 ∷ letter 10 ∷ letter 13 ∷ letter 9 ∷ letter 11 ∷ [])))
-    × Is plain (codes "\\*") (letter 42)
-    × Is plain (codes "\"a\\\"b\"") (Cat (trees (a ∷ letter 34 ∷ b ∷ [])))
+    Is plain (codes "\\x411") (Cat (trees (one_letter 65 ∷ one_letter 49 ∷ [])))
+    × Is plain (codes "\\1011") (Cat (trees (one_letter 65 ∷ one_letter 49 ∷ [])))
+    × Is plain (codes "\\x") (one_letter 120)
+    × Is plain (codes "\\a\\b\\f\\n\\r\\t\\v") (Cat (trees (one_letter 7 ∷ one_letter 8 ∷ one_letter 12 ∷ one_letter 10 ∷ one_letter 13 ∷ one_letter 9 ∷ one_letter 11 ∷ [])))
+    × Is plain (codes "\\*") (one_letter 42)
+    × Is plain (codes "\"a\\\"b\"") (Cat (trees (a ∷ one_letter 34 ∷ b ∷ [])))
 
 -- `a`, also in quotes, and `[A-B]` stand for both cases where that is asked, and `[^a]` for neither
 abbrev pub Folded : Type 0

@@ -29,16 +29,16 @@ abbrev pub is_marked : {P : Type 0} → Operands P → Bool
 is_marked parts = parts.is_bare
 
 -- Where parts are marked, a set among them counts as the empty text. Parts are marked just where there is none.
-abbrev pub marked : Bool → Trees → Trees
-marked false ts = ts
-marked true ts = emptied_each ts
+abbrev pub emptied_if : Bool → Trees → Trees
+emptied_if false ts = ts
+emptied_if true ts = emptied_each ts
 
 -- one node, with the tree of each child in its place
 abbrev pub node_tree : Pattern-F Tree → Tree
 node_tree Pattern-F.Empty = Empty
 node_tree (Pattern-F.Set s) = Set s
-node_tree (Pattern-F.Cat parts) = Cat (marked (is_marked parts) (trees (items_of parts)))
-node_tree (Pattern-F.Alt parts) = Alt (marked (is_marked parts) (trees (items_of parts)))
+node_tree (Pattern-F.Cat parts) = Cat (emptied_if (is_marked parts) (trees (items_of parts)))
+node_tree (Pattern-F.Alt parts) = Alt (emptied_if (is_marked parts) (trees (items_of parts)))
 node_tree (Pattern-F.Star inner) = Star inner.value
 node_tree (Pattern-F.Repeat inner m n) = Repeat inner.value m n
 
@@ -48,4 +48,4 @@ tree_of = fold-Pattern Tree node_tree
 
 -- the trees of parts
 abbrev pub parts_of : Operands Pattern → Trees
-parts_of parts = marked (is_marked parts) (trees (map tree_of (items_of parts)))
+parts_of parts = emptied_if (is_marked parts) (trees (map tree_of (items_of parts)))

@@ -7,7 +7,7 @@ ghost use Rattle.std.specs.Prelude.{◌≡◌, ℕ, Option, ◌^◌, min, map, o
 ghost use Rattle.lex_semantics.specs.Shapes.{HasLengths, IsSoundTree};
 ghost use Rattle.lex_semantics.specs.Tree.{In, trees};
 ghost use Rattle.lexre.specs.Lengths.{least, least_of_each, least_of_some, greatest, greatest_of_each};
-ghost use Rattle.lexre.specs.Lengths.{greatest_of_some, capped, unbounded, repeated, PassesLimit};
+ghost use Rattle.lexre.specs.Lengths.{greatest_of_some, capped, unbounded, length_repeated, PassesLimit};
 ghost use Rattle.lexre.specs.Views.{tree_of};
 
 use crate::bounds::Lengths;
@@ -115,7 +115,7 @@ fn unbounded(most: Option<u64>) -> Option<u64>
 
 /// At most so many times, or any number of times, what has this greatest length.
 fn repeated(times: Option<u8>, most: Option<u64>) -> Option<u64>
-    ensures { (x : Option ℕ) → most ≡ option_map capped x → result ≡ option_map capped (repeated times x) }
+    ensures { (x : Option ℕ) → most ≡ option_map capped x → result ≡ option_map capped (length_repeated times x) }
 {
     let Some(times) = times else {
         return unbounded(most);

@@ -4,6 +4,6 @@ use Rattle.lexre_bytes.specs.declared.error.PatternErrorKind.{PatternErrorKind}
 use Rattle.lexre_bytes.specs.declared.error.PatternErrorKind.TheVariants.{OutOfMemory}
 
 -- the fact, unless memory ran out
-abbrev pub UnlessMemory : PatternErrorKind → Type 0 → Type 0
-UnlessMemory OutOfMemory P = ⊤
-UnlessMemory _ P = P
+abbrev pub UnlessPatternMemory : PatternErrorKind → Type 0 → Type 0
+UnlessPatternMemory OutOfMemory P = ⊤
+UnlessPatternMemory _ P = P

@@ -17,7 +17,7 @@ use Rattle.lexre_bytes.specs.Symbols.{name, sign}
 use Rattle.lexre.specs.Definitions.{Definitions}
 use Rattle.lexre.specs.Grammar.{SpellsWithin}
 use Rattle.lexre.specs.Limits.{max_nodes}
-use Rattle.lexre.specs.PatternExamples.{plain, folding, letter}
+use Rattle.lexre.specs.PatternExamples.{plain, folding, one_letter}
 use Rattle.lexre.specs.Running.{state, fresh, frame, pushed, on_item}
 use Rattle.lexre.specs.Spelling.{Spells}
 use Rattle.lexre.proofs.GrammarLaws.{runs_spelled}
@@ -91,7 +91,7 @@ cut_as_tested r head trail fits = cut_is_fit r.cut r.head r.trail (tree_is_sound
     sound (Some t) h = tree_is_sound t h
 
 number_ruled : (is : List (ℕ × Item)) (rules : List Rule) → IsRule names plain true named 17 unlisted true (codes "{D}+") line_end (Some (codes "ECHO;")) is rules number
-unfolding has set_of single range_set any_below take_up_to is_alpha is_upper is_lower is_alnum is_blank is_digit after_word A.next_piece A.statement_at A.parts_of A.in_parentheses A.number_within A.second_word A.format_at A.after_statement A.condition_at run_at number_at name_at B.after_space B.skip B.expect B.string_escape_at escape_at B.literal_at
+unfolding has set_of single range_set any_below take_up_to is_alpha is_upper is_lower is_alnum is_blank is_digit after_word A.next_piece A.statement_at A.parts_of A.in_parentheses A.number_within A.second_word A.format_at A.after_statement A.condition_at run_at number_at name_at B.after_space B.after_spaces B.expect B.string_escape_at escape_at B.literal_at
 number_ruled is rules = (
   record {
     line_is = refl;
@@ -113,7 +113,7 @@ letters_ruled = (
     listed = refl;
     anchor = refl;
     head_is = is_tree plain 20 (codes "ab") letters.head refl refl named;
-    trail_is = is_tree plain 20 (codes "c*") (Star (letter 99)) refl refl named;
+    trail_is = is_tree plain 20 (codes "c*") (Star (one_letter 99)) refl refl named;
     cut_is = cut_as_tested letters refl refl refl;
   },
   refl,
@@ -121,7 +121,7 @@ letters_ruled = (
 )
 
 opening_ruled : (is : List (ℕ × Item)) (rules : List Rule) → IsRule names plain true named 20 unlisted false (codes "\"/*\"") no_trail (Some (codes "{ yy_push_state(B); /* } */\n  yymore(); }")) is rules opening
-unfolding symbol_at until_quote quoted_tree take_up_to is_alpha is_upper is_lower is_alnum is_blank is_digit after_word A.next_piece A.statement_at A.parts_of A.in_parentheses A.number_within A.second_word A.format_at A.after_statement A.condition_at run_at number_at name_at B.after_space B.skip B.expect B.string_escape_at escape_at B.literal_at
+unfolding symbol_at until_quote quoted_tree take_up_to is_alpha is_upper is_lower is_alnum is_blank is_digit after_word A.next_piece A.statement_at A.parts_of A.in_parentheses A.number_within A.second_word A.format_at A.after_statement A.condition_at run_at number_at name_at B.after_space B.after_spaces B.expect B.string_escape_at escape_at B.literal_at
 opening_ruled is rules = (
   record {
     line_is = refl;
@@ -144,7 +144,7 @@ opening_ruled is rules = (
 )
 
 closing_ruled : (is : List (ℕ × Item)) (rules : List Rule) → IsRule names plain true named 22 (only (codes "B" ∷ [])) false (codes "\"*/\"") no_trail (Some (codes "yy_pop_state();")) is rules closing
-unfolding symbol_at until_quote quoted_tree take_up_to is_alpha is_upper is_lower is_alnum is_blank is_digit after_word A.next_piece A.statement_at A.parts_of A.in_parentheses A.number_within A.second_word A.format_at A.after_statement A.condition_at run_at number_at name_at B.after_space B.skip B.expect B.string_escape_at escape_at B.literal_at
+unfolding symbol_at until_quote quoted_tree take_up_to is_alpha is_upper is_lower is_alnum is_blank is_digit after_word A.next_piece A.statement_at A.parts_of A.in_parentheses A.number_within A.second_word A.format_at A.after_statement A.condition_at run_at number_at name_at B.after_space B.after_spaces B.expect B.string_escape_at escape_at B.literal_at
 closing_ruled is rules = (
   record {
     line_is = refl;
@@ -159,7 +159,7 @@ closing_ruled is rules = (
 )
 
 other_ruled : (is : List (ℕ × Item)) (rules : List Rule) → IsRule names plain true named 23 every false (codes ".|\\n") no_trail (Some (codes ";")) is rules any_other
-unfolding symbol_at escape_at simple_escape take_up_to is_blank after_word A.next_piece A.statement_at A.parts_of A.in_parentheses A.number_within A.second_word A.format_at A.after_statement A.condition_at run_at number_at name_at B.after_space B.skip B.expect B.string_escape_at B.literal_at
+unfolding symbol_at escape_at simple_escape take_up_to is_blank after_word A.next_piece A.statement_at A.parts_of A.in_parentheses A.number_within A.second_word A.format_at A.after_statement A.condition_at run_at number_at name_at B.after_space B.after_spaces B.expect B.string_escape_at B.literal_at
 other_ruled is rules = (
   record {
     line_is = refl;
@@ -174,7 +174,7 @@ other_ruled is rules = (
 )
 
 open_spelled : SpellsEndAction (known_in names true) (codes "{ printf(\"open\"); exit(2); }") open_at_end
-unfolding take_up_to is_alpha is_upper is_lower is_alnum is_blank is_digit simple_escape until_quote after_word A.next_piece A.statement_at A.parts_of A.in_parentheses A.number_within A.second_word A.format_at A.after_statement A.condition_at run_at number_at name_at B.after_space B.skip B.expect B.string_escape_at escape_at B.literal_at
+unfolding take_up_to is_alpha is_upper is_lower is_alnum is_blank is_digit simple_escape until_quote after_word A.next_piece A.statement_at A.parts_of A.in_parentheses A.number_within A.second_word A.format_at A.after_statement A.condition_at run_at number_at name_at B.after_space B.after_spaces B.expect B.string_escape_at escape_at B.literal_at
 open_spelled = (
   Print (codes "open") ∷ End 2 ∷ [],
   (
@@ -188,7 +188,7 @@ open_spelled = (
 )
 
 ended_spelled : SpellsEndAction (known_in names true) (codes "{ printf(\"end\"); yyterminate(); }") ended
-unfolding take_up_to is_alpha is_upper is_lower is_alnum is_blank is_digit simple_escape until_quote after_word A.next_piece A.statement_at A.parts_of A.in_parentheses A.number_within A.second_word A.format_at A.after_statement A.condition_at run_at number_at name_at B.after_space B.skip B.expect B.string_escape_at escape_at B.literal_at
+unfolding take_up_to is_alpha is_upper is_lower is_alnum is_blank is_digit simple_escape until_quote after_word A.next_piece A.statement_at A.parts_of A.in_parentheses A.number_within A.second_word A.format_at A.after_statement A.condition_at run_at number_at name_at B.after_space B.after_spaces B.expect B.string_escape_at escape_at B.literal_at
 ended_spelled = (
   Print (codes "end") ∷ End 0 ∷ [],
   (
@@ -272,7 +272,7 @@ whole = record {
 -- ---- the short file
 
 short_ruled : RulesFrom (codes "INITIAL" ∷ []) folding false (from_entries []) short_items (both_cases ∷ []) []
-unfolding symbol_at has set_of single fold_case other_case take_up_to is_alpha is_upper is_lower is_alnum is_blank is_digit after_word A.next_piece A.statement_at A.parts_of A.in_parentheses A.number_within A.second_word A.format_at A.after_statement A.condition_at run_at number_at name_at B.after_space B.skip B.expect B.string_escape_at escape_at B.literal_at
+unfolding symbol_at has set_of single fold_case other_case take_up_to is_alpha is_upper is_lower is_alnum is_blank is_digit after_word A.next_piece A.statement_at A.parts_of A.in_parentheses A.number_within A.second_word A.format_at A.after_statement A.condition_at run_at number_at name_at B.after_space B.after_spaces B.expect B.string_escape_at escape_at B.literal_at
 short_ruled = (
   both_cases,
   [],

@@ -18,7 +18,7 @@ use Rattle.lexre_bytes.specs.declared.refusals.SpecErrorKind.TheVariants.{Dangli
 use Rattle.lexspec.proofs.OneItems.{no_item_at_end}
 use Rattle.lexspec.specs.Agreeing.{Agrees}
 use Rattle.lexspec.specs.EndRules.{end_rule_of}
-use Rattle.lexspec.specs.FaultLines.{is_rule, last_of, MayBegin, IsFirstFault}
+use Rattle.lexspec.specs.FaultLines.{is_rule, last_or, MayBegin, IsFirstFault}
 use Rattle.lexspec.specs.FaultLines as P
 use Rattle.lexspec.specs.Items as F
 use Rattle.lexspec.specs.RuleItems.{AreRules}
@@ -85,24 +85,24 @@ more_lines (x ∷ xs) ys = go (more_lines xs ys) (brings_rule x.1)
     go e true = ap (λ z. x.0 ∷ z) e
     go e false = e
 
-last_more : (xs ys : List ℕ) (y n m : ℕ) → last_of n (xs ++ y ∷ ys) ≡ last_of m (y ∷ ys)
+last_more : (xs ys : List ℕ) (y n m : ℕ) → last_or n (xs ++ y ∷ ys) ≡ last_or m (y ∷ ys)
 last_more [] ys y n m = refl
 last_more (x ∷ xs) ys y n m = last_more xs ys y x m
 
-last_line : (w : RuleKept) (ws : List RuleKept) (n m : ℕ) → line_of_last n (w ∷ ws) ≡ last_of m (lines_of (map rule_of (w ∷ ws)))
+last_line : (w : RuleKept) (ws : List RuleKept) (n m : ℕ) → line_of_last n (w ∷ ws) ≡ last_or m (lines_of (map rule_of (w ∷ ws)))
 last_line w [] n m = refl
 last_line w (v ∷ ws) n m =
     let e : length (w ∷ v ∷ ws) - 1 ≡ suc (length (v ∷ ws) - 1) = omega arith in
     ap (λ k. elim (slice_get (w ∷ v ∷ ws) k) [ None ↦ n | Some r ↦ r.line ]) e ∙ last_line v ws n w.line
 
 -- no line of an item is before the first
-lines_from : (n : ℕ) (t : List ℕ) (is : List (ℕ × Item)) (m : ℕ) (rest : List ℕ) → ItemsUpTo n t is m rest → (low : ℕ) → low ≤ n → (k : ℕ) → low ≤ k → (low ≤ m) × (low ≤ last_of k (rule_lines is))
+lines_from : (n : ℕ) (t : List ℕ) (is : List (ℕ × Item)) (m : ℕ) (rest : List ℕ) → ItemsUpTo n t is m rest → (low : ℕ) → low ≤ n → (k : ℕ) → low ≤ k → (low ≤ m) × (low ≤ last_or k (rule_lines is))
 lines_from n t [] m rest (line, same) low h k l = (omega (arith, line), l)
 lines_from n t (i ∷ is) m rest (next, line, item, more) low h k l =
     go (λ j. lines_from (n + (newlines t - newlines next)) next is m rest more low (omega arith) j) (brings_rule i.1)
   where
-    go : ((j : ℕ) → low ≤ j → (low ≤ m) × (low ≤ last_of j (rule_lines is))) → (b : Bool)
-        → (low ≤ m) × (low ≤ last_of k (map (λ (i : ℕ × Item). i.0) (cond b (i ∷ filter (λ i. brings_rule i.1) is) (filter (λ i. brings_rule i.1) is))))
+    go : ((j : ℕ) → low ≤ j → (low ≤ m) × (low ≤ last_or j (rule_lines is))) → (b : Bool)
+        → (low ≤ m) × (low ≤ last_or k (map (λ (i : ℕ × Item). i.0) (cond b (i ∷ filter (λ i. brings_rule i.1) is) (filter (λ i. brings_rule i.1) is))))
     go rec true = rec i.0 (omega (arith, line))
     go rec false = rec k l
 
@@ -255,14 +255,14 @@ module _ (d : Declarations) (before : List (ℕ × Item)) (s : RulesSoFar) (a : 
       from (w ∷ ws) e h = absurd (omega arith)
 
   -- the line of the last rule that waits
-  waits_at : (n : ℕ) → (length s.waiting.items ≡ 0 → ⊥) → line_of_last n s.waiting.items ≡ last_of n (rule_lines before)
+  waits_at : (n : ℕ) → (length s.waiting.items ≡ 0 → ⊥) → line_of_last n s.waiting.items ≡ last_or n (rule_lines before)
   waits_at n some = from s.waiting.items refl some
     where
-      from : (ws : List RuleKept) → s.waiting.items ≡ ws → (length ws ≡ 0 → ⊥) → line_of_last n s.waiting.items ≡ last_of n (rule_lines before)
+      from : (ws : List RuleKept) → s.waiting.items ≡ ws → (length ws ≡ 0 → ⊥) → line_of_last n s.waiting.items ≡ last_or n (rule_lines before)
       from [] e h = absurd (h refl)
       from (w ∷ ws) e h =
           let all : rule_lines before ≡ lines_of done ++ lines_of (map rule_of (w ∷ ws)) = lines_read ∙ ap (λ z. lines_of done ++ lines_of (map rule_of z)) e in
-          ap (line_of_last n) e ∙ last_line w ws n n ∙ sym (last_more (lines_of done) (lines_of (map rule_of ws)) w.line n n) ∙ ap (last_of n) (sym all)
+          ap (line_of_last n) e ∙ last_line w ws n n ∙ sym (last_more (lines_of done) (lines_of (map rule_of ws)) w.line n n) ∙ ap (last_or n) (sym all)
 
   -- The fault of an item.
   pub item_fault : (start n : ℕ) (whole_text t : List ℕ) (e : SpecError) → ItemsUpTo start whole_text before n t → Keeps d s → (EndsRules t → ⊥) → NoneLeft d s n t
@@ -276,7 +276,7 @@ module _ (d : Declarations) (before : List (ℕ × Item)) (s : RulesSoFar) (a : 
     stuck = not_behind n t none;
     ended = (λ R E over are. goes over);
     told = other;
-    bar = (λ is alone. bar is ∙ waits_at n (λ empty. alone (done ++ []) (map end_rule_of s.ends.items ++ []) (to_file before (done ++ []) (map end_rule_of s.ends.items ++ []) (rules_alone empty))) ∙ ap (last_of n) (sym (same_lines before)));
+    bar = (λ is alone. bar is ∙ waits_at n (λ empty. alone (done ++ []) (map end_rule_of s.ends.items ++ []) (to_file before (done ++ []) (map end_rule_of s.ends.items ++ []) (rules_alone empty))) ∙ ap (last_or n) (sym (same_lines before)));
   }
 
   -- The fault of the end.
@@ -291,7 +291,7 @@ module _ (d : Declarations) (before : List (ℕ × Item)) (s : RulesSoFar) (a : 
     stuck = (λ j next line m. let (i, same, item) = line_back t j next line in no_item_at_end t i next over item);
     ended = (λ R E over are. no_rules_alone some R E (of_file before R E are));
     told = (λ other. absurd (other (ap (λ (x : SpecError). x.kind) is)));
-    bar = (λ same alone. ap (λ (x : SpecError). x.line) is ∙ waits_at n some ∙ ap (last_of n) (sym (same_lines before)));
+    bar = (λ same alone. ap (λ (x : SpecError). x.line) is ∙ waits_at n some ∙ ap (last_or n) (sym (same_lines before)));
   }
 
   -- No fault is told before the first line.
@@ -305,7 +305,7 @@ module _ (d : Declarations) (before : List (ℕ × Item)) (s : RulesSoFar) (a : 
       waits : (ws : List RuleKept) → s.waiting.items ≡ ws → start ≤ line_of_last n ws
       waits [] is = least
       waits (w ∷ ws) is =
-          let last_one : line_of_last n s.waiting.items ≡ last_of n (rule_lines before) = waits_at n (λ none. no_list (ap length (sym is) ∙ none)) in
+          let last_one : line_of_last n s.waiting.items ≡ last_or n (rule_lines before) = waits_at n (λ none. no_list (ap length (sym is) ∙ none)) in
           subst (λ z. start ≤ line_of_last n z) is (subst (λ k. start ≤ k) (sym last_one) (lines_from start whole_text before n t upto start (omega arith) n least).1)
         where
           no_list : length (w ∷ ws) ≡ 0 → ⊥

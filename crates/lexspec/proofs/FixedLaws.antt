@@ -4,7 +4,7 @@ use Rattle.std.proofs.lemmas.List.{drop_more, drop_all}
 use Rattle.lex_semantics.specs.Limits.{max_fixed_length}
 use Rattle.lex_semantics.specs.Shapes.{LongestIs, HasLengths, IsSoundTree, AreSoundTrees, HasPart}
 use Rattle.lex_semantics.specs.Tree.{Tree, Trees, Cat, Alt, Repeat, no_trees, tree, trees, In}
-use Rattle.lexre.specs.Lengths.{plus, larger, lesser, unbounded, least, least_of_each, least_of_some, greatest, greatest_of_each, greatest_of_some}
+use Rattle.lexre.specs.Lengths.{length_sum, larger, lesser, unbounded, least, least_of_each, least_of_some, greatest, greatest_of_each, greatest_of_some}
 use Rattle.lexre.proofs.LengthLaws.{has_lengths}
 use Rattle.lex_semantics.proofs.Cuts.{fixed_lengths, lengths_fixed}
 use Rattle.lex_semantics.specs.Sound.{HasFixed}
@@ -26,7 +26,7 @@ join_in_order : (ts : Trees) → AreSoundTrees ts → (n : ℕ) → greatest_of_
 join_in_order no_trees sound n e = omega arith
 join_in_order (tree t ts) sound n e = in_order (Cat (tree t ts)) (sound, λ e. cc) n e
 
-plus_parts : (x y : Option ℕ) (n : ℕ) → plus x y ≡ Some n → (a : ℕ) × (b : ℕ) × (x ≡ Some a) × (y ≡ Some b) × (a + b ≡ n)
+plus_parts : (x y : Option ℕ) (n : ℕ) → length_sum x y ≡ Some n → (a : ℕ) × (b : ℕ) × (x ≡ Some a) × (y ≡ Some b) × (a + b ≡ n)
 plus_parts (Some a) (Some b) n e = (let f : a + b ≡ n = cc in (a, b, refl, refl, f))
 plus_parts (Some a) None n e = cc
 plus_parts None y n e = cc

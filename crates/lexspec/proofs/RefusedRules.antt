@@ -18,7 +18,7 @@ use Rattle.lexre.specs.Pieces.{dollar, other, slash, kind_at, slashes, ends_with
 use Rattle.lexre.specs.Spelling.{Spells}
 use Rattle.lexre_bytes.specs.Lexical.{symbol_at, after_word, name_at}
 use Rattle.lexspec_actions.specs.Actions.{Piece, next_piece, statement_at}
-use Rattle.lexspec_actions.specs.Bytes.{after_space, skip}
+use Rattle.lexspec_actions.specs.Bytes.{after_space, after_spaces}
 use Rattle.lexspec_lines.proofs.OneSection.{no_true, one_up_to, separator_ends, some_pair}
 use Rattle.lexspec_lines.specs.DefinitionLines.{definition_at, all_conditions, all_options, has_name, substitutes_of}
 use Rattle.lexspec_lines.specs.Lines.{line_in, newlines, without_returns}
@@ -85,7 +85,7 @@ first_item n t ((m, rule asked subject action) ∷ is) rest some no_separator st
 
 -- a file whose rules section begins with no subject
 no_subject : (file t : List ℕ) → definition_at (without_returns file) ≡ None → (line_in (without_returns file)).1 ≡ t → (t ≡ [] → ⊥) → begins (codes "%%") t ≡ false → starts_rule t ≡ true
-    → ◌≡◌ {A = Option (Conditions × List ℕ)} (conditions_at t) (Some (unlisted, t)) → ((subject : Subject) (v : List ℕ) → IsSubject t subject v → ⊥) → Example.IsNone file
+    → ◌≡◌ {A = Option (Conditions × List ℕ)} (conditions_at t) (Some (unlisted, t)) → ((subject : Subject) (v : List ℕ) → IsSubject t subject v → ⊥) → Example.IsNoSpec file
 no_subject file t stop here some no_separator starts list none S h =
     let items = items_of file t stop here S h in
     let first = first_item items.0 t h.items items.1 some no_separator starts list items.2 in
@@ -115,7 +115,7 @@ some_no_none n b c e = no (ap (λ (p : Option ℕ × Bool). p.0) e)
     no : ◌≡◌ {A = Option ℕ} (Some n) None → ⊥
     no f = cc
 
-two_slashes : Example.IsNone (codes "%%\na/b/c ;\n")
+two_slashes : Example.IsNoSpec (codes "%%\na/b/c ;\n")
 unfolding definition_at conditions_at take_up_to is_blank kind_at piece_at slashes ends_with_dollar
 two_slashes =
     let t = codes "a/b/c ;\n" in
@@ -131,7 +131,7 @@ two_slashes =
     no_subject (codes "%%\na/b/c ;\n") t refl refl (λ e. cc) refl refl refl
     (no_sides t 5 (Some 1) true false refl refl cut (λ e. no_true (sym (two_of true false false false e).0)) (λ e. some_no_none 1 true false e))
 
-slash_and_dollar : Example.IsNone (codes "%%\na/b$ ;\n")
+slash_and_dollar : Example.IsNoSpec (codes "%%\na/b$ ;\n")
 unfolding definition_at conditions_at take_up_to is_blank kind_at piece_at slashes ends_with_dollar
 slash_and_dollar =
     let t = codes "a/b$ ;\n" in
@@ -147,7 +147,7 @@ slash_and_dollar =
     no_subject (codes "%%\na/b$ ;\n") t refl refl (λ e. cc) refl refl refl
     (no_sides t 4 (Some 1) false true refl refl cut (λ e. no_true (sym (two_of false true false false e).1)) (λ e. some_no_none 1 false false e))
 
-end_at_line : Example.IsNone (codes "%%\n^<<EOF>> ;\n")
+end_at_line : Example.IsNoSpec (codes "%%\n^<<EOF>> ;\n")
 unfolding definition_at conditions_at take_up_to is_blank
 end_at_line = no_subject (codes "%%\n^<<EOF>> ;\n") t refl refl (λ e. cc) refl refl refl none
   where
@@ -159,7 +159,7 @@ end_at_line = no_subject (codes "%%\n^<<EOF>> ;\n") t refl refl (λ e. cc) refl 
     none (matching true head trail) v (e, not_end, sides) = no_true (sym not_end)
     none (matching false head trail) v (e, not_end, sides) = no_true (sym e)
 
-bar_of_end : Example.IsNone (codes "%%\n<<EOF>> |\na ;\n")
+bar_of_end : Example.IsNoSpec (codes "%%\n<<EOF>> |\na ;\n")
 unfolding definition_at conditions_at take_up_to is_blank action_at action_end after_piece
 bar_of_end S h =
     let items = items_of (codes "%%\n<<EOF>> |\na ;\n") (codes "<<EOF>> |\na ;\n") refl refl S h in
@@ -204,7 +204,7 @@ vary names stack defined n asked more (r ∷ rules) ends (h, acts, rest) = with_
         let after : u ≡ Star b = one_tree false (symbol_at false) (get defined) refl 64 (codes "b*") u (Star b) spells.0 (is_tree plain 20 (codes "b*") (Star b) refl refl defined).0 in
         no_cut_of_both r.cut (subst (λ z. IsCutOf (Star a) (Some z) r.cut) after (subst (λ z. IsCutOf z (Some u) r.cut) head cut))
 
-both_vary : Example.IsNone (codes "%%\na*/b* ;\n")
+both_vary : Example.IsNoSpec (codes "%%\na*/b* ;\n")
 unfolding definition_at conditions_at take_up_to is_blank action_at action_end after_piece kind_at piece_at slashes ends_with_dollar
 both_vary S h =
     let items = items_of (codes "%%\na*/b* ;\n") (codes "a*/b* ;\n") refl refl S h in
@@ -258,8 +258,8 @@ both_vary S h =
             (subst (λ is. AreRules (map (λ c. c.1) (all_conditions h.definitions)) (record { fold = plain.fold || has_name (all_options h.definitions) (codes "case-insensitive"); posix = plain.posix }) (has_name (all_options h.definitions) (codes "stack")) (from_entries (substitutes_of h.definitions)) is S.rules h.ends false) all h.rules))
 
 -- the text of a statement of the stack, where the option is not set
-no_piece : (names : List (List ℕ)) (defined : Definitions) (ps : List Piece) → IsReadAs (next_piece (known names plain false defined)) (λ t. skip t ≡ []) (codes "yy_pop_state();") ps → ⊥
-unfolding take_up_to is_alpha is_upper is_lower is_alnum is_blank is_digit after_word name_at after_space skip next_piece statement_at
+no_piece : (names : List (List ℕ)) (defined : Definitions) (ps : List Piece) → IsReadAs (next_piece (known names plain false defined)) (λ t. after_spaces t ≡ []) (codes "yy_pop_state();") ps → ⊥
+unfolding take_up_to is_alpha is_upper is_lower is_alnum is_blank is_digit after_word name_at after_space after_spaces next_piece statement_at
 no_piece names defined [] cut = cc
 no_piece names defined (p ∷ ps) (rest, here, cut) = no here
   where
@@ -271,7 +271,7 @@ pops : (names : List (List ℕ)) (defined : Definitions) (n : ℕ) (asked : Cond
 pops names defined n asked more [] ends h = h
 pops names defined n asked more (r ∷ rules) ends (h, acts, rest) = no_piece names defined acts.0.0 acts.0.1
 
-no_stack : Example.IsNone (codes "%%\na yy_pop_state();\n")
+no_stack : Example.IsNoSpec (codes "%%\na yy_pop_state();\n")
 unfolding definition_at conditions_at take_up_to is_blank action_at action_end after_piece kind_at piece_at slashes ends_with_dollar
 no_stack S h =
     let items = items_of (codes "%%\na yy_pop_state();\n") (codes "a yy_pop_state();\n") refl refl S h in

@@ -55,33 +55,33 @@ spells_items file items stop second S h =
     cut_once : (t : List ℕ) (stop stop' : ℕ) (at at' : Option ℕ) (two two' special special' : Bool) → IsCutting t stop at two special → IsCutting t stop' at' two' special' → (stop ≡ stop') × (at ≡ at') × (special ≡ special')
     cut_once t stop stop' at at' two two' special special' h k = let same = one_cutting t stop stop' at at' two two' special special' h k in (same.0, same.1, same.3)
 
-no_separator : Example.IsNone (codes "D [0-9]\n")
+no_separator : Example.IsNoSpec (codes "D [0-9]\n")
 unfolding definition_at definition_in name_at take_up_to is_alpha is_upper is_lower is_alnum is_blank is_digit
 no_separator S h =
     let same = one_section (codes "D [0-9]\n") [] (defines (codes "D") (codes "[0-9]") ∷ []) ([], refl, refl) refl S h in
     no_true (sym (ap (begins (codes "%%")) same.1) ∙ (sections_of (codes "D [0-9]\n") h.definitions h.items h.sections).separator)
 
-no_option : Example.IsNone (codes "%option none\n%%\n")
+no_option : Example.IsNoSpec (codes "%option none\n%%\n")
 unfolding definition_at percent_line take_up_to is_blank
 no_option S h =
     let same = one_section (codes "%option none\n%%\n") (codes "%%\n") (options (codes "none" ∷ []) ∷ []) (codes "%%\n", refl, refl) refl S h in
     no_true (sym (ap (λ ds. are_known (all_options ds)) same.0) ∙ h.options)
 
-declared_twice : Example.IsNone (codes "%s A\n%x A\n%%\n")
+declared_twice : Example.IsNoSpec (codes "%s A\n%x A\n%%\n")
 unfolding definition_at percent_line take_up_to is_alpha is_upper is_lower is_alnum is_blank is_digit
 declared_twice S h =
     let same =
     one_section (codes "%s A\n%x A\n%%\n") (codes "%%\n") (declares false (codes "A" ∷ []) ∷ declares true (codes "A" ∷ []) ∷ []) (codes "%x A\n%%\n", refl, (codes "%%\n", refl, refl)) refl S h in
     no_true (sym (ap (λ ds. are_distinct (names_of (all_conditions ds))) same.0) ∙ distinct_test (names_of (all_conditions h.definitions)) h.names)
 
-defined_twice : Example.IsNone (codes "D a\nD b\n%%\n")
+defined_twice : Example.IsNoSpec (codes "D a\nD b\n%%\n")
 unfolding definition_at definition_in name_at take_up_to is_alpha is_upper is_lower is_alnum is_blank is_digit
 defined_twice S h =
     let same =
     one_section (codes "D a\nD b\n%%\n") (codes "%%\n") (defines (codes "D") (codes "a") ∷ defines (codes "D") (codes "b") ∷ []) (codes "D b\n%%\n", refl, (codes "%%\n", refl, refl)) refl S h in
     no_true (sym (ap (λ ds. are_distinct (map (λ (d : List ℕ × List ℕ). d.0) (substitutes_of ds))) same.0) ∙ distinct_test (map (λ (d : List ℕ × List ℕ). d.0) (substitutes_of h.definitions)) h.defined_once)
 
-not_declared : Example.IsNone (codes "%%\n<A>a ECHO;\n")
+not_declared : Example.IsNoSpec (codes "%%\n<A>a ECHO;\n")
 unfolding definition_at conditions_at take_up_to is_blank action_at action_end after_piece
 not_declared S h =
     let item = rule (only (codes "A" ∷ [])) (matching false (codes "a") no_trail) (Some (codes "ECHO;")) in
@@ -96,7 +96,7 @@ not_declared S h =
     no : (numbers : Option (List ℕ)) → ◌≡◌ {A = Option (Option (List ℕ))} None (Some numbers) → ⊥
     no numbers e = cc
 
-bar_at_end : Example.IsNone (codes "%%\na |\n")
+bar_at_end : Example.IsNoSpec (codes "%%\na |\n")
 unfolding definition_at conditions_at take_up_to is_blank action_at action_end after_piece
 bar_at_end S h =
     let item = rule unlisted (matching false (codes "a") no_trail) None in
@@ -121,7 +121,7 @@ two_unlisted ends others more m n e f listed listed' first second one =
     let from_second = sum_by-cons (λ (x : EndRule). cond (is_unlisted x) 1 0) (None, f) more in
     omega (arith, two, from_first, from_second)
 
-two_ends : Example.IsNone (codes "%%\n<<EOF>> exit(1);\n<<EOF>> exit(2);\n")
+two_ends : Example.IsNoSpec (codes "%%\n<<EOF>> exit(1);\n<<EOF>> exit(2);\n")
 unfolding definition_at conditions_at take_up_to is_blank action_at action_end after_piece
 two_ends S h =
     let first = rule unlisted at_end (Some (codes "exit(1);")) in

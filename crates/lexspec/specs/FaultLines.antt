@@ -37,9 +37,9 @@ abbrev pub rule_lines : List (ℕ × Item) → List ℕ
 rule_lines items = map (λ i. i.0) (filter (λ i. is_rule i.1) items)
 
 -- the last of these lines, or else n
-abbrev pub last_of : ℕ → List ℕ → ℕ
-last_of n [] = n
-last_of n (line ∷ lines) = last_of line lines
+abbrev pub last_or : ℕ → List ℕ → ℕ
+last_or n [] = n
+last_or n (line ∷ lines) = last_or line lines
 
 module _ (names : List (List ℕ)) (how : ReadOptions) (stack : Bool) (defined : Definitions) where
   -- These items may begin a rules section: with some others behind them they are rules, there are not too many of them, and no
@@ -64,7 +64,7 @@ module _ (names : List (List ℕ)) (how : ReadOptions) (stack : Bool) (defined :
     pub stuck : (i : Item) (next : List ℕ) → IsLine rest i next → MayBegin (items ++ (place, i) ∷ []) → ⊥
     pub ended : (rules : List Rule) (ends : List EndRule) → (rest ≡ []) ⊎ (begins (codes "%%") rest ≡ true) → AreRules names how stack defined items rules ends false → ⊥
     pub told : e.kind ≢ DanglingBar → e.line ≡ place
-    pub bar : e.kind ≡ DanglingBar → ((rules : List Rule) (ends : List EndRule) → AreRules names how stack defined items rules ends false → ⊥) → e.line ≡ last_of place (rule_lines items)
+    pub bar : e.kind ≡ DanglingBar → ((rules : List Rule) (ends : List EndRule) → AreRules names how stack defined items rules ends false → ⊥) → e.line ≡ last_or place (rule_lines items)
 
 -- No condition is declared twice, and there are not too many; no name is defined twice; and options are known.
 abbrev pub MayDeclare : List DefinitionLine → Type 0

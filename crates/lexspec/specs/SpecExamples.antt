@@ -5,15 +5,15 @@ use Rattle.std.specs.Prelude.{ℕ, ◌^◌, ◌+◌, true, false, List, [], ◌�
 use Rattle.lex_semantics.specs.ByteSets.{single, range_set, complement}
 use Rattle.lex_semantics.specs.Spec.{Spec, Rule, Condition, EndAction, Statement, Echo, More, Push, Pop, Whole, Head, Trail}
 use Rattle.lex_semantics.specs.Tree.{Set, Cat, Alt, Star, Repeat, trees}
-use Rattle.lexre.specs.PatternExamples.{plain, letter}
+use Rattle.lexre.specs.PatternExamples.{plain, one_letter}
 use Rattle.lexspec.specs.Files.{SpellsSpec}
 use Rattle.lexspec.specs.Skipped.{AreSkipped}
 
-abbrev pub Is : List ℕ → Spec → Type 0
-Is file S = SpellsSpec plain file S
+abbrev pub IsSpec : List ℕ → Spec → Type 0
+IsSpec file S = SpellsSpec plain file S
 
-abbrev pub IsNone : List ℕ → Type 0
-IsNone file = (S : Spec) → SpellsSpec plain file S → ⊥
+abbrev pub IsNoSpec : List ℕ → Type 0
+IsNoSpec file = (S : Spec) → SpellsSpec plain file S → ⊥
 
 -- A file with each kind of line, by its sections. It defines the name D, and has the conditions INITIAL, A, B and C, of
 -- which B and C are exclusive.
@@ -61,7 +61,7 @@ number = record {
   conditions = None;
   anchored = true;
   head = Repeat (Set (range_set 48 57)) 1 None;
-  trail = Some (letter 10);
+  trail = Some (one_letter 10);
   cut = Trail 1;
   statements = Echo ∷ [];
 }
@@ -76,8 +76,8 @@ letters = record {
   line = 19;
   conditions = Some (1 ∷ 3 ∷ []);
   anchored = false;
-  head = Cat (trees (letter 97 ∷ letter 98 ∷ []));
-  trail = Some (Star (letter 99));
+  head = Cat (trees (one_letter 97 ∷ one_letter 98 ∷ []));
+  trail = Some (Star (one_letter 99));
   cut = Head 2;
   statements = opens_comment;
 }
@@ -88,7 +88,7 @@ opening = record {
   line = 20;
   conditions = None;
   anchored = false;
-  head = Cat (trees (letter 47 ∷ letter 42 ∷ []));
+  head = Cat (trees (one_letter 47 ∷ one_letter 42 ∷ []));
   trail = None;
   cut = Whole;
   statements = opens_comment;
@@ -100,7 +100,7 @@ closing = record {
   line = 22;
   conditions = Some (2 ∷ []);
   anchored = false;
-  head = Cat (trees (letter 42 ∷ letter 47 ∷ []));
+  head = Cat (trees (one_letter 42 ∷ one_letter 47 ∷ []));
   trail = None;
   cut = Whole;
   statements = Pop ∷ [];
@@ -112,7 +112,7 @@ any_other = record {
   line = 23;
   conditions = Some (0 ∷ 1 ∷ 2 ∷ 3 ∷ []);
   anchored = false;
-  head = Alt (trees (Set (complement (single 10)) ∷ letter 10 ∷ []));
+  head = Alt (trees (Set (complement (single 10)) ∷ one_letter 10 ∷ []));
   trail = None;
   cut = Whole;
   statements = [];
@@ -130,7 +130,7 @@ abbrev pub whole_spec : Spec
 whole_spec = record { conditions = whole_conditions; rules = number ∷ letters ∷ opening ∷ closing ∷ any_other ∷ [] }
 
 abbrev pub WholeFile : Type 0
-WholeFile = Is whole_file whole_spec
+WholeFile = IsSpec whole_file whole_spec
 
 -- it has code at these lines: a block and a line in each section, and the second `%%`
 abbrev pub WholeSkips : Type 0
@@ -152,29 +152,29 @@ both_cases = record {
   statements = Echo ∷ [];
 }
 
-abbrev pub initial : Condition
-initial = record { name = codes "INITIAL"; exclusive = false; end = record { print = []; status = 0 } }
+abbrev pub initial_only : Condition
+initial_only = record { name = codes "INITIAL"; exclusive = false; end = record { print = []; status = 0 } }
 
 abbrev pub ShortFile : Type 0
-ShortFile = Is short_file (record { conditions = initial ∷ []; rules = both_cases ∷ [] })
+ShortFile = IsSpec short_file (record { conditions = initial_only ∷ []; rules = both_cases ∷ [] })
 
 -- no `%%`; an unknown option; a condition that is declared twice; a name that is defined twice; a condition that is not
 -- declared; a `|` at the last rule; two ends of the conditions without a list
 pub record NoFiles : Type 0 where
-  pub no_separator : IsNone (codes "D [0-9]\n")
-  pub no_option : IsNone (codes "%option none\n%%\n")
-  pub declared_twice : IsNone (codes "%s A\n%x A\n%%\n")
-  pub defined_twice : IsNone (codes "D a\nD b\n%%\n")
-  pub not_declared : IsNone (codes "%%\n<A>a ECHO;\n")
-  pub bar_at_end : IsNone (codes "%%\na |\n")
-  pub two_ends : IsNone (codes "%%\n<<EOF>> exit(1);\n<<EOF>> exit(2);\n")
+  pub no_separator : IsNoSpec (codes "D [0-9]\n")
+  pub no_option : IsNoSpec (codes "%option none\n%%\n")
+  pub declared_twice : IsNoSpec (codes "%s A\n%x A\n%%\n")
+  pub defined_twice : IsNoSpec (codes "D a\nD b\n%%\n")
+  pub not_declared : IsNoSpec (codes "%%\n<A>a ECHO;\n")
+  pub bar_at_end : IsNoSpec (codes "%%\na |\n")
+  pub two_ends : IsNoSpec (codes "%%\n<<EOF>> exit(1);\n<<EOF>> exit(2);\n")
 
 -- Lines that are no rules: two slashes, a slash beside a `$`, `^` before `<<EOF>>`, a `|` at `<<EOF>>`, trailing context where
 -- neither side has a fixed length, and a statement of the stack without its option.
 pub record NoRules : Type 0 where
-  pub two_slashes : IsNone (codes "%%\na/b/c ;\n")
-  pub slash_and_dollar : IsNone (codes "%%\na/b$ ;\n")
-  pub end_at_line : IsNone (codes "%%\n^<<EOF>> ;\n")
-  pub bar_of_end : IsNone (codes "%%\n<<EOF>> |\na ;\n")
-  pub both_vary : IsNone (codes "%%\na*/b* ;\n")
-  pub no_stack : IsNone (codes "%%\na yy_pop_state();\n")
+  pub two_slashes : IsNoSpec (codes "%%\na/b/c ;\n")
+  pub slash_and_dollar : IsNoSpec (codes "%%\na/b$ ;\n")
+  pub end_at_line : IsNoSpec (codes "%%\n^<<EOF>> ;\n")
+  pub bar_of_end : IsNoSpec (codes "%%\n<<EOF>> |\na ;\n")
+  pub both_vary : IsNoSpec (codes "%%\na*/b* ;\n")
+  pub no_stack : IsNoSpec (codes "%%\na yy_pop_state();\n")

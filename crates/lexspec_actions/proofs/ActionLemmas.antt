@@ -1,7 +1,7 @@
 -- Steps of the reader of statements, against whole texts.
 use Rattle.std.proofs.Common.{◌≡◌, ℕ, zero, suc, ◌+◌, ◌-◌, ◌<◌, length, true, false, List, [], ◌∷◌, ◌++◌, Option, Some, None, refl, sym, ap, ◌∙◌, subst, arith}
 use Rattle.lex_semantics.specs.Reading.{IsReadAs}
-use Rattle.lexspec_actions.specs.Bytes.{skip}
+use Rattle.lexspec_actions.specs.Bytes.{after_spaces}
 use Rattle.lex_semantics.specs.Spec.{Statement}
 use Rattle.lexspec_actions.specs.Statements.{then_all}
 use Rattle.lexspec_actions.specs.Names.{Scope}
@@ -46,7 +46,7 @@ module _ (known : Scope) where
   unfolding piece_from
   none_first p rest e = cc
 
-  pub no_piece : (text : List ℕ) (p : Piece) (rest : List ℕ) → piece_at known text ≡ Some (p, rest) → skip text ≡ [] → ⊥
+  pub no_piece : (text : List ℕ) (p : Piece) (rest : List ℕ) → piece_at known text ≡ Some (p, rest) → after_spaces text ≡ [] → ⊥
   no_piece text p rest here end = none_first p rest (ap (piece_from known) (sym end) ∙ here)
 
   pub piece_said : (t : List ℕ) (c : ℕ) (u rest : List ℕ) (s : Said) → t ≡ c ∷ u → (c ≡ 59 → ⊥) → (c ≡ 123 → ⊥) → (c ≡ 125 → ⊥)
@@ -101,7 +101,7 @@ module _ (known : Scope) where
   abbrev pub SpellsNone : List ℕ → Type 0
   SpellsNone text = (ss : List Statement) → SpellsStatements known text ss → ⊥
 
-  pub refused_piece : (kind : SpecErrorKind) (n : ℕ) (before : List Statement) (rest text : List ℕ) → Agree n before rest text → (length (skip rest) ≡ 0 → ⊥)
+  pub refused_piece : (kind : SpecErrorKind) (n : ℕ) (before : List Statement) (rest text : List ℕ) → Agree n before rest text → (length (after_spaces rest) ≡ 0 → ⊥)
       → UnlessMemory kind (piece_at known rest ≡ None) → UnlessMemory kind (SpellsNone text)
   refused_piece kind n before rest text agree some h = unless_memory kind _ (SpellsNone text) (λ none ss spells. go ss none (agree.back ss spells)) h
     where
@@ -120,18 +120,18 @@ module _ (known : Scope) where
           let Q : Piece → Type 0 = λ x. are_balanced 0 (x ∷ ps) ≡ true in
           let e : false ≡ true = subst Q piece balanced in cc
 
-  ended : (n : ℕ) (before : List Statement) (rest : List ℕ) (ss : List Statement) → skip rest ≡ [] → Goes n before rest ss → (n ≡ 0) × (ss ≡ before)
+  ended : (n : ℕ) (before : List Statement) (rest : List ℕ) (ss : List Statement) → after_spaces rest ≡ [] → Goes n before rest ss → (n ≡ 0) × (ss ≡ before)
   ended n before rest ss end (q ∷ ps, (left, there, cut), balanced, same) = absurd (no_piece rest q left there end)
   ended zero before rest ss end ([], done, balanced, same) = (refl, same)
   ended (suc n) before rest ss end ([], done, balanced, same) = let e : suc n ≡ 0 = eqb-true (suc n) 0 balanced in absurd (omega arith)
 
-  pub refused_open : (n : ℕ) (before : List Statement) (rest text : List ℕ) → Agree n before rest text → length (skip rest) ≡ 0 → 0 < n → SpellsNone text
+  pub refused_open : (n : ℕ) (before : List Statement) (rest text : List ℕ) → Agree n before rest text → length (after_spaces rest) ≡ 0 → 0 < n → SpellsNone text
   refused_open n before rest text agree end open_some ss spells = let e = (ended n before rest ss (nothing_left _ end) (agree.back ss spells)).0 in omega arith
 
-  pub found_at : (n : ℕ) (before : List Statement) (rest text : List ℕ) → Agree n before rest text → length (skip rest) ≡ 0 → n ≡ 0 → SpellsStatements known text before
+  pub found_at : (n : ℕ) (before : List Statement) (rest text : List ℕ) → Agree n before rest text → length (after_spaces rest) ≡ 0 → n ≡ 0 → SpellsStatements known text before
   found_at zero before rest text agree end e = agree.on before ([], nothing_left _ end, refl, refl)
   found_at (suc n) before rest text agree end e = absurd (omega arith)
 
-  pub piece_here : (rest here after : List ℕ) (p q : Piece) → here ≡ skip rest → ◌≡◌ {A = Option (Piece × List ℕ)} (piece_from known here) (Some (p, after)) → p ≡ q
+  pub piece_here : (rest here after : List ℕ) (p q : Piece) → here ≡ after_spaces rest → ◌≡◌ {A = Option (Piece × List ℕ)} (piece_from known here) (Some (p, after)) → p ≡ q
       → ◌≡◌ {A = Option (Piece × List ℕ)} (piece_at known rest) (Some (q, after))
   piece_here rest here after p q skipped is same = ap (piece_from known) (sym skipped) ∙ is ∙ ap (λ x. Some (x, after)) same

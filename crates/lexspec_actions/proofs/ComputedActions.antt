@@ -7,7 +7,7 @@ use Rattle.lex_semantics.specs.Escapes.{simple_escape, octal_at, hexadecimal_at,
 use Rattle.lex_semantics.specs.Literals.{normal}
 use Rattle.lex_semantics.specs.Spec.{EndAction, Statement, Echo, Print, Begin, More, Less, Reject, End, Push, Pop}
 use Rattle.lexre_bytes.specs.Lexical.{after_word, run_at, number_at, name_at, escape_at}
-use Rattle.lexspec_actions.specs.Bytes.{after_space, skip, expect, string_escape_at, literal_at}
+use Rattle.lexspec_actions.specs.Bytes.{after_space, after_spaces, expect, string_escape_at, literal_at}
 use Rattle.lexspec_actions.specs.Actions.{Piece, AreBalanced, next_piece, statement_at, SpellsAction, SpellsEndAction, parts_of, in_parentheses, number_within, second_word, format_at, after_statement, condition_at}
 use Rattle.lexspec_actions.specs.ActionSteps as S
 use Rattle.lexspec_actions.specs.ActionSteps.{does, prints, prints_text, may_stand}
@@ -16,7 +16,7 @@ use Rattle.lexspec_actions.proofs.OneAction.{one_cut}
 use Rattle.lexspec_actions.proofs.SameActions.{balanced, one_balanced, none_left}
 
 pub each_statement : EachStatement
-unfolding take_up_to is_alpha is_upper is_lower is_alnum is_blank is_digit is_xdigit octal_at hexadecimal_at until_quote simple_escape after_word run_at number_at name_at escape_at after_space skip expect string_escape_at literal_at next_piece statement_at parts_of in_parentheses number_within second_word format_at after_statement condition_at
+unfolding take_up_to is_alpha is_upper is_lower is_alnum is_blank is_digit is_xdigit octal_at hexadecimal_at until_quote simple_escape after_word run_at number_at name_at escape_at after_space after_spaces expect string_escape_at literal_at next_piece statement_at parts_of in_parentheses number_within second_word format_at after_statement condition_at
 each_statement = record {
   echo = ((([], Echo ∷ []) ∷ [], ([], refl, refl), one_balanced (does Echo), refl), refl);
   reject = ((([], Reject ∷ []) ∷ [], ([], refl, refl), one_balanced (does Reject), refl), refl);
@@ -34,7 +34,7 @@ each_statement = record {
 }
 
 pub several_statements : SeveralStatements
-unfolding take_up_to is_alpha is_upper is_lower is_alnum is_blank is_digit is_xdigit octal_at hexadecimal_at until_quote simple_escape after_word run_at number_at name_at escape_at after_space skip expect string_escape_at literal_at next_piece statement_at parts_of in_parentheses number_within second_word format_at after_statement condition_at
+unfolding take_up_to is_alpha is_upper is_lower is_alnum is_blank is_digit is_xdigit octal_at hexadecimal_at until_quote simple_escape after_word run_at number_at name_at escape_at after_space after_spaces expect string_escape_at literal_at next_piece statement_at parts_of in_parentheses number_within second_word format_at after_statement condition_at
 several_statements = record {
   none = (((codes ";", []) ∷ [], ([], refl, refl), balanced (S.semicolon ∷ []) refl, refl), refl);
   joined = (
@@ -52,37 +52,37 @@ several_statements = record {
   text_alone = ((([], Print [] ∷ Echo ∷ Print [] ∷ []) ∷ [], ([], refl, refl), one_balanced (prints_text [] []), refl), refl);
 }
 
-nothing_first : (text : List ℕ) → next_piece (known false) text ≡ None → (skip text ≡ [] → ⊥) → (ss : List Statement) → SpellsAction (known false) text ss → ⊥
+nothing_first : (text : List ℕ) → next_piece (known false) text ≡ None → (after_spaces text ≡ [] → ⊥) → (ss : List Statement) → SpellsAction (known false) text ss → ⊥
 nothing_first text none some ss (([], cut, balanced, same), stands) = some cut
 nothing_first text none some ss ((p ∷ ps, (rest, here, cut), balanced, same), stands) = differ (sym none ∙ here)
   where
     differ : ◌≡◌ {A = Option (Piece × List ℕ)} None (Some (p, rest)) → ⊥
     differ e = cc
 
-no_more : (t : List ℕ) (p : Piece) (rest : List ℕ) → skip t ≡ [] → ◌≡◌ {A = Option (Piece × List ℕ)} (next_piece (known false) t) (Some (p, rest)) → ⊥
+no_more : (t : List ℕ) (p : Piece) (rest : List ℕ) → after_spaces t ≡ [] → ◌≡◌ {A = Option (Piece × List ℕ)} (next_piece (known false) t) (Some (p, rest)) → ⊥
 no_more t p rest done here = no (sym (none_left (known false) t done) ∙ here)
   where
     no : ◌≡◌ {A = Option (Piece × List ℕ)} None (Some (p, rest)) → ⊥
     no e = cc
 
 -- a text that is cut so, and then is no action
-unlike : (text : List ℕ) (qs : List Piece) → IsReadAs (next_piece (known false)) (λ t. skip t ≡ []) text qs → (AreBalanced qs → may_stand (normal (flat_map (λ (q : Piece). q.1) qs)) ≡ true → ⊥)
+unlike : (text : List ℕ) (qs : List Piece) → IsReadAs (next_piece (known false)) (λ t. after_spaces t ≡ []) text qs → (AreBalanced qs → may_stand (normal (flat_map (λ (q : Piece). q.1) qs)) ≡ true → ⊥)
     → (ss : List Statement) → SpellsAction (known false) text ss → ⊥
 unlike text qs is not ss ((ps, cut, balanced, same), stands) =
-    let e : ps ≡ qs = one_cut (next_piece (known false)) (λ t. skip t ≡ []) no_more text ps qs cut is in
+    let e : ps ≡ qs = one_cut (next_piece (known false)) (λ t. after_spaces t ≡ []) no_more text ps qs cut is in
     let may : may_stand (normal (flat_map (λ (q : Piece). q.1) ps)) ≡ true = ap may_stand (sym same) ∙ stands in
     not (subst AreBalanced e balanced) (subst (λ xs. may_stand (normal (flat_map (λ (q : Piece). q.1) xs)) ≡ true) e may)
 
 no_semicolon : SaysNothing (codes "ECHO ECHO;")
-unfolding take_up_to is_alpha is_upper is_lower is_alnum is_blank is_digit is_xdigit octal_at hexadecimal_at until_quote simple_escape after_word run_at number_at name_at escape_at after_space skip expect string_escape_at literal_at next_piece statement_at parts_of in_parentheses number_within second_word format_at after_statement condition_at
+unfolding take_up_to is_alpha is_upper is_lower is_alnum is_blank is_digit is_xdigit octal_at hexadecimal_at until_quote simple_escape after_word run_at number_at name_at escape_at after_space after_spaces expect string_escape_at literal_at next_piece statement_at parts_of in_parentheses number_within second_word format_at after_statement condition_at
 no_semicolon = nothing_first (codes "ECHO ECHO;") refl (λ e. cc)
 
 no_stack : SaysNothing (codes "yy_pop_state();")
-unfolding take_up_to is_alpha is_upper is_lower is_alnum is_blank is_digit is_xdigit octal_at hexadecimal_at until_quote simple_escape after_word run_at number_at name_at escape_at after_space skip expect string_escape_at literal_at next_piece statement_at parts_of in_parentheses number_within second_word format_at after_statement condition_at
+unfolding take_up_to is_alpha is_upper is_lower is_alnum is_blank is_digit is_xdigit octal_at hexadecimal_at until_quote simple_escape after_word run_at number_at name_at escape_at after_space after_spaces expect string_escape_at literal_at next_piece statement_at parts_of in_parentheses number_within second_word format_at after_statement condition_at
 no_stack = nothing_first (codes "yy_pop_state();") refl (λ e. cc)
 
 pub no_actions : NoActions
-unfolding take_up_to is_alpha is_upper is_lower is_alnum is_blank is_digit is_xdigit octal_at hexadecimal_at until_quote simple_escape after_word run_at number_at name_at escape_at after_space skip expect string_escape_at literal_at next_piece statement_at parts_of in_parentheses number_within second_word format_at after_statement condition_at
+unfolding take_up_to is_alpha is_upper is_lower is_alnum is_blank is_digit is_xdigit octal_at hexadecimal_at until_quote simple_escape after_word run_at number_at name_at escape_at after_space after_spaces expect string_escape_at literal_at next_piece statement_at parts_of in_parentheses number_within second_word format_at after_statement condition_at
 no_actions = record {
   status = nothing_first (codes "exit(64);") refl (λ e. cc);
   kept = nothing_first (codes "yyless(0);") refl (λ e. cc);
@@ -114,10 +114,10 @@ echo_no_literal [] e = cc
 echo_no_literal (b ∷ bs) e = cc
 
 echo_at_end : (e : EndAction) → SpellsEndAction (known false) (codes "ECHO;") e → ⊥
-unfolding take_up_to is_alpha is_upper is_lower is_alnum is_blank is_digit is_xdigit octal_at hexadecimal_at until_quote simple_escape after_word run_at number_at name_at escape_at after_space skip expect string_escape_at literal_at next_piece statement_at parts_of in_parentheses number_within second_word format_at after_statement condition_at
+unfolding take_up_to is_alpha is_upper is_lower is_alnum is_blank is_digit is_xdigit octal_at hexadecimal_at until_quote simple_escape after_word run_at number_at name_at escape_at after_space after_spaces expect string_escape_at literal_at next_piece statement_at parts_of in_parentheses number_within second_word format_at after_statement condition_at
 echo_at_end e (ss, (ps, cut, balanced, same), few, says) =
-    let is : IsReadAs (next_piece (known false)) (λ t. skip t ≡ []) (codes "ECHO;") (([], Echo ∷ []) ∷ []) = ([], refl, refl) in
-    let f : ps ≡ ([], Echo ∷ []) ∷ [] = one_cut (next_piece (known false)) (λ t. skip t ≡ []) no_more (codes "ECHO;") ps (([], Echo ∷ []) ∷ []) cut is in
+    let is : IsReadAs (next_piece (known false)) (λ t. after_spaces t ≡ []) (codes "ECHO;") (([], Echo ∷ []) ∷ []) = ([], refl, refl) in
+    let f : ps ≡ ([], Echo ∷ []) ∷ [] = one_cut (next_piece (known false)) (λ t. after_spaces t ≡ []) no_more (codes "ECHO;") ps (([], Echo ∷ []) ∷ []) cut is in
     let echoes : ss ≡ Echo ∷ [] = same ∙ ap (λ (qs : List Piece). normal (flat_map (λ (q : Piece). q.1) qs)) f in
     ends_no_way says echoes
   where
@@ -126,7 +126,7 @@ echo_at_end e (ss, (ps, cut, balanced, same), few, says) =
     ends_no_way (inr s) echoes = echo_no_literal e.print (sym echoes ∙ s.0)
 
 pub end_actions : EndActions
-unfolding take_up_to is_alpha is_upper is_lower is_alnum is_blank is_digit is_xdigit octal_at hexadecimal_at until_quote simple_escape after_word run_at number_at name_at escape_at after_space skip expect string_escape_at literal_at next_piece statement_at parts_of in_parentheses number_within second_word format_at after_statement condition_at
+unfolding take_up_to is_alpha is_upper is_lower is_alnum is_blank is_digit is_xdigit octal_at hexadecimal_at until_quote simple_escape after_word run_at number_at name_at escape_at after_space after_spaces expect string_escape_at literal_at next_piece statement_at parts_of in_parentheses number_within second_word format_at after_statement condition_at
 end_actions = record {
   ends = (
     Print (codes "a\n") ∷ End 3 ∷ [],

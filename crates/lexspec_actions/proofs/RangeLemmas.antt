@@ -7,7 +7,7 @@ use Rattle.lex_semantics.specs.Legal.{in_range}
 use Rattle.lex_semantics.specs.ByteSets.{same_bytes, within}
 use Rattle.lex_semantics.specs.Reading.{◌>>=◌, IsReadAs}
 use Rattle.lexspec_actions.specs.Names.{number_from, Scope}
-use Rattle.lexspec_actions.specs.Bytes.{expect, literal_at, skip}
+use Rattle.lexspec_actions.specs.Bytes.{expect, literal_at, after_spaces}
 use Rattle.lexspec_actions.specs.ByteSteps.{digits_at}
 use Rattle.lexre_bytes.specs.Lexical.{name_at}
 use Rattle.lexspec_actions.specs.ActionSteps.{Said, does, prints, prints_text, said_by, Piece, semicolon, opens, closes, says, statements_of, NoPiece, no_argument, number_argument, second_word, parts_of, without_text, with_text, formatted_at, printf_at, fputs_at, puts_at, yymore_at, yyless_at, yyterminate_at, exit_at, condition_at, closed_condition, begins, begin_from, begin_at, pushes, push_from, push_at, pop_at, stack_word, after_word, after_statement, statement_at, piece_from, piece_at}
@@ -112,14 +112,14 @@ number_below k (a ∷ names) name = if_chosen (λ c. c < k + suc (length names))
 module _ (condition : List ℕ → Option ℕ) (n : ℕ) (some : 1 ≤ n) (below : (name : List ℕ) → IfSome (condition name) (λ c. c < n)) where
   condition_good : (t : List ℕ) → IfSome (condition_at condition t) (Numbered n)
   unfolding condition_at
-  condition_good t = from (name_at (skip t))
+  condition_good t = from (name_at (after_spaces t))
     where
       from : (o : Option (List ℕ × List ℕ)) → IfSome (elim o [
         | Some found ↦ condition found.0 >>= λ c. Some (c, found.1)
-        | None ↦ digits_at (skip t) >>= λ (digits, rest). if same_bytes digits (codes "0") then Some (0, rest) else None
+        | None ↦ digits_at (after_spaces t) >>= λ (digits, rest). if same_bytes digits (codes "0") then Some (0, rest) else None
       ]) (Numbered n)
       from (Some found) = if_bind (Numbered n) (condition found.0) _ (λ c e. some_of (λ i. i < n) (condition found.0) c (below found.0) e)
-      from None = if_bind (Numbered n) (digits_at (skip t)) _ (λ found e. if_chosen (Numbered n) (same_bytes found.0 (codes "0")) _ _ (λ h. omega (arith, some)) (λ h. tt))
+      from None = if_bind (Numbered n) (digits_at (after_spaces t)) _ (λ found e. if_chosen (Numbered n) (same_bytes found.0 (codes "0")) _ _ (λ h. omega (arith, some)) (λ h. tt))
 
   closed_good : (t : List ℕ) → IfSome (closed_condition condition t) (Numbered n)
   unfolding closed_condition
@@ -205,4 +205,4 @@ module _ (known : Scope) (n : ℕ) (some : 1 ≤ n) (below : (name : List ℕ) �
   pub cut_good : (text : List ℕ) (ps : List Piece) → IsReadAs (piece_at known) NoPiece text ps → all_raw n (statements_of ps) ≡ true
   cut_good text [] done = refl
   cut_good text (p ∷ ps) (rest, here, cut) =
-      piece_before p ps (some_of GoodPiece (piece_from known (skip text)) (p, rest) (piece_good (skip text)) here) (cut_good rest ps cut)
+      piece_before p ps (some_of GoodPiece (piece_from known (after_spaces text)) (p, rest) (piece_good (after_spaces text)) here) (cut_good rest ps cut)

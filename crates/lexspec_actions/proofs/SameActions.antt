@@ -10,7 +10,7 @@ use Rattle.lex_semantics.specs.Limits.{max_kept, max_status}
 use Rattle.lex_semantics.specs.Spec.{Statement, Echo, Print, Begin, More, Less, End, Push, Pop}
 use Rattle.lexre_bytes.specs.Lexical.{after_word}
 use Rattle.lexspec_actions.specs.Names.{Scope}
-use Rattle.lexspec_actions.specs.Bytes.{skip, expect, literal_at}
+use Rattle.lexspec_actions.specs.Bytes.{after_spaces, expect, literal_at}
 use Rattle.lexspec_actions.specs.ByteSteps.{digits_at}
 use Rattle.lexre_bytes.specs.Lexical.{run_at, number_at, name_at}
 use Rattle.lexre_bytes.proofs.BraceForms.{digit_no_name}
@@ -71,7 +71,7 @@ empty_told s t = twice_told (expect (codes "(") t) _ _ _ (λ inside. bind_told (
 number_told : (low high : ℕ) (s : ℕ → Statement) (test : ℕ → Bool) (t : List ℕ) → ((n : ℕ) → within low high n ≡ test n)
     → in_parentheses (number_within low high s) t ≡ told (number_argument t >>= λ (n, rest). if test n then Some (does (s n), rest) else None)
 unfolding in_parentheses number_within number_at number_argument
-number_told low high s test t same = twice_told (expect (codes "(") t) _ _ _ (λ inside. from (digits_at (skip inside)))
+number_told low high s test t same = twice_told (expect (codes "(") t) _ _ _ (λ inside. from (digits_at (after_spaces inside)))
   where
     ends : (n : ℕ) (rest : List ℕ) (b : Bool) (o : Option (List ℕ)) → within low high n ≡ b → expect (codes ")") rest ≡ o → test n ≡ b
         → ((if◌then◌else◌ {A = Option (List Statement × List ℕ)} (within low high n) (says_only (s n) rest) None) >>= λ (ss, r). expect (codes ")") r >>= λ after. Some (ss, after))
@@ -109,7 +109,7 @@ module _ (known : Scope) where
 
   condition_numbered : (s : ℕ → Statement) (t : List ℕ) → A.condition_at known s t ≡ numbered s (S.condition_at known.number t)
   unfolding A.condition_at S.condition_at
-  condition_numbered s t = from (name_at (skip t)) (λ found e. no_digits (skip t) found e)
+  condition_numbered s t = from (name_at (after_spaces t)) (λ found e. no_digits (after_spaces t) found e)
     where
       zero_only : (b : Bool) (rest : List ℕ) → (if◌then◌else◌ {A = Option (List Statement × List ℕ)} b (says_only (s 0) rest) None) ≡ numbered s (if◌then◌else◌ {A = Option (ℕ × List ℕ)} b (Some (0, rest)) None)
       zero_only true rest = refl
@@ -127,15 +127,15 @@ module _ (known : Scope) where
       listed None rest p e = rw e refl
       listed (Some c) rest p e = refl
 
-      from : (o : Option (List ℕ × List ℕ)) → ((found : List ℕ × List ℕ) → o ≡ Some found → digits_at (skip t) ≡ None)
+      from : (o : Option (List ℕ × List ℕ)) → ((found : List ℕ × List ℕ) → o ≡ Some found → digits_at (after_spaces t) ≡ None)
           → option_or (o >>= λ (name, rest). known.number name >>= λ c. says_only (s c) rest)
-          (digits_at (skip t) >>= λ (ds, rest). if◌then◌else◌ {A = Option (List Statement × List ℕ)} (same_bytes ds (codes "0")) (says_only (s 0) rest) None)
+          (digits_at (after_spaces t) >>= λ (ds, rest). if◌then◌else◌ {A = Option (List Statement × List ℕ)} (same_bytes ds (codes "0")) (says_only (s 0) rest) None)
           ≡ numbered s (elim o [
             | Some found ↦ known.number found.0 >>= λ c. Some (c, found.1)
-            | None ↦ digits_at (skip t) >>= λ (ds, rest). if◌then◌else◌ {A = Option (ℕ × List ℕ)} (same_bytes ds (codes "0")) (Some (0, rest)) None
+            | None ↦ digits_at (after_spaces t) >>= λ (ds, rest). if◌then◌else◌ {A = Option (ℕ × List ℕ)} (same_bytes ds (codes "0")) (Some (0, rest)) None
           ])
-      from (Some found) h = listed (known.number found.0) found.1 (digits_at (skip t)) (h found refl)
-      from None h = digits (digits_at (skip t))
+      from (Some found) h = listed (known.number found.0) found.1 (digits_at (after_spaces t)) (h found refl)
+      from None h = digits (digits_at (after_spaces t))
 
   closed : (s : ℕ → Statement) (inside : List ℕ)
       → (A.condition_at known s inside >>= λ (ss, rest). expect (codes ")") rest >>= λ after. Some (ss, after)) ≡ numbered s (closed_condition known.number inside)
@@ -167,13 +167,13 @@ module _ (known : Scope) where
       from None = refl
       from (Some inside) = closed Push inside ∙ pushes_told (closed_condition known.number inside)
 
-  begin_told : (t : List ℕ) → (if begins (codes "(") (skip t) then in_parentheses (A.condition_at known Begin) t else A.condition_at known Begin t) ≡ told (begin_at known.number t)
+  begin_told : (t : List ℕ) → (if begins (codes "(") (after_spaces t) then in_parentheses (A.condition_at known Begin) t else A.condition_at known Begin t) ≡ told (begin_at known.number t)
   unfolding in_parentheses begin_at expect after_word
-  begin_told t = from (begins (codes "(") (skip t))
+  begin_told t = from (begins (codes "(") (after_spaces t))
     where
-      from : (b : Bool) → (if b then ((if b then Some (drop 1 (skip t)) else None) >>= λ inside. A.condition_at known Begin inside >>= λ (ss, rest). expect (codes ")") rest >>= λ after. Some (ss, after)) else A.condition_at known Begin t)
-          ≡ told (begin_from known.number t (if b then Some (drop 1 (skip t)) else None))
-      from true = closed Begin (drop 1 (skip t)) ∙ begins_told (closed_condition known.number (drop 1 (skip t)))
+      from : (b : Bool) → (if b then ((if b then Some (drop 1 (after_spaces t)) else None) >>= λ inside. A.condition_at known Begin inside >>= λ (ss, rest). expect (codes ")") rest >>= λ after. Some (ss, after)) else A.condition_at known Begin t)
+          ≡ told (begin_from known.number t (if b then Some (drop 1 (after_spaces t)) else None))
+      from true = closed Begin (drop 1 (after_spaces t)) ∙ begins_told (closed_condition known.number (drop 1 (after_spaces t)))
       from false = condition_numbered Begin t ∙ begins_told (S.condition_at known.number t)
 
 -- `, word)`
@@ -193,14 +193,14 @@ second_told {X} word t x = from (expect (codes ",") t)
     named (Some (name, after)) = ends (same_bytes name word) after
 
     from : (o : Option (List ℕ))
-        → ◌≡◌ {A = Option (X × List ℕ)} ((o >>= λ rest. name_at (skip rest) >>= λ (name, after). if same_bytes name word then Some after else None) >>= λ after. expect (codes ")") after >>= λ last. Some (x, last))
-        ((o >>= λ rest. (name_at (skip rest) >>= λ (name, rest). if same_bytes name word then Some rest else None) >>= λ rest. expect (codes ")") rest) >>= λ last. Some (x, last))
+        → ◌≡◌ {A = Option (X × List ℕ)} ((o >>= λ rest. name_at (after_spaces rest) >>= λ (name, after). if same_bytes name word then Some after else None) >>= λ after. expect (codes ")") after >>= λ last. Some (x, last))
+        ((o >>= λ rest. (name_at (after_spaces rest) >>= λ (name, rest). if same_bytes name word then Some rest else None) >>= λ rest. expect (codes ")") rest) >>= λ last. Some (x, last))
     from None = refl
-    from (Some rest) = named (name_at (skip rest))
+    from (Some rest) = named (name_at (after_spaces rest))
 
 -- two punctuators do not come next at one place
 one_sign : (c d : ℕ) (t after : List ℕ) → (c ≡ d → ⊥) → expect (c ∷ []) t ≡ Some after → expect (d ∷ []) t ≡ None
-one_sign c d t after other h = next_is d t ∙ from (skip t) (sym (next_is c t) ∙ h)
+one_sign c d t after other h = next_is d t ∙ from (after_spaces t) (sym (next_is c t) ∙ h)
   where
     from : (u : List ℕ) → first_is c u ≡ Some after → first_is d u ≡ None
     from [] h = refl
@@ -429,12 +429,12 @@ module _ (known : Scope) where
   unfolding A.after_statement S.after_statement
   after_is t = from (expect (codes ";") t)
     where
-      from : (o : Option (List ℕ)) → ◌≡◌ {A = Option (List ℕ)} (option_or o (if is_empty (skip t) || begins (codes "}") (skip t) then Some t else None)) (elim o [
+      from : (o : Option (List ℕ)) → ◌≡◌ {A = Option (List ℕ)} (option_or o (if is_empty (after_spaces t) || begins (codes "}") (after_spaces t) then Some t else None)) (elim o [
         | Some rest ↦ Some rest
-        | None ↦ if S.may_end (skip t) then Some t else None
+        | None ↦ if S.may_end (after_spaces t) then Some t else None
       ])
       from (Some rest) = refl
-      from None = rw (end_is (skip t)) refl
+      from None = rw (end_is (after_spaces t)) refl
 
   row_reads : (o : Option Row) (t : List ℕ) (k : List Statement × List ℕ → Option (List Statement × List ℕ)) → (o >>= λ r. r.1 t >>= k) ≡ ((o >>= λ r. r.1 t) >>= k)
   row_reads None t k = refl
@@ -460,7 +460,7 @@ module _ (known : Scope) where
 
   piece_is : (t : List ℕ) → next_piece known t ≡ pieces_told (S.piece_at known t)
   unfolding next_piece S.piece_from
-  piece_is t = from (skip t)
+  piece_is t = from (after_spaces t)
     where
       said : {o : Option (List Statement × List ℕ)} (p : Option (Said × List ℕ)) → o ≡ told p
           → ◌≡◌ {A = Option (A.Piece × List ℕ)} (o >>= λ (ss, rest). Some (([], ss), rest)) (pieces_told (p >>= λ (s, rest). Some (S.says s, rest)))
@@ -480,7 +480,7 @@ module _ (known : Scope) where
           (λ e. rw e refl)
           (λ k. rw (ne_eqb c 125 k, turned c 125 k) (said (S.statement_at known (c ∷ u)) (statement_told (c ∷ u))))))))
 
-  pub none_left : (t : List ℕ) → skip t ≡ [] → next_piece known t ≡ None
+  pub none_left : (t : List ℕ) → after_spaces t ≡ [] → next_piece known t ≡ None
   unfolding S.piece_from
   none_left t done = piece_is t ∙ ap (λ u. pieces_told (S.piece_from known u)) done
 
@@ -489,7 +489,7 @@ module _ (known : Scope) where
   abbrev OldCut : List ℕ → List A.Piece → Type 0
   OldCut text qs = (ps : List S.Piece) × IsReadAs (S.piece_at known) S.NoPiece text ps × (qs ≡ map piece_told ps)
 
-  old_cut : (text : List ℕ) (qs : List A.Piece) → IsReadAs (next_piece known) (λ t. skip t ≡ []) text qs → OldCut text qs
+  old_cut : (text : List ℕ) (qs : List A.Piece) → IsReadAs (next_piece known) (λ t. after_spaces t ≡ []) text qs → OldCut text qs
   old_cut text [] done = ([], done, refl)
   old_cut text (q ∷ qs) (rest, here, cut) = from (S.piece_at known text) refl (sym (piece_is text) ∙ here) (old_cut rest qs cut)
     where
@@ -505,7 +505,7 @@ module _ (known : Scope) where
           let start : q ∷ qs ≡ map piece_told (p ∷ ps) = cc in
           (p ∷ ps, (rest, e ∙ ap (λ x. Some (p, x)) left, old), start)
 
-  new_cut : (text : List ℕ) (ps : List S.Piece) → IsReadAs (S.piece_at known) S.NoPiece text ps → IsReadAs (next_piece known) (λ t. skip t ≡ []) text (map piece_told ps)
+  new_cut : (text : List ℕ) (ps : List S.Piece) → IsReadAs (S.piece_at known) S.NoPiece text ps → IsReadAs (next_piece known) (λ t. after_spaces t ≡ []) text (map piece_told ps)
   new_cut text [] done = done
   new_cut text (p ∷ ps) (rest, here, cut) = (rest, piece_is text ∙ ap pieces_told here, new_cut rest ps cut)
 

@@ -15,7 +15,7 @@ use Rattle.lexre_bytes.specs.EscapeSteps as pattern
 use Rattle.lexre_bytes.proofs.QuoteLaws.{take_up_to_within}
 use Rattle.lexspec_actions.specs.Comments.{after_star}
 use Rattle.lexspec_actions.specs.ByteSteps.{outside, slash, block, star, line}
-use Rattle.lexspec_actions.specs.Bytes.{after_space, skip, expect, string_escape_at, literal_at}
+use Rattle.lexspec_actions.specs.Bytes.{after_space, after_spaces, expect, string_escape_at, literal_at}
 use Rattle.lexspec_actions.specs.ByteSteps.{skip_in, first_is, as_byte, plain_escape, escape_from, string_byte_at, string_at}
 
 -- in a `/* .. */` comment, also after a star
@@ -98,11 +98,11 @@ skipped t (b ∷ bs) h = from (after_space t) refl (spaces t) (λ rest. skipped 
     from None e after more = rw e (none_passed t bs e ∙ sym (rw e at after))
     from (Some rest) e after more = let is = rw e at after in rw e (more rest (omega (arith, is.1)) ∙ sym is.0)
 
-pub skip_is : (t : List ℕ) → skip t ≡ skip_in outside t
-unfolding skip passed
+pub skip_is : (t : List ℕ) → after_spaces t ≡ skip_in outside t
+unfolding after_spaces passed
 skip_is t = skipped t t (omega arith)
 
-pub nothing_skipped : (rest text : List ℕ) → length rest ≡ 0 → skip_in outside rest ≡ skip_in outside text → rest ≡ skip text
+pub nothing_skipped : (rest text : List ℕ) → length rest ≡ 0 → skip_in outside rest ≡ skip_in outside text → rest ≡ after_spaces text
 nothing_skipped [] text none same = same ∙ sym (skip_is text)
 nothing_skipped (c ∷ t) text none same = absurd (omega arith)
 
@@ -111,9 +111,9 @@ unfolding after_word
 first_word c [] = refl
 first_word c (d ∷ t) = by_sign d c (λ e. rw (e, eq-eqb c c refl) refl) (λ n. rw (ne_eqb d c n, turned d c n) refl)
 
-pub next_is : (c : ℕ) (t : List ℕ) → expect (c ∷ []) t ≡ first_is c (skip t)
+pub next_is : (c : ℕ) (t : List ℕ) → expect (c ∷ []) t ≡ first_is c (after_spaces t)
 unfolding expect
-next_is c t = first_word c (skip t)
+next_is c t = first_word c (after_spaces t)
 
 found_first : (c : ℕ) (here : List ℕ) → 1 ≤ length here → get_or here 0 0 ≡ c → Some (take (length here - 1) (drop 1 here)) ≡ first_is c here
 found_first c [] some same = absurd (omega arith)
@@ -121,7 +121,7 @@ found_first c (d ∷ u) some same =
     let all : take (suc (length u) - 1) u ≡ u = take_all (suc (length u) - 1) u (omega arith) in
     rw (eq-eqb d c same) (ap (λ x. Some x) all)
 
-pub next_found : (c : ℕ) (t here : List ℕ) → here ≡ skip t → 1 ≤ length here → get_or here 0 0 ≡ c → Some (take (length here - 1) (drop 1 here)) ≡ expect (c ∷ []) t
+pub next_found : (c : ℕ) (t here : List ℕ) → here ≡ after_spaces t → 1 ≤ length here → get_or here 0 0 ≡ c → Some (take (length here - 1) (drop 1 here)) ≡ expect (c ∷ []) t
 next_found c t here is some same = found_first c here some same ∙ ap (first_is c) is ∙ sym (next_is c t)
 
 -- strings

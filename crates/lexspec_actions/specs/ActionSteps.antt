@@ -6,7 +6,7 @@ use Rattle.lex_semantics.specs.Reading.{◌>>=◌, Reader, IsReadAs, value}
 use Rattle.lex_semantics.specs.Legal.{ends_last, are_compatible}
 use Rattle.lexspec_actions.specs.Names.{Scope}
 use Rattle.lexspec_actions.specs.Actions.{are_few}
-use Rattle.lexspec_actions.specs.Bytes.{skip, expect, literal_at}
+use Rattle.lexspec_actions.specs.Bytes.{after_spaces, expect, literal_at}
 use Rattle.lexspec_actions.specs.ByteSteps.{digits_at}
 use Rattle.lexre_bytes.specs.Lexical.{name_at}
 use Rattle.lex_semantics.specs.Spec.{EndAction, Statement, Echo, Print, Begin, More, Less, Reject, End, Push, Pop}
@@ -52,7 +52,7 @@ with_text (front, Some back) = Some (prints_text front back)
 
 -- the word, where that comes next
 unfoldable pub this_word : List ℕ → List ℕ → Option (List ℕ)
-this_word word t = name_at (skip t) >>= λ (name, rest). if same_bytes name word then Some rest else None
+this_word word t = name_at (after_spaces t) >>= λ (name, rest). if same_bytes name word then Some rest else None
 
 -- `()`
 unfoldable pub no_argument : List ℕ → Option (List ℕ)
@@ -61,7 +61,7 @@ no_argument t = expect (codes "(") t >>= λ inside. expect (codes ")") inside
 -- `(n)`
 unfoldable pub number_argument : Reader ℕ
 number_argument t =
-    expect (codes "(") t >>= λ inside. digits_at (skip inside) >>= λ (digits, rest). expect (codes ")") rest >>= λ after. Some (value 10 digits, after)
+    expect (codes "(") t >>= λ inside. digits_at (after_spaces inside) >>= λ (digits, rest). expect (codes ")") rest >>= λ after. Some (value 10 digits, after)
 
 -- `, word)`
 unfoldable pub second_word : List ℕ → List ℕ → Option (List ℕ)
@@ -120,7 +120,7 @@ may_end (c ∷ t) = c == 125
 unfoldable pub after_statement : List ℕ → Option (List ℕ)
 after_statement t = elim (expect (codes ";") t) [
   | Some rest ↦ Some rest
-  | None ↦ if may_end (skip t) then Some t else None
+  | None ↦ if may_end (after_spaces t) then Some t else None
 ]
 
 -- each brace that is opened is closed, n of them having been opened before
@@ -146,15 +146,15 @@ statements_of (closes ∷ ps) = statements_of ps
 
 -- only blanks, newlines and comments are left
 abbrev pub NoPiece : List ℕ → Type 0
-NoPiece t = skip t ≡ []
+NoPiece t = after_spaces t ≡ []
 
 -- `condition` has the number of each condition's name
 module _ (condition : List ℕ → Option ℕ) where
   -- a condition: its name, or `0`
   unfoldable pub condition_at : Reader ℕ
-  condition_at t = elim (name_at (skip t)) [
+  condition_at t = elim (name_at (after_spaces t)) [
     | Some found ↦ condition found.0 >>= λ c. Some (c, found.1)
-    | None ↦ digits_at (skip t) >>= λ (digits, rest). if same_bytes digits (codes "0") then Some (0, rest) else None
+    | None ↦ digits_at (after_spaces t) >>= λ (digits, rest). if same_bytes digits (codes "0") then Some (0, rest) else None
   ]
 
   -- a condition, and `)`
@@ -221,7 +221,7 @@ module _ (known : Scope) where
       else (statement_at (c ∷ t) >>= λ (s, rest). Some (says s, rest))
 
   abbrev pub piece_at : Reader Piece
-  piece_at t = piece_from (skip t)
+  piece_at t = piece_from (after_spaces t)
 
   -- the text is an action, and these are its statements in normal form
   abbrev pub SpellsStatements : List ℕ → List Statement → Type 0

@@ -4,7 +4,7 @@ use Rattle.std.specs.Option.{option_or}
 use Rattle.lex_semantics.specs.ByteSets.{same_bytes, within, is_digit}
 use Rattle.lex_semantics.specs.Reading.{◌>>=◌, Reader, IsReadAs, begins, is_empty}
 use Rattle.lexspec_actions.specs.Names.{Scope}
-use Rattle.lexspec_actions.specs.Bytes.{skip, expect, literal_at}
+use Rattle.lexspec_actions.specs.Bytes.{after_spaces, expect, literal_at}
 use Rattle.lexre_bytes.specs.Lexical.{run_at, number_at, name_at}
 use Rattle.lex_semantics.specs.Spec.{EndAction, Statement, Echo, Print, Begin, More, Less, Reject, End, Push, Pop}
 use Rattle.lex_semantics.specs.Legal.{ends_last, are_compatible}
@@ -34,11 +34,11 @@ in_parentheses read t =
 
 -- a number from low to high
 unfoldable pub number_within : ℕ → ℕ → (ℕ → Statement) → Reader (List Statement)
-number_within low high s t = number_at (skip t) >>= λ (n, rest). if within low high n then says_only (s n) rest else None
+number_within low high s t = number_at (after_spaces t) >>= λ (n, rest). if within low high n then says_only (s n) rest else None
 
 -- `, word`
 unfoldable pub second_word : List ℕ → List ℕ → Option (List ℕ)
-second_word word t = expect (codes ",") t >>= λ rest. name_at (skip rest) >>= λ (name, after). if same_bytes name word then Some after else None
+second_word word t = expect (codes ",") t >>= λ rest. name_at (after_spaces rest) >>= λ (name, after). if same_bytes name word then Some after else None
 
 -- a format, and `, yytext` where it has a `%s`
 unfoldable pub format_at : Reader (List Statement)
@@ -49,7 +49,7 @@ format_at t = literal_at t >>= λ (text, rest). parts_of false text >>= λ (fron
 
 -- the `;` of a statement, which may be absent before `}` and at the end
 unfoldable pub after_statement : List ℕ → Option (List ℕ)
-after_statement t = option_or (expect (codes ";") t) (if is_empty (skip t) || begins (codes "}") (skip t) then Some t else None)
+after_statement t = option_or (expect (codes ";") t) (if is_empty (after_spaces t) || begins (codes "}") (after_spaces t) then Some t else None)
 
 -- a piece of an action: the punctuator that it is, where it is `{`, `}` or `;` alone, and what it says
 abbrev pub Piece : Type 0
@@ -67,15 +67,15 @@ AreBalanced ps = (punctuators (codes "}") ps ≡ punctuators (codes "{") ps)
 module _ (known : Scope) where
   -- a condition: its name, or `0`
   unfoldable pub condition_at : (ℕ → Statement) → Reader (List Statement)
-  condition_at s t = option_or (name_at (skip t) >>= λ (name, rest). known.number name >>= λ c. says_only (s c) rest)
-      (run_at is_digit (skip t) >>= λ (digits, rest). if same_bytes digits (codes "0") then says_only (s 0) rest else None)
+  condition_at s t = option_or (name_at (after_spaces t) >>= λ (name, rest). known.number name >>= λ c. says_only (s c) rest)
+      (run_at is_digit (after_spaces t) >>= λ (digits, rest). if same_bytes digits (codes "0") then says_only (s 0) rest else None)
 
   -- the statements: the first word of each, and what follows it
   abbrev pub statements : List (List ℕ × Reader (List Statement))
   statements =
       (codes "ECHO", says_only Echo)
       ∷ (codes "REJECT", says_only Reject)
-      ∷ (codes "BEGIN", λ t. if begins (codes "(") (skip t) then in_parentheses (condition_at Begin) t else condition_at Begin t)
+      ∷ (codes "BEGIN", λ t. if begins (codes "(") (after_spaces t) then in_parentheses (condition_at Begin) t else condition_at Begin t)
       ∷ (codes "yymore", in_parentheses (says_only More))
       ∷ (codes "yyless", in_parentheses (number_within 1 max_kept Less))
       ∷ (codes "yyterminate", in_parentheses (says_only (End 0)))
@@ -93,14 +93,14 @@ module _ (known : Scope) where
 
   -- the piece that comes next
   unfoldable pub next_piece : Reader Piece
-  next_piece t = elim (find (λ word. begins word (skip t)) (codes "{" ∷ codes "}" ∷ codes ";" ∷ [])) [
-    | Some word ↦ Some ((word, []), drop 1 (skip t))
-    | None ↦ statement_at (skip t) >>= λ (ss, rest). Some (([], ss), rest)
+  next_piece t = elim (find (λ word. begins word (after_spaces t)) (codes "{" ∷ codes "}" ∷ codes ";" ∷ [])) [
+    | Some word ↦ Some ((word, []), drop 1 (after_spaces t))
+    | None ↦ statement_at (after_spaces t) >>= λ (ss, rest). Some (([], ss), rest)
   ]
 
   -- The text is an action, and these are its statements in normal form. After the last piece only blanks and comments are left.
   abbrev pub SpellsStatements : List ℕ → List Statement → Type 0
-  SpellsStatements text ss = (ps : List Piece) × IsReadAs next_piece (λ t. skip t ≡ []) text ps × AreBalanced ps × (ss ≡ normal (flat_map (λ p. p.1) ps))
+  SpellsStatements text ss = (ps : List Piece) × IsReadAs next_piece (λ t. after_spaces t ≡ []) text ps × AreBalanced ps × (ss ≡ normal (flat_map (λ p. p.1) ps))
 
 -- there are no more statements and literal bytes than an action may have
 abbrev pub are_few : List Statement → Bool

@@ -19,12 +19,12 @@ after_space t =
 
 -- What follows all the blanks, newlines and comments. They are no more than the bytes of the text, so for each byte one of them is
 -- passed over, where one is left.
-unfoldable pub skip : List ℕ → List ℕ
-skip t = fold (λ rest c. unwrap_or (after_space rest) rest) t t
+unfoldable pub after_spaces : List ℕ → List ℕ
+after_spaces t = fold (λ rest c. unwrap_or (after_space rest) rest) t t
 
 -- what follows the word, where that comes next
 unfoldable pub expect : List ℕ → List ℕ → Option (List ℕ)
-expect word t = after_word word (skip t)
+expect word t = after_word word (after_spaces t)
 
 -- after a backslash: one to three octal digits, a letter or sign of C's, or `x` and one or two hexadecimal digits: the byte
 -- from 1 to 255 that these write, as in a pattern

@@ -4,7 +4,7 @@ ghost use Rattle.std.specs.Prelude.{◌∷◌, [], MatchOption, IfSome, IfOk, If
 ghost use Rattle.lex_semantics.specs.Reading.{take_run, is_white, starts_name};
 ghost use Rattle.lex_semantics.specs.ByteSets.{is_digit};
 ghost use Rattle.lexre_bytes.specs.Lexical.{name_at};
-ghost use Rattle.lexspec_actions.specs.Bytes.{skip, expect};
+ghost use Rattle.lexspec_actions.specs.Bytes.{after_spaces, expect};
 ghost use Rattle.lexspec_actions.specs.ByteSteps.{digits_at};
 ghost use Rattle.lexspec_actions.specs.ByteSteps.{skip_in, as_byte};
 ghost use Rattle.lexspec_actions.specs.Bytes.{literal_at};
@@ -110,7 +110,7 @@ fn after_comment(text: &[u8]) -> Option<&[u8]>
 /// What follows blanks, newlines and comments.
 #[tactic(auto, using(crate::proofs::SameBytes::skip_is))]
 pub(crate) fn skip(text: &[u8]) -> &[u8]
-    ensures skipped { result.now ≡ skip text.now }
+    ensures skipped { result.now ≡ after_spaces text.now }
     ensures shorter { length result.now ≤ length text.now }
 {
     let mut rest = text;

@@ -7,7 +7,7 @@ use Rattle.lex_semantics.specs.Text.{IsText, Among, Ascending}
 use Rattle.lex_semantics.specs.Spec.{Spec, rejects}
 use Rattle.lex_semantics.specs.Machine.{state_after}
 use Rattle.lex_semantics.specs.TableFor.{TableFor, Accepted}
-use Rattle.lexauto_dfa.specs.Parts.{states, conditions, start, accepts, IsReached}
+use Rattle.lexauto_dfa.specs.Parts.{states, conditions, start, accepts, IsReachedIn}
 use Rattle.lexauto_dfa.specs.Invariant.{IsAutomaton}
 use Rattle.lexauto_dfa.specs.Automata.{machine_in}
 use Rattle.lexauto_dfa.specs.declared.dfa.Parts.{Parts}
@@ -22,7 +22,7 @@ module _ (p : Parts) (a : IsAutomaton p) (S : Spec) (count : conditions p ≡ le
   first_fits : (c : ℕ) (line_start : Bool) (w : List ℕ) (i : ℕ) → c < length S.conditions → IsText w → Among (accepts p (state_after (machine_in p S) c line_start w)) i → Accepted S c line_start w i
   first_fits c line_start w i low text among = (table.accepts c line_start w i low text).0 among
 
-  reached : (s : ℕ) → s < states p → IsReached p s → length (accepts p s) ≤ 1
+  reached : (s : ℕ) → s < states p → IsReachedIn p s → length (accepts p s) ≤ 1
   reached s h (c, line_start, w, low, text, e) =
       let known : c < length S.conditions = omega (arith, low, count) in
       let there : state_after (machine_in p S) c line_start w ≡ s = walk_after p S (start p c line_start) w ∙ e in

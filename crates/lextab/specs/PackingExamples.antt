@@ -7,8 +7,8 @@ use Rattle.lextab.specs.Packing.{IsPacked}
 abbrev pub by_a : ℕ → ℕ → ℕ
 by_a s b = cond (b == 97) (slice_index (0 ∷ 2 ∷ 3 ∷ 0 ∷ []) s) 0
 
-abbrev pub row_from : ℕ → Row
-row_from b = record { default_target = 0; base = b; rules = [] }
+abbrev pub row_based : ℕ → Row
+row_based b = record { default_target = 0; base = b; rules = [] }
 
 abbrev pub slot_for : ℕ → ℕ → Slot
 slot_for s target = record { check = s; next = target }
@@ -20,7 +20,7 @@ twice_a = record {
   rules = [];
   classes = 2;
   class_of = replicate 97 0 ++ 1 ∷ replicate 158 0;
-  rows = row_from 0 ∷ row_from 0 ∷ row_from 1 ∷ row_from 0 ∷ [];
+  rows = row_based 0 ∷ row_based 0 ∷ row_based 1 ∷ row_based 0 ∷ [];
   slots = slot_for 0 0 ∷ slot_for 1 2 ∷ slot_for 2 3 ∷ [];
 }
 

@@ -2,9 +2,9 @@
 ghost use Rattle.std.specs.Prelude.{◌≡◌, ℕ, map, length, IfOk};
 ghost use Rattle.lex_semantics.specs.Text.{IsText};
 ghost use Rattle.lexspec_actions.specs.Views.{condition_of as condition_in};
-ghost use Rattle.lexspec.specs.RuleViews.{rule_of as rule_in};
+ghost use Rattle.lexspec.specs.RuleViews.{table_rule_of as rule_in};
 ghost use Rattle.lextab_packed.specs.Checks.{Each, HasText};
-ghost use Rattle.lextab_packed.specs.Views.{condition_of, rule_of, row_of};
+ghost use Rattle.lextab_packed.specs.Views.{condition_of, table_rule_of, row_of};
 ghost use Rattle.lextab.specs.Assembled.{start_in, conditions_with, action_in, rows_with};
 
 use lex_machine::{copy_end, copy_statements};
@@ -40,8 +40,8 @@ pub(crate) fn table_conditions(
 
 /// The rules of a table.
 pub(crate) fn table_rules(alloc: Global, rules: &[Rule]) -> Result<Vec<TableRule>, AllocError>
-    ensures same { IfOk result (λ v. map rule_of v.items ≡ map action_in (map rule_in rules.now)) }
-    ensures text { IfOk result (λ v. Each (λ i r. Each HasText 0 r.statements) 0 (map rule_of v.items)) }
+    ensures same { IfOk result (λ v. map table_rule_of v.items ≡ map action_in (map rule_in rules.now)) }
+    ensures text { IfOk result (λ v. Each (λ i r. Each HasText 0 r.statements) 0 (map table_rule_of v.items)) }
 {
     let mut all = Vec::new(alloc);
     for i in 0..rules.len() {

@@ -9,7 +9,7 @@ use Rattle.lex_semantics.specs.Text.{IsText, Among, Ascending}
 use Rattle.lex_semantics.specs.Spec.{Statement, Echo, Print, Begin, More, Less, Reject, End, Push, Pop, EndAction, Cut, Whole, Head, Trail}
 use Rattle.lextab_packed.specs.Table.{Row, RuleOfTable}
 use Rattle.lextab_packed.specs.Checks.{Sizes, IsCondition, IsCutInRange, IsTableRule, IsRow, IsSlot}
-use Rattle.lextab_file.specs.File.{byte, string, cut_text, statement_text, end_text, condition_text, rule_text, row_text, slot_text}
+use Rattle.lextab_file.specs.File.{byte, counted, cut_text, statement_text, end_text, condition_text, rule_text, row_text, slot_text}
 use Rattle.lextab_file.specs.Seen.{EachFrom, IsString, MayStand, Seen, unseen, seen_after}
 use Rattle.lextab_file.specs.declared.error.ReadError.{ReadError}
 use Rattle.lextab_file.specs.Reading.{FieldReader, ◌>>=◌, bad, judged, only_if, paired, seen_as, many, read_byte, read_number, read_bytes, read_long, below, read_positive, read_string, read_literal, end_from, read_end, condition_from, read_condition, whole_of, cut_number, read_cut, bars, arguments, read_statement, read_statements, rule_from, read_rule, above, between, read_accepted, none_at_0, row_from, few, read_row, slot_from, good_check, read_slot}
@@ -48,18 +48,18 @@ reads_byte_below limit h = reads_if byte (λ n. n < 256) (λ n. n < limit) (belo
 abbrev counted_text : {A : Type 0} → (A → List ℕ) → ℕ × List A → List ℕ
 counted_text t p = to_be_bytes w32 p.0 ++ flat_map t p.1
 
-reads_counted : (least most : ℕ) (r : FieldReader ℕ) → IsReader (to_be_bytes w32) (λ n. (least ≤ n) × (n ≤ most)) r → IsReader string (IsString least most) (seen_as (λ p. p.1) (paired r (λ n. read_bytes n)))
-reads_counted least most r counts = reads_like string (λ xs. ((least ≤ length xs) × (length xs ≤ most)) × ((length xs ≡ length xs) × IsText xs)) (IsString least most) (seen_as (λ p. p.1) (paired r (λ n. read_bytes n)))
+reads_counted : (least most : ℕ) (r : FieldReader ℕ) → IsReader (to_be_bytes w32) (λ n. (least ≤ n) × (n ≤ most)) r → IsReader counted (IsString least most) (seen_as (λ p. p.1) (paired r (λ n. read_bytes n)))
+reads_counted least most r counts = reads_like counted (λ xs. ((least ≤ length xs) × (length xs ≤ most)) × ((length xs ≡ length xs) × IsText xs)) (IsString least most) (seen_as (λ p. p.1) (paired r (λ n. read_bytes n)))
     (reads_as (λ (p : ℕ × List ℕ). to_be_bytes w32 p.0 ++ p.1) (λ p. ((least ≤ p.0) × (p.0 ≤ most)) × ((length p.1 ≡ p.0) × IsText p.1)) (paired r (λ n. read_bytes n)) (λ p. p.1) (λ xs. (length xs, xs))
     (reads_both (to_be_bytes w32) (λ n. (least ≤ n) × (n ≤ most)) r (λ n xs. xs) (λ n xs. (length xs ≡ n) × IsText xs) (λ n. read_bytes n)
     counts (λ n l. reads_bytes n))
     (λ xs. refl) (λ p l. ap (λ (n : ℕ). (n, p.1)) l.1.0))
     (λ xs l. (l.0, l.1.1)) (λ xs l. (l.0, (refl, l.1)))
 
-pub reads_string : (least most : ℕ) → most < 4294967296 → IsReader string (IsString least most) (read_string least most)
+pub reads_string : (least most : ℕ) → most < 4294967296 → IsReader counted (IsString least most) (read_string least most)
 reads_string least most h = reads_counted least most (read_long least most) (reads_within least most h)
 
-reads_literal : (room : ℕ) (fault : ReadError) → room ≤ 4096 → IsReader string (IsString 1 room) (read_literal room fault)
+reads_literal : (room : ℕ) (fault : ReadError) → room ≤ 4096 → IsReader counted (IsString 1 room) (read_literal room fault)
 reads_literal room fault low = reads_counted 1 room (judged fault (λ n. nat_le n room) (read_long 1 4096))
     (reads_judged (λ b. fault) (to_be_bytes w32) (λ n. (1 ≤ n) × (n ≤ 4096)) (λ n. (1 ≤ n) × (n ≤ room)) (λ n. nat_le n room) (read_long 1 4096) (reads_within 1 4096 (omega arith))
     (λ n l e. (l.0, le_is n room e)) (λ n l. (is_le n room l.1, (l.0, let k = l.1 in omega arith))))
@@ -69,8 +69,8 @@ reads_literal room fault low = reads_counted 1 room (judged fault (λ n. nat_le 
 pub reads_end : IsReader end_text (λ e. IsString 0 4096 e.print × (e.status < 64)) read_end
 unfolding read_end
 reads_end = reads_as
-    (λ (p : List ℕ × ℕ). string p.0 ++ byte p.1) (λ p. IsString 0 4096 p.0 × (p.1 < 64)) _ end_from (λ e. (e.print, e.status))
-    (reads_both string (IsString 0 4096) _ (λ n. byte) (λ n k. k < 64) _ (reads_string 0 4096 (omega arith)) (λ n l. reads_byte_below 64 (omega arith)))
+    (λ (p : List ℕ × ℕ). counted p.0 ++ byte p.1) (λ p. IsString 0 4096 p.0 × (p.1 < 64)) _ end_from (λ e. (e.print, e.status))
+    (reads_both counted (IsString 0 4096) _ (λ n. byte) (λ n k. k < 64) _ (reads_string 0 4096 (omega arith)) (λ n l. reads_byte_below 64 (omega arith)))
     (λ e. refl) (λ p l. refl)
 
 abbrev ConditionParts : Type 0
@@ -190,7 +190,7 @@ pub reads_statement : (conditions : ℕ) (s : Seen) → conditions ≤ 256 → I
 unfolding read_statement
 reads_statement conditions s low = record { takes = take; again = again }
   where
-    literal : (fault : ReadError) → IsReader string (IsString 1 (4096 - s.literal)) (read_literal (4096 - s.literal) fault)
+    literal : (fault : ReadError) → IsReader counted (IsString 1 (4096 - s.literal)) (read_literal (4096 - s.literal) fault)
     literal fault = reads_literal (4096 - s.literal) fault (omega arith)
 
     named : IsReader byte (λ n. n < conditions) (only_if (below conditions) read_byte)
@@ -206,7 +206,7 @@ reads_statement conditions s low = record { takes = take; again = again }
         elim (chosen (k == 0) _ _ _ u.1) [
           | inl p ↦ taken statement_text (MayStand conditions s) Echo k 0 p.0 refl tt bytes x rest fits.1 p.1
           | inr q ↦ elim (chosen (k == 1) _ _ _ q.1) [
-            | inl p ↦ taken_as Print statement_text (MayStand conditions s) string (IsString 1 (4096 - s.literal)) _ (literal (bad (k ∷ bytes))) k 1 p.0 (λ b l. refl) (λ b l. (free s k 1 u.0 p.0, l)) bytes x rest fits.1 p.1
+            | inl p ↦ taken_as Print statement_text (MayStand conditions s) counted (IsString 1 (4096 - s.literal)) _ (literal (bad (k ∷ bytes))) k 1 p.0 (λ b l. refl) (λ b l. (free s k 1 u.0 p.0, l)) bytes x rest fits.1 p.1
             | inr q ↦ elim (chosen (k == 2) _ _ _ q.1) [
               | inl p ↦ taken_as Begin statement_text (MayStand conditions s) byte (λ n. n < conditions) _ named k 2 p.0 (λ b l. refl) (λ b l. l) bytes x rest fits.1 p.1
               | inr q ↦ elim (chosen (k == 3) _ _ _ q.1) [

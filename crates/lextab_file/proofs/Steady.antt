@@ -15,7 +15,7 @@ use Rattle.lextab_file.specs.declared.error.TableError.{TableError}
 use Rattle.lextab_file.specs.declared.error.TableError.TheVariants as errors
 use Rattle.lextab_file.specs.Reading.{FieldReader, ◌>>=◌, bad, judged, only_if, paired, seen_as, many, read_byte, read_number, read_bytes, below, read_literal, is_magic, sizes_from, read_sizes, end_from, read_end, condition_from, read_condition, whole_of, cut_number, read_cut, bars, arguments, read_statement, rule_from, read_rule, read_class, above, between, read_accepted, none_at_0, row_from, few, read_row, slot_from, good_check, read_slot, Body, read_body, read_versioned, table_from, read_table}
 use Rattle.lex_semantics.specs.ByteSets.{within}
-use Rattle.lextab_file.specs.Refusals.{is_truncated, left_over, refusal_in, refusal_of}
+use Rattle.lextab_file.specs.Refusals.{is_truncated, left_over, refusal_in, read_refusal}
 use Rattle.lextab_file.proofs.Forms.{same_ok}
 use Rattle.lextab_file.proofs.Whole.{front_again}
 
@@ -233,7 +233,7 @@ still bytes more (Err reads.BadMagic) o' e h r n = ap (refusal_in (length (bytes
 still bytes more (Err reads.BadVersion) o' e h r n = ap (refusal_in (length (bytes ++ more))) h ∙ r
 still bytes more (Err reads.OutOfMemory) o' e h r n = ap (refusal_in (length (bytes ++ more))) h ∙ r
 
-pub whatever_follows : (bytes more : List ℕ) (e : TableError) → refusal_of bytes ≡ Some e → is_truncated e ≡ false → refusal_of (bytes ++ more) ≡ Some e
+pub whatever_follows : (bytes more : List ℕ) (e : TableError) → read_refusal bytes ≡ Some e → is_truncated e ≡ false → read_refusal (bytes ++ more) ≡ Some e
 whatever_follows bytes more e r n = still bytes more (read_table bytes) (read_table (bytes ++ more)) e ((steady_table more).same bytes) r n
 
 -- each front of a table's file is cut short
@@ -248,6 +248,6 @@ cut t front rest (Err reads.BadMagic) o' h w some = absurd cc
 cut t front rest (Err reads.BadVersion) o' h w some = absurd cc
 cut t front rest (Err reads.OutOfMemory) o' h w some = absurd cc
 
-pub cut_short : (t : Table) (front rest : List ℕ) → IsTable t → file_of t ≡ front ++ rest → 0 < length rest → refusal_of front ≡ Some errors.Truncated
+pub cut_short : (t : Table) (front rest : List ℕ) → IsTable t → file_of t ≡ front ++ rest → 0 < length rest → read_refusal front ≡ Some errors.Truncated
 cut_short t front rest ok e some =
     cut t front rest (read_table front) (read_table (front ++ rest)) ((steady_table rest).same front) (ap read_table (sym e ∙ sym (append-nil (file_of t))) ∙ front_again t [] ok) some

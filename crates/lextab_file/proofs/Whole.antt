@@ -14,7 +14,7 @@ use Rattle.lextab_file.specs.declared.error.ReadError.{ReadError}
 use Rattle.lextab_file.specs.declared.error.ReadError.TheVariants as reads
 use Rattle.lextab_file.specs.declared.error.TableError.TheVariants as errors
 use Rattle.lextab_file.specs.Reading.{bad, judged, paired, read_number, read_bytes, read_condition, read_rule, read_class, read_row, read_slot, is_magic, sizes_from, read_sizes, Body, read_body, read_versioned, table_from, read_table}
-use Rattle.lextab_file.specs.Refusals.{is_trailing, in_file, left_over, refusal_in, refusal_of}
+use Rattle.lextab_file.specs.Refusals.{is_trailing, in_file, left_over, refusal_in, read_refusal}
 use Rattle.lextab_file.proofs.Forms.{IsReader, same_ok, reads_both, reads_judged, reads_as, reads_like, reads_places, reads_bytes, reads_short}
 use Rattle.lextab_file.proofs.Actions.{and_is}
 use Rattle.lextab_file.proofs.Fields.{reads_within, reads_byte_below, reads_condition, IsRuleBy, reads_rule, reads_row, reads_slot, tag_is}
@@ -239,11 +239,11 @@ front_taken bytes u rest fits e more = let v = reads_table.takes bytes u rest fi
 -- ---- refusals
 
 -- a fault of a field is told as it is in the file
-pub fault_told : (bytes : List ℕ) (d : ReadError) → read_table bytes ≡ Err d → refusal_of bytes ≡ Some (in_file (length bytes) d)
+pub fault_told : (bytes : List ℕ) (d : ReadError) → read_table bytes ≡ Err d → read_refusal bytes ≡ Some (in_file (length bytes) d)
 fault_told bytes d e = ap (refusal_in (length bytes)) e
 
 -- so are bytes after a table
-pub more_told : (bytes : List ℕ) (u : Table) (rest : List ℕ) → read_table bytes ≡ Ok (u, rest) → 0 < length rest → refusal_of bytes ≡ Some errors.TrailingBytes
+pub more_told : (bytes : List ℕ) (u : Table) (rest : List ℕ) → read_table bytes ≡ Ok (u, rest) → 0 < length rest → read_refusal bytes ≡ Some errors.TrailingBytes
 more_told bytes u rest e more = ap (refusal_in (length bytes)) e ∙ left rest more
   where
     left : (rest : List ℕ) → 0 < length rest → left_over rest ≡ Some errors.TrailingBytes
@@ -260,7 +260,7 @@ no_trailing len reads.OutOfMemory h = absurd cc
 
 -- ---- just what is no file is refused
 
-pub file_not_refused : (bytes : List ℕ) (t : Table) → IsFileOf t bytes → refusal_of bytes ≡ None
+pub file_not_refused : (bytes : List ℕ) (t : Table) → IsFileOf t bytes → read_refusal bytes ≡ None
 file_not_refused bytes t f = ap (refusal_in (length bytes)) (file_read bytes t f)
 
 not_refused : (bytes : List ℕ) (o : Result (Table × List ℕ) ReadError) → IsText bytes → read_table bytes ≡ o → refusal_in (length bytes) o ≡ None → (t : Table) × IsFileOf t bytes
@@ -271,10 +271,10 @@ not_refused bytes (Ok x) fits e r = (x.0, file_taken bytes x.0 x.1 fits e (empty
     empty (b ∷ rest) r = absurd cc
 not_refused bytes (Err d) fits e r = absurd cc
 
-pub file_if_not_refused : (bytes : List ℕ) → IsText bytes → refusal_of bytes ≡ None → (t : Table) × IsFileOf t bytes
+pub file_if_not_refused : (bytes : List ℕ) → IsText bytes → read_refusal bytes ≡ None → (t : Table) × IsFileOf t bytes
 file_if_not_refused bytes fits r = not_refused bytes (read_table bytes) fits refl r
 
-pub trailing_told : (bytes : List ℕ) (t : Table) (rest : List ℕ) → IsTable t → bytes ≡ file_of t ++ rest → 0 < length rest → refusal_of bytes ≡ Some errors.TrailingBytes
+pub trailing_told : (bytes : List ℕ) (t : Table) (rest : List ℕ) → IsTable t → bytes ≡ file_of t ++ rest → 0 < length rest → read_refusal bytes ≡ Some errors.TrailingBytes
 trailing_told bytes t rest ok e more = more_told bytes t rest (ap read_table e ∙ front_again t rest ok) more
 
 told_trailing : (bytes : List ℕ) (o : Result (Table × List ℕ) ReadError) → IsText bytes → read_table bytes ≡ o → refusal_in (length bytes) o ≡ Some errors.TrailingBytes → (t : Table) × (rest : List ℕ) × IsTable t × (bytes ≡ file_of t ++ rest) × (0 < length rest)
@@ -285,5 +285,5 @@ told_trailing bytes (Ok x) fits e r = front_taken bytes x.0 x.1 fits e (some x.1
     some (b ∷ rest) r = omega arith
 told_trailing bytes (Err d) fits e r = absurd (no_trailing (length bytes) d (ap is_trailing (same_Some _ _ r)))
 
-pub front_if_trailing : (bytes : List ℕ) → IsText bytes → refusal_of bytes ≡ Some errors.TrailingBytes → (t : Table) × (rest : List ℕ) × IsTable t × (bytes ≡ file_of t ++ rest) × (0 < length rest)
+pub front_if_trailing : (bytes : List ℕ) → IsText bytes → read_refusal bytes ≡ Some errors.TrailingBytes → (t : Table) × (rest : List ℕ) × IsTable t × (bytes ≡ file_of t ++ rest) × (0 < length rest)
 front_if_trailing bytes fits r = told_trailing bytes (read_table bytes) fits refl r

@@ -14,8 +14,8 @@ abbrev pub long : ℕ → List ℕ
 long n = to_be_bytes w32 n
 
 -- the length and the bytes
-abbrev pub string : List ℕ → List ℕ
-string bytes = long (length bytes) ++ bytes
+abbrev pub counted : List ℕ → List ℕ
+counted bytes = long (length bytes) ++ bytes
 
 -- the tag and the number
 abbrev pub cut_text : Cut → List ℕ
@@ -26,7 +26,7 @@ cut_text (Trail n) = 2 ∷ long n
 -- the tag and what it says more
 abbrev pub statement_text : Statement → List ℕ
 statement_text Echo = 0 ∷ []
-statement_text (Print bytes) = 1 ∷ string bytes
+statement_text (Print bytes) = 1 ∷ counted bytes
 statement_text (Begin c) = 2 ∷ c ∷ []
 statement_text More = 3 ∷ []
 statement_text (Less n) = 4 ∷ short n
@@ -36,7 +36,7 @@ statement_text (Push c) = 7 ∷ c ∷ []
 statement_text Pop = 8 ∷ []
 
 abbrev pub condition_text : ConditionOfTable → List ℕ
-condition_text c = long c.start ++ (long c.line_start ++ (string c.end.print ++ c.end.status ∷ []))
+condition_text c = long c.start ++ (long c.line_start ++ (counted c.end.print ++ c.end.status ∷ []))
 
 abbrev pub rule_text : RuleOfTable → List ℕ
 rule_text r = cut_text r.cut ++ (long (length r.statements) ++ flat_map statement_text r.statements)
@@ -76,7 +76,7 @@ abbrev pub byte : ℕ → List ℕ
 byte b = b ∷ []
 
 abbrev pub end_text : EndAction → List ℕ
-end_text e = string e.print ++ e.status ∷ []
+end_text e = counted e.print ++ e.status ∷ []
 
 abbrev pub magic : List ℕ
 magic = codes "LEXTAB"

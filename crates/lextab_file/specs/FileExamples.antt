@@ -3,7 +3,7 @@ use Rattle.std.specs.Prelude.{◌≡◌, ℕ, ◌+◌, List, [], ◌∷◌, ◌+
 use Rattle.lex_semantics.specs.Spec.{Statement, Echo, Print, Push, Pop, Whole}
 use Rattle.lextab_packed.specs.Table.{ConditionOfTable, RuleOfTable, Table}
 use Rattle.lextab_file.specs.File.{file_of}
-use Rattle.lextab_file.specs.Refusals.{refusal_of}
+use Rattle.lextab_file.specs.Refusals.{read_refusal}
 use Rattle.lextab_file.specs.declared.error.TableError.{TableError}
 use Rattle.lextab_file.specs.declared.error.TableError.TheVariants.{BadMagic, BadVersion, Truncated, TrailingBytes, BadField}
 
@@ -92,7 +92,7 @@ changed place bytes = take place keyword_file ++ bytes ++ drop (place + length b
 
 -- it is refused so
 abbrev pub Refused : ℕ → List ℕ → TableError → Type 0
-Refused place bytes e = refusal_of (changed place bytes) ≡ Some e
+Refused place bytes e = read_refusal (changed place bytes) ≡ Some e
 
 -- its field of four bytes at this place is refused if it has this number, below 256
 abbrev pub RefusedField : ℕ → ℕ → Type 0
@@ -133,16 +133,16 @@ long_literals = take 46 keyword_file ++ small 3 ++ 1 ∷ small 1 ++ 75 ∷ 0 ∷
 -- So is a push in a file of version 1 by its tag, where there is one of each kind.
 abbrev pub RefusedTags : Type 0
 RefusedTags =
-    (refusal_of long_literals ≡ Some (BadField 57))
-    × (refusal_of (take 61 long_literals ++ 1 ∷ []) ≡ Some (BadField 58))
-    × (refusal_of (take 7 stack_file ++ 1 ∷ small 1 ++ small 1 ++ small 1 ++ small 1 ++ small 1 ++ drop 28 stack_file) ≡ Some (BadField 51))
+    (read_refusal long_literals ≡ Some (BadField 57))
+    × (read_refusal (take 61 long_literals ++ 1 ∷ []) ≡ Some (BadField 58))
+    × (read_refusal (take 7 stack_file ++ 1 ∷ small 1 ++ small 1 ++ small 1 ++ small 1 ++ small 1 ++ drop 28 stack_file) ≡ Some (BadField 51))
 
 -- No bytes, three bytes, and all but the last one are cut short; with one byte more there is one left over. A fault before the
 -- end is told first.
 abbrev pub RefusedEnds : Type 0
 RefusedEnds =
-    (refusal_of keyword_file ≡ None)
-    × (refusal_of [] ≡ Some Truncated) × (refusal_of (88 ∷ 89 ∷ 90 ∷ []) ≡ Some Truncated)
-    × (refusal_of (take 470 keyword_file) ≡ Some Truncated)
-    × (refusal_of (keyword_file ++ 0 ∷ []) ≡ Some TrailingBytes)
-    × (refusal_of (take 200 (changed 100 (4 ∷ []))) ≡ Some (BadField 100))
+    (read_refusal keyword_file ≡ None)
+    × (read_refusal [] ≡ Some Truncated) × (read_refusal (88 ∷ 89 ∷ 90 ∷ []) ≡ Some Truncated)
+    × (read_refusal (take 470 keyword_file) ≡ Some Truncated)
+    × (read_refusal (keyword_file ++ 0 ∷ []) ≡ Some TrailingBytes)
+    × (read_refusal (take 200 (changed 100 (4 ∷ []))) ≡ Some (BadField 100))

@@ -7,8 +7,8 @@ use Rattle.lextab_file.specs.declared.error.ReadError.TheVariants as reads
 use Rattle.lextab_file.specs.declared.error.TableError.{TableError}
 use Rattle.lextab_file.specs.declared.error.TableError.TheVariants as errors
 
-abbrev pub out_of_memory : TableError
-out_of_memory = errors.OutOfMemory
+abbrev pub memory_refused : TableError
+memory_refused = errors.OutOfMemory
 
 abbrev pub is_out_of_memory : TableError → Bool
 is_out_of_memory errors.OutOfMemory = true
@@ -40,5 +40,5 @@ refusal_in len (Ok x) = left_over x.1
 refusal_in len (Err fault) = Some (in_file len fault)
 
 -- how bytes are refused: for the first field from the left that is not as it must be, or for what stands after a whole table
-abbrev pub refusal_of : List ℕ → Option TableError
-refusal_of bytes = refusal_in (length bytes) (read_table bytes)
+abbrev pub read_refusal : List ℕ → Option TableError
+read_refusal bytes = refusal_in (length bytes) (read_table bytes)

@@ -1,6 +1,6 @@
 //! Why bytes are no table file.
 ghost use Rattle.std.specs.Prelude.{◌≡◌};
-ghost use Rattle.lextab_file.specs.Refusals.{out_of_memory, is_out_of_memory, in_file};
+ghost use Rattle.lextab_file.specs.Refusals.{memory_refused, is_out_of_memory, in_file};
 ghost use Rattle.lextab_file.specs.Views.{is_memory};
 ghost use Rattle.lextab_file.specs.declared.error.ReadError.TheVariants.{OutOfMemory};
 
@@ -31,7 +31,7 @@ pub enum TableError {
 }
 
 impl From<AllocError> for TableError {
-    ghost from_gives = { λ _ e. e ≡ out_of_memory };
+    ghost from_gives = { λ _ e. e ≡ memory_refused };
 
     /// A request for memory was refused.
     fn from(_error: AllocError) -> TableError {

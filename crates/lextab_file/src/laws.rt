@@ -4,7 +4,7 @@ ghost use Rattle.lex_semantics.specs.Text.{IsText};
 ghost use Rattle.lextab_packed.specs.Table.{Table};
 ghost use Rattle.lextab_packed.specs.Checks.{IsTable};
 ghost use Rattle.lextab_file.specs.File.{file_of, IsFileOf};
-ghost use Rattle.lextab_file.specs.Refusals.{is_truncated, refusal_of};
+ghost use Rattle.lextab_file.specs.Refusals.{is_truncated, read_refusal};
 ghost use Rattle.lextab_file.specs.declared.error.TableError.{TableError};
 ghost use Rattle.lextab_file.specs.declared.error.TableError.TheVariants.{TrailingBytes, Truncated};
 ghost use Rattle.lextab_file.specs.FileExamples.{KeywordFile, StackFile};
@@ -20,13 +20,13 @@ pub fn one_table()
 /// How bytes are refused: just where they are no table's file, and as cut short where they are the front of one. Any
 /// other fault of bytes is told whatever follows them.
 pub fn laws_of_refusals()
-    ensures file { (bytes : List ℕ) → IsText bytes → (refusal_of bytes ≡ None) ↔ ((t : Table) × IsFileOf t bytes) }
-    ensures trailing { (bytes : List ℕ) → IsText bytes → (refusal_of bytes ≡ Some TrailingBytes)
+    ensures file { (bytes : List ℕ) → IsText bytes → (read_refusal bytes ≡ None) ↔ ((t : Table) × IsFileOf t bytes) }
+    ensures trailing { (bytes : List ℕ) → IsText bytes → (read_refusal bytes ≡ Some TrailingBytes)
         ↔ ((t : Table) × (rest : List ℕ) × IsTable t × (bytes ≡ file_of t ++ rest) × (0 < length rest)) }
     ensures front { (t : Table) (front rest : List ℕ) → IsTable t → file_of t ≡ front ++ rest → 0 < length rest
-        → refusal_of front ≡ Some Truncated }
-    ensures first { (bytes rest : List ℕ) (e : TableError) → refusal_of bytes ≡ Some e → is_truncated e ≡ false
-        → refusal_of (bytes ++ rest) ≡ Some e }
+        → read_refusal front ≡ Some Truncated }
+    ensures first { (bytes rest : List ℕ) (e : TableError) → read_refusal bytes ≡ Some e → is_truncated e ≡ false
+        → read_refusal (bytes ++ rest) ≡ Some e }
 {}
 
 /// Worked examples of table files: that of two rules, byte for byte, and that of a rule that uses the stack of

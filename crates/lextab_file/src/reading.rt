@@ -5,7 +5,7 @@ ghost use Rattle.lextab_packed.specs.Checks.{IsTable};
 ghost use Rattle.lextab_packed.specs.Views.{table_of};
 ghost use Rattle.lextab_file.specs.File.{file_of, IsFileOf};
 ghost use Rattle.lextab_file.specs.Reading.{read_table};
-ghost use Rattle.lextab_file.specs.Refusals.{is_out_of_memory, is_trailing, refusal_of};
+ghost use Rattle.lextab_file.specs.Refusals.{is_out_of_memory, is_trailing, read_refusal};
 ghost use Rattle.lextab_file.specs.Views.{Gives};
 
 mod actions;
@@ -63,7 +63,7 @@ pub fn read_parts(alloc: Global, bytes: &[u8]) -> Result<TableParts, TableError>
     // The bytes are the table's file.
     ensures found { IfOk result (λ parts. IsFileOf (table_of parts) bytes.now) }
     // Unless memory ran out, it is the fault of the first field that is not as it must be, with that field's offset.
-    ensures refused { IfErr result (λ e. is_out_of_memory e ≡ false → refusal_of bytes.now ≡ Some e) }
+    ensures refused { IfErr result (λ e. is_out_of_memory e ≡ false → read_refusal bytes.now ≡ Some e) }
     // Unless memory ran out, the bytes are no table's file.
     ensures none { IfErr result (λ e. is_out_of_memory e ≡ false → (t : Table) → IsFileOf t bytes.now → ⊥) }
     // A proper prefix of the bytes is a table's file.

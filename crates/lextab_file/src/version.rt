@@ -1,7 +1,7 @@
 //! Which version of the table file rules need.
 ghost use Rattle.std.specs.Prelude.{◌≡◌, map};
 ghost use Rattle.lex_machine.specs.Views.{statement_of};
-ghost use Rattle.lextab_packed.specs.Views.{rule_of};
+ghost use Rattle.lextab_packed.specs.Views.{table_rule_of};
 ghost use Rattle.lextab_file.specs.File.{has_stack, version_of, any_stack};
 
 use lex_machine::Statement;
@@ -21,7 +21,7 @@ fn has_stack(statements: &[Statement]) -> bool
 
 /// Whether a rule has a statement of the stack.
 fn any_stack(rules: &[TableRule]) -> bool
-    ensures { result ≡ any_stack (map rule_of rules.now) }
+    ensures { result ≡ any_stack (map table_rule_of rules.now) }
 {
     for rule in rules {
         if has_stack(&rule.statements) {
@@ -33,7 +33,7 @@ fn any_stack(rules: &[TableRule]) -> bool
 
 /// The version that the rules need: 2 where one has a statement of the stack, and else 1.
 pub fn version_of(rules: &[TableRule]) -> u16
-    ensures { result ≡ version_of (map rule_of rules.now) }
+    ensures { result ≡ version_of (map table_rule_of rules.now) }
 {
     if any_stack(rules) { 2 } else { 1 }
 }

@@ -12,7 +12,7 @@ use Rattle.lex_machine.specs.Views.{statement_of}
 use Rattle.lex_machine.specs.Glances.{FirstDoes, Gists, are_simple}
 use Rattle.lextab_packed.specs.declared.kinds.Kind.{Kind}
 use Rattle.lextab_packed.specs.declared.kinds.Kind.TheVariants.{Any, NoRule, Silent, Echo, Print, Begin, Several}
-use Rattle.lextab_packed.specs.Flats.{kind_doing, kind_keeping, kind_first, kind_of, marked}
+use Rattle.lextab_packed.specs.Flats.{kind_doing, kind_keeping, kind_first, kind_of, as_target}
 
 -- an element more
 slice_get_before : {A : Type 0} (xs : List A) (y : A) (s : ℕ) → s < length xs → slice_get (xs ++ y ∷ []) s ≡ slice_get xs s
@@ -109,7 +109,7 @@ only_is (i ∷ j ∷ items) item a b e is one = absurd (no one)
 
 -- what the mark of a stop says
 module _ (M : Machine) (s r : ℕ) (low : s ≤ 8192) where
-  pub marks_none : (k : Kind) → k ≡ kind_of M s → r ≡ marked false k s → r < 2148532224 → Gists M s Gist.NoRule
+  pub marks_none : (k : Kind) → k ≡ kind_of M s → r ≡ as_target false k s → r < 2148532224 → Gists M s Gist.NoRule
   marks_none Any e m lt = absurd (omega (arith, m, lt))
   marks_none NoRule e m lt = knows M s NoRule e
   marks_none Silent e m lt = absurd (omega (arith, m, lt))
@@ -118,7 +118,7 @@ module _ (M : Machine) (s r : ℕ) (low : s ≤ 8192) where
   marks_none (Begin c) e m lt = absurd (omega (arith, m, lt))
   marks_none (Several rule) e m lt = absurd (omega (arith, m, lt))
 
-  pub marks_silent : (k : Kind) → k ≡ kind_of M s → r ≡ marked false k s → 2148532224 ≤ r → r < 2149580800 → Gists M s Gist.Silent
+  pub marks_silent : (k : Kind) → k ≡ kind_of M s → r ≡ as_target false k s → 2148532224 ≤ r → r < 2149580800 → Gists M s Gist.Silent
   marks_silent Any e m le lt = absurd (omega (arith, m, lt))
   marks_silent NoRule e m le lt = absurd (omega (arith, m, le, low))
   marks_silent Silent e m le lt = knows M s Silent e
@@ -127,7 +127,7 @@ module _ (M : Machine) (s r : ℕ) (low : s ≤ 8192) where
   marks_silent (Begin c) e m le lt = absurd (omega (arith, m, lt))
   marks_silent (Several rule) e m le lt = absurd (omega (arith, m, lt))
 
-  pub marks_echo : (k : Kind) → k ≡ kind_of M s → r ≡ marked false k s → 2149580800 ≤ r → r < 2150629376 → Gists M s Gist.Echo
+  pub marks_echo : (k : Kind) → k ≡ kind_of M s → r ≡ as_target false k s → 2149580800 ≤ r → r < 2150629376 → Gists M s Gist.Echo
   marks_echo Any e m le lt = absurd (omega (arith, m, lt))
   marks_echo NoRule e m le lt = absurd (omega (arith, m, le, low))
   marks_echo Silent e m le lt = absurd (omega (arith, m, le, low))
@@ -136,7 +136,7 @@ module _ (M : Machine) (s r : ℕ) (low : s ≤ 8192) where
   marks_echo (Begin c) e m le lt = absurd (omega (arith, m, lt))
   marks_echo (Several rule) e m le lt = absurd (omega (arith, m, lt))
 
-  pub marks_other : (k : Kind) → r ≡ marked false k s → 2150629376 ≤ r → r - 2150629376 ≡ s
+  pub marks_other : (k : Kind) → r ≡ as_target false k s → 2150629376 ≤ r → r - 2150629376 ≡ s
   marks_other Any m le = omega (arith, m)
   marks_other NoRule m le = absurd (omega (arith, m, le, low))
   marks_other Silent m le = absurd (omega (arith, m, le, low))

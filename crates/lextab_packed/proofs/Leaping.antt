@@ -8,17 +8,17 @@ use Rattle.lex_semantics.specs.Machine.{Machine}
 use Rattle.lextab_packed.specs.declared.tables.Tables.{Tables}
 use Rattle.lextab_packed.specs.declared.flat.Flat.{Flat}
 use Rattle.lextab_packed.specs.declared.leaps.Leavers.{Leavers}
-use Rattle.lextab_packed.specs.Flats.{marked, kind_of}
+use Rattle.lextab_packed.specs.Flats.{as_target, kind_of}
 use Rattle.lextab_packed.specs.Leaps.{AllOthers, OthersStay}
-use Rattle.lextab_packed.specs.Machines.{table_machine, states_of}
+use Rattle.lextab_packed.specs.Machines.{table_machine, table_states}
 use Rattle.lextab_packed.specs.Runs.{Stays, IsRun}
 use Rattle.lextab_packed.specs.Steps.{step_of}
 use Rattle.lextab_packed.specs.Views.{table_of}
 use Rattle.lextab_packed.proofs.Marks as Mark
 
 -- a state whose target by a byte is its own row
-stays_at : (t : Tables) (rows : List ℕ) (s b : ℕ) → s < states_of t →
-    get_or rows (256 * s + b) 0 ≡ marked (flag t.goes_on.items (step_of (table_of t.parts) s b)) (kind_of (table_machine t) (step_of (table_of t.parts) s b)) (step_of (table_of t.parts) s b) →
+stays_at : (t : Tables) (rows : List ℕ) (s b : ℕ) → s < table_states t →
+    get_or rows (256 * s + b) 0 ≡ as_target (flag t.goes_on.items (step_of (table_of t.parts) s b)) (kind_of (table_machine t) (step_of (table_of t.parts) s b)) (step_of (table_of t.parts) s b) →
     get_or rows (256 * s + b) 0 ≡ 256 * s → ((table_machine t).next s b ≡ s) × ((table_machine t).goes_on s ≡ true)
 stays_at t rows s b known is same =
     let M : Machine = table_machine t in
@@ -28,7 +28,7 @@ stays_at t rows s b known is same =
     (e, subst (λ n. M.goes_on n ≡ true) e g.0)
 
 -- bytes that are none of the three make a run
-pub run_of : (f : Flat) (s : ℕ) (bytes : List ℕ) (start end : ℕ) (l : Leavers) → s < states_of f.tables → OthersStay f.rows.items (256 * s) l → ((i : ℕ) → get_or bytes i 0 < 256) → AllOthers l bytes start end →
+pub run_of : (f : Flat) (s : ℕ) (bytes : List ℕ) (start end : ℕ) (l : Leavers) → s < table_states f.tables → OthersStay f.rows.items (256 * s) l → ((i : ℕ) → get_or bytes i 0 < 256) → AllOthers l bytes start end →
     Stays (table_machine f.tables) s bytes start end
 run_of f s bytes start end l known stay small all = record {
   order = all.order;
@@ -43,13 +43,13 @@ run_of f s bytes start end l known stay small all = record {
         stays_at f.tables f.rows.items s b known (f.targets s b known (small i)) (stay b (small i) (all.others i low high))
 
 -- a byte at which a run ends leads elsewhere
-pub leaves_at : (t : Tables) (s b r place : ℕ) → place ≡ 256 * s → r ≡ marked (flag t.goes_on.items (step_of (table_of t.parts) s b)) (kind_of (table_machine t) (step_of (table_of t.parts) s b)) (step_of (table_of t.parts) s b) → (r ≡ place → ⊥) →
+pub leaves_at : (t : Tables) (s b r place : ℕ) → place ≡ 256 * s → r ≡ as_target (flag t.goes_on.items (step_of (table_of t.parts) s b)) (kind_of (table_machine t) (step_of (table_of t.parts) s b)) (step_of (table_of t.parts) s b) → (r ≡ place → ⊥) →
     (table_machine t).goes_on s ≡ true → (table_machine t).next s b ≡ s → ⊥
 leaves_at t s b r place is told ne live back =
     let M : Machine = table_machine t in
     let next : ℕ = step_of (table_of t.parts) s b in
     let on : flag t.goes_on.items next ≡ true = ap M.goes_on back ∙ live in
-    ne (told ∙ ap (λ f. marked f (kind_of M next) next) on ∙ ap (λ n. 256 * n) back ∙ sym is)
+    ne (told ∙ ap (λ f. as_target f (kind_of M next) next) on ∙ ap (λ n. 256 * n) back ∙ sym is)
 
 -- a run to its end
 pub ends_at : (M : Machine) (s : ℕ) (bytes : List ℕ) (start end : ℕ) → Stays M s bytes start end → (end < length bytes → M.goes_on s ≡ true → M.next s (get_or bytes end 0) ≡ s → ⊥) → IsRun M s bytes start end

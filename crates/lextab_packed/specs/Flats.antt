@@ -39,11 +39,11 @@ stop_of Echo = 2 ^ 31 + 2 * 2 ^ 20
 stop_of other = 2 ^ 31 + 3 * 2 ^ 20
 
 -- A target is the place of its row where the machine goes on from it, and else its number, with a mark.
-abbrev pub marked : Bool → Kind → ℕ → ℕ
-marked true kind s = 256 * s
-marked false kind s = stop_of kind + s
+abbrev pub as_target : Bool → Kind → ℕ → ℕ
+as_target true kind s = 256 * s
+as_target false kind s = stop_of kind + s
 
 -- the marked target of a state by a byte
 abbrev pub marked_target : Tables → ℕ → ℕ → ℕ
 marked_target t s b =
-    let next = step_of (table_of t.parts) s b in marked (flag t.goes_on.items next) (kind_of (table_machine t) next) next
+    let next = step_of (table_of t.parts) s b in as_target (flag t.goes_on.items next) (kind_of (table_machine t) next) next

@@ -18,12 +18,12 @@ flags_of t = t.goes_on.items
 abbrev pub table_machine : Tables → Machine
 table_machine t = machine_of_table (table_of t.parts) (λ s. slice_index_or t.goes_on.items s false)
 
-abbrev pub states_of : Tables → ℕ
-states_of t = length t.parts.rows.items
+abbrev pub table_states : Tables → ℕ
+table_states t = length t.parts.rows.items
 
 -- what the type keeps: the machine keeps its laws, and stays below the count of states
 abbrev pub laws_of : (t : Tables) → MachineLaws (table_machine t)
 laws_of t = t.laws
 
-abbrev pub below_of : (t : Tables) → StaysBelow (table_machine t) (states_of t)
+abbrev pub below_of : (t : Tables) → StaysBelow (table_machine t) (table_states t)
 below_of t = t.below

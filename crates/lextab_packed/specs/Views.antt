@@ -24,8 +24,8 @@ table_of p = record {
 abbrev pub condition_of : TableCondition → T.ConditionOfTable
 condition_of c = record { start = c.start; line_start = c.line_start; end = end_action_of c.end }
 
-abbrev pub rule_of : TableRule → T.RuleOfTable
-rule_of r = record { cut = cut_of r.cut; statements = map statement_of r.statements.items }
+abbrev pub table_rule_of : TableRule → T.RuleOfTable
+table_rule_of r = record { cut = cut_of r.cut; statements = map statement_of r.statements.items }
 
 abbrev pub row_of : Row → T.Row
 row_of r = record { default_target = r.default_target; base = r.base; rules = r.rules.items }

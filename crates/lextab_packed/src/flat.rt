@@ -4,13 +4,13 @@ ghost use Rattle.std.specs.Prelude.{length, slice_index, slice_get, get_or, Some
 ghost use Rattle.std.specs.Option.{ForSome};
 ghost use Rattle.lex_machine.specs.Glances.{Leads, Gists};
 ghost use Rattle.lex_semantics.specs.Limits.{max_states};
-ghost use Rattle.lextab_packed.specs.Flats.{marked, marked_target, kind_of};
+ghost use Rattle.lextab_packed.specs.Flats.{as_target, marked_target, kind_of};
 ghost use Rattle.lextab_packed.specs.Leaps.{OthersStay};
 ghost use Rattle.lextab_packed.specs.Runs.{Stays, IsRun};
 ghost use Rattle.lextab_packed.specs.declared.kinds.Kind.{Kind};
 ghost use Rattle.lextab_packed.specs.Steps.{step_of};
 ghost use Rattle.lextab_packed.specs.Views.{table_of};
-ghost use Rattle.lextab_packed.specs.Machines.{table_machine, table_parts, states_of, laws_of, below_of};
+ghost use Rattle.lextab_packed.specs.Machines.{table_machine, table_parts, table_states, laws_of, below_of};
 
 use crate::kinds::{Kind, kinds_of};
 use crate::leaps::{Leavers, leaps_of, pass_over};
@@ -47,7 +47,7 @@ impl Flat {
     /// The same machine, by rows.
     pub fn new(alloc: Global, tables: Tables) -> Result<Flat, AllocError>
         ensures machine { IfOk result (λ f. table_machine (tables_of f) ≡ table_machine tables) }
-        ensures states { IfOk result (λ f. states_of (tables_of f) ≡ states_of tables) }
+        ensures states { IfOk result (λ f. table_states (tables_of f) ≡ table_states tables) }
     {
         let rows = flat_rows(alloc, &tables.parts)?;
         Flat::of_rows(alloc, tables, rows)
@@ -75,8 +75,8 @@ impl Flat {
     /// The marked state after one byte more, from the state whose row is at this place.
     #[inline(always)]
     fn target(&self, place: u32, byte: u8) -> u32
-        requires { (s : ℕ) × (s < states_of self.now.tables) × (place ≡ 256 * s) }
-        ensures { (s : ℕ) → place ≡ 256 * s → s < states_of self.now.tables
+        requires { (s : ℕ) × (s < table_states self.now.tables) × (place ≡ 256 * s) }
+        ensures { (s : ℕ) → place ≡ 256 * s → s < table_states self.now.tables
             → result ≡ marked_target self.now.tables s byte }
     {
         self.rows[place as usize + usize::from(byte)]
@@ -85,9 +85,9 @@ impl Flat {
     /// The end of the run of bytes, from `start` on, that lead from the state whose row is at this place to itself.
     #[inline(always)]
     fn run_end(&self, place: u32, bytes: &[u8], start: usize) -> usize
-        requires place { (s : ℕ) × (s < states_of self.now.tables) × (place ≡ 256 * s) }
+        requires place { (s : ℕ) × (s < table_states self.now.tables) × (place ≡ 256 * s) }
         requires start { start ≤ length bytes.now }
-        ensures { (s : ℕ) → place ≡ 256 * s → s < states_of self.now.tables
+        ensures { (s : ℕ) → place ≡ 256 * s → s < table_states self.now.tables
             → IsRun (table_machine self.now.tables) s bytes.now start result }
     {
         let near = start + (bytes.len() - start).min(NEAR);
@@ -104,9 +104,9 @@ impl Flat {
     /// The end of some of the bytes of such a run, which are found many at a time where few bytes lead away from the state.
     #[inline(always)]
     fn leap_end(&self, place: u32, bytes: &[u8], start: usize) -> usize
-        requires place { (s : ℕ) × (s < states_of self.now.tables) × (place ≡ 256 * s) }
+        requires place { (s : ℕ) × (s < table_states self.now.tables) × (place ≡ 256 * s) }
         requires start { start ≤ length bytes.now }
-        ensures { (s : ℕ) → place ≡ 256 * s → s < states_of self.now.tables
+        ensures { (s : ℕ) → place ≡ 256 * s → s < table_states self.now.tables
             → Stays (table_machine self.now.tables) s bytes.now start result }
     {
         match self.leaps[(place / 256) as usize] {
@@ -118,9 +118,9 @@ impl Flat {
     /// The same for a run that may be a long one.
     #[inline(never)]
     fn far_end(&self, place: u32, bytes: &[u8], start: usize) -> usize
-        requires place { (s : ℕ) × (s < states_of self.now.tables) × (place ≡ 256 * s) }
+        requires place { (s : ℕ) × (s < table_states self.now.tables) × (place ≡ 256 * s) }
         requires start { start ≤ length bytes.now }
-        ensures { (s : ℕ) → place ≡ 256 * s → s < states_of self.now.tables
+        ensures { (s : ℕ) → place ≡ 256 * s → s < table_states self.now.tables
             → IsRun (table_machine self.now.tables) s bytes.now start result }
     {
         let mut end = self.leap_end(place, bytes, start);
@@ -133,10 +133,10 @@ impl Flat {
     /// What is told of the state that a marked target is, at which the machine stops.
     #[inline(always)]
     fn gist_at(&self, target: u32) -> Gist<'_>
-        requires { (s : ℕ) × (s < states_of self.now.tables)
-            × (target ≡ marked false (kind_of (table_machine self.now.tables) s) s) }
-        ensures { (s : ℕ) → s < states_of self.now.tables
-            → target ≡ marked false (kind_of (table_machine self.now.tables) s) s
+        requires { (s : ℕ) × (s < table_states self.now.tables)
+            × (target ≡ as_target false (kind_of (table_machine self.now.tables) s) s) }
+        ensures { (s : ℕ) → s < table_states self.now.tables
+            → target ≡ as_target false (kind_of (table_machine self.now.tables) s) s
             → Gists (table_machine self.now.tables) s result }
     {
         if target < STOP_SILENT {
@@ -154,8 +154,8 @@ impl Flat {
 /// The state that a marked target is.
 #[inline(always)]
 fn state_of(target: u32) -> u32
-    ensures goes { (kind : Kind) (s : ℕ) → s ≤ max_states → target ≡ marked true kind s → result ≡ s }
-    ensures stops { (kind : Kind) (s : ℕ) → s ≤ max_states → target ≡ marked false kind s → result ≡ s }
+    ensures goes { (kind : Kind) (s : ℕ) → s ≤ max_states → target ≡ as_target true kind s → result ≡ s }
+    ensures stops { (kind : Kind) (s : ℕ) → s ≤ max_states → target ≡ as_target false kind s → result ≡ s }
 {
     if target < STOP {
         target / 256
@@ -169,7 +169,7 @@ impl Machine for Flat {
 
     ghost machine = { λ f. table_machine (tables_of f) };
 
-    ghost states = { λ f. states_of (tables_of f) };
+    ghost states = { λ f. table_states (tables_of f) };
 
     ghost laws = { λ f. laws_of (tables_of f) };
 

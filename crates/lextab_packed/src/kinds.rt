@@ -2,7 +2,7 @@
 ghost use Rattle.std.specs.Prelude.{◌≡◌, ℕ, ◌<◌, map, length, slice_get, Some, IfOk};
 ghost use Rattle.lex_machine.specs.Views.{statement_of};
 ghost use Rattle.lextab_packed.specs.Flats.{kind_of, kind_doing};
-ghost use Rattle.lextab_packed.specs.Machines.{table_machine, states_of};
+ghost use Rattle.lextab_packed.specs.Machines.{table_machine, table_states};
 
 use crate::tables::Tables;
 use lex_machine::{Cut, Machine, Statement, are_simple};
@@ -49,7 +49,7 @@ fn kind_doing(rule: u32, statements: &[Statement]) -> Kind
 
 /// What the first rule does that the state accepts.
 fn kind_of(tables: &Tables, state: u32) -> Kind
-    requires { state < states_of tables.now }
+    requires { state < table_states tables.now }
     ensures { result ≡ kind_of (table_machine tables.now) state }
 {
     let Some(rule) = tables.accepts(state).first() else {
@@ -64,8 +64,8 @@ fn kind_of(tables: &Tables, state: u32) -> Kind
 
 /// What the first rule does that each state accepts.
 pub(crate) fn kinds_of(alloc: Global, tables: &Tables) -> Result<Vec<Kind>, AllocError>
-    ensures len { IfOk result (λ v. length v.items ≡ states_of tables.now) }
-    ensures each { IfOk result (λ v. (s : ℕ) → s < states_of tables.now
+    ensures len { IfOk result (λ v. length v.items ≡ table_states tables.now) }
+    ensures each { IfOk result (λ v. (s : ℕ) → s < table_states tables.now
         → slice_get v.items s ≡ Some (kind_of (table_machine tables.now) s)) }
 {
     let states = tables.parts.rows.len();

@@ -1,5 +1,5 @@
 //! What packed tables tell a scanner.
-ghost use Rattle.lextab_packed.specs.Machines.{below_of, laws_of, table_machine, states_of};
+ghost use Rattle.lextab_packed.specs.Machines.{below_of, laws_of, table_machine, table_states};
 
 use crate::steps::target;
 use crate::tables::Tables;
@@ -8,7 +8,7 @@ use lex_machine::{Cut, EndAction, Machine, Statement};
 impl Machine for Tables {
     ghost machine = { λ t. table_machine t };
 
-    ghost states = { λ t. states_of t };
+    ghost states = { λ t. table_states t };
 
     ghost laws = { λ t. laws_of t };
 

@@ -2,8 +2,8 @@
 ghost use Rattle.std.specs.Prelude.{◌≡◌, ℕ, ◌+◌, ◌*◌, ◌^◌, ◌<◌, ◌≤◌, length, slice_index, slice_get, Some, IfOk, OnOk};
 ghost use Rattle.lex_semantics.specs.Limits.{max_states};
 ghost use Rattle.lex_semantics.specs.Text.{flag};
-ghost use Rattle.lextab_packed.specs.Flats.{marked, marked_target, stop_of, kind_of};
-ghost use Rattle.lextab_packed.specs.Machines.{table_machine, states_of, flags_of};
+ghost use Rattle.lextab_packed.specs.Flats.{as_target, marked_target, stop_of, kind_of};
+ghost use Rattle.lextab_packed.specs.Machines.{table_machine, table_states, flags_of};
 ghost use Rattle.lextab_packed.specs.Checks.{IsTable};
 ghost use Rattle.lextab_packed.specs.Steps.{step_of};
 ghost use Rattle.lextab_packed.specs.Views.{table_of};
@@ -56,7 +56,7 @@ fn stop_of(kind: Kind) -> u32
 /// A target with its mark.
 fn mark(state: u32, kind: Kind, goes_on: bool) -> u32
     requires { state ≤ max_states }
-    ensures { result ≡ marked goes_on kind state }
+    ensures { result ≡ as_target goes_on kind state }
 {
     if goes_on {
         256 * state
@@ -67,12 +67,12 @@ fn mark(state: u32, kind: Kind, goes_on: bool) -> u32
 
 /// Each state as a target with its mark.
 fn marks_of(alloc: Global, tables: &Tables, kinds: &[Kind]) -> Result<Vec<u32>, AllocError>
-    requires kinds { length kinds.now ≡ states_of tables.now }
-    requires told { (s : ℕ) → s < states_of tables.now
+    requires kinds { length kinds.now ≡ table_states tables.now }
+    requires told { (s : ℕ) → s < table_states tables.now
         → slice_get kinds.now s ≡ Some (kind_of (table_machine tables.now) s) }
-    ensures len { IfOk result (λ v. length v.items ≡ states_of tables.now) }
-    ensures each { IfOk result (λ v. (s : ℕ) → s < states_of tables.now → slice_index v.items s
-        ≡ marked (flag (flags_of tables.now) s) (kind_of (table_machine tables.now) s) s) }
+    ensures len { IfOk result (λ v. length v.items ≡ table_states tables.now) }
+    ensures each { IfOk result (λ v. (s : ℕ) → s < table_states tables.now → slice_index v.items s
+        ≡ as_target (flag (flags_of tables.now) s) (kind_of (table_machine tables.now) s) s) }
 {
     let mut marks = Vec::with_capacity(alloc, kinds.len())?;
     for state in 0..kinds.len() {
@@ -88,8 +88,8 @@ pub(crate) fn mark_rows(
     kinds: &[Kind],
     rows: &mut Vec<u32>,
 ) -> Result<(), AllocError>
-    requires kinds { length kinds.now ≡ states_of tables.now }
-    requires told { (s : ℕ) → s < states_of tables.now
+    requires kinds { length kinds.now ≡ table_states tables.now }
+    requires told { (s : ℕ) → s < table_states tables.now
         → slice_get kinds.now s ≡ Some (kind_of (table_machine tables.now) s) }
     requires len { length rows.old.items ≡ 256 * length tables.now.parts.rows.items }
     requires steps { (s b : ℕ) → s < length tables.now.parts.rows.items → b < 256

@@ -3,7 +3,7 @@ ghost use Rattle.std.specs.Prelude.{◌≡◌, map, length};
 ghost use Rattle.lex_semantics.specs.MachineLaws.{MachineLaws, MachineLaws-prop, StaysBelow, StaysBelow-prop};
 ghost use Rattle.lextab_packed.specs.Checks.{IsTable, some_rule_rejects};
 ghost use Rattle.lextab_packed.specs.Invariant.{GoesOn, GoesOn-prop, IsTable-prop};
-ghost use Rattle.lextab_packed.specs.Views.{rule_of, table_of, machine_of_parts};
+ghost use Rattle.lextab_packed.specs.Views.{table_rule_of, table_of, machine_of_parts};
 
 use crate::parts::{TableParts, TableRule};
 use lex_machine::has_reject;
@@ -20,12 +20,12 @@ pub struct Tables {
         (machine_of_parts parts goes_on.items) },
     ghost below: { StaysBelow (machine_of_parts parts goes_on.items) (length parts.rows.items) } by { StaysBelow-prop
         (machine_of_parts parts goes_on.items) (length parts.rows.items) },
-    ghost rejecting: { rejects ≡ some_rule_rejects (map rule_of parts.rules.items) },
+    ghost rejecting: { rejects ≡ some_rule_rejects (map table_rule_of parts.rules.items) },
 }
 
 /// Whether some rule has REJECT.
 pub fn any_reject(rules: &[TableRule]) -> bool
-    ensures { result ≡ some_rule_rejects (map rule_of rules.now) }
+    ensures { result ≡ some_rule_rejects (map table_rule_of rules.now) }
 {
     for rule in rules {
         if has_reject(&rule.statements) {

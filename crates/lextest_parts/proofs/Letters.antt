@@ -5,7 +5,7 @@ use Rattle.std.specs.Prelude.{◌≡◌, ◌≢◌, ◌↔◌, ℕ, zero, suc, �
 use Rattle.std.proofs.Common.{inl, inr, refl, ap, sym, subst, ◌∙◌, arith, lit<}
 use Rattle.std.proofs.lemmas.Bool.{cases_Bool, cond-true, cond-false, ltb-true}
 use Rattle.lex_semantics.specs.Text.{Among, Ascending}
-use Rattle.lexauto_dfa.specs.Parts.{states, next, lists_in, accepts, goes_on, after, IsReached, LeadsOn}
+use Rattle.lexauto_dfa.specs.Parts.{states, next, lists_in, accepts, goes_on, after, IsReachedIn, LeadsOn}
 use Rattle.lexauto_dfa.specs.Invariant.{IsAutomaton}
 use Rattle.lexauto_dfa.specs.declared.dfa.Parts.{Parts}
 use Rattle.lexauto_dfa.proofs.Machinery.{clash}
@@ -86,7 +86,7 @@ module _ (p : Parts) (starts : p.starts.items ≡ 1 ∷ []) (line_starts : p.lin
         next_known = λ i h. (let k = known i in omega (arith, k, count));
         dead_stays = dead_stays;
         dead_accepts = accepts_is 0;
-        reached = λ s h other. by_state (λ s. s ≢ 0 → ∥ IsReached p s ∥₁)
+        reached = λ s h other. by_state (λ s. s ≢ 0 → ∥ IsReachedIn p s ∥₁)
             (λ n. absurd (n refl))
             (λ n. ∣ (0, false, [], omega (arith, one), tt, start_is) ∣₁)
             (λ n. ∣ (0, false, 97 ∷ [], omega (arith, one), (lit< tt, tt), ap (λ (s : ℕ). next p s 97) start_is ∙ first) ∣₁)

@@ -3,7 +3,7 @@ ghost use Rattle.std.specs.Prelude.{◌≡◌, ℕ, ◌<◌, ◌≤◌, true, fa
 ghost use Rattle.lextab_packed.specs.Checks.{IsTable};
 ghost use Rattle.lextab_packed.specs.Invariant.{GoesOn};
 ghost use Rattle.lextab_packed.specs.Views.{condition_of, row_of, table_of};
-ghost use Rattle.lextab_packed.specs.Machines.{table_machine, states_of};
+ghost use Rattle.lextab_packed.specs.Machines.{table_machine, table_states};
 
 use lex_machine::{Cut, EndAction, Machine, Statement};
 use lextab_packed::{Flat, Row, TableCondition, TableParts, TableRule, Tables, flat_rows};
@@ -85,7 +85,7 @@ fn parts(alloc: Global) -> Result<TableParts, AllocError>
 fn tables(alloc: Global) -> Result<Tables, AllocError>
     ensures conditions { IfOk result (λ t. (table_machine t).conditions ≡ 1) }
     ensures rules { IfOk result (λ t. (table_machine t).count ≡ 1) }
-    ensures states { IfOk result (λ t. states_of t ≡ 3) }
+    ensures states { IfOk result (λ t. table_states t ≡ 3) }
 {
     let parts = parts(alloc)?;
     let goes_on = vec![in alloc; false, true, false]?;

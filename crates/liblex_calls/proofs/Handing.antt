@@ -3,7 +3,7 @@ use Rattle.std.proofs.Common.{◌≡◌, ℕ, min, Bool, List, [], ◌∷◌, �
 use Rattle.std.proofs.lemmas.List.{length-take, take-append-drop}
 use Rattle.liblex_calls.specs.Buffers.{HandedOut}
 use Rattle.liblex_calls.specs.Backlogs.{rest}
-use Rattle.liblex_calls.specs.Progress.{machine_in, StandsAt, Progress, HandsOn}
+use Rattle.liblex_calls.specs.Progress.{scan_machine, StandsAt, Progress, HandsOn}
 use Rattle.liblex_calls.specs.declared.backlog.Backlog.{Backlog}
 use Rattle.liblex_calls.specs.declared.piece_scan.PieceScan.{PieceScan}
 
@@ -42,6 +42,6 @@ hands_on file told fed out p b old new count P handed left =
         machine = P.machine;
         text = P.text;
         finished = P.finished;
-        stands = subst (λ l. StandsAt (machine_in p) p.stage told fed l p.scanner.scan.state p.scanner.waiting.items) (ap (λ l. out ++ l) (sym split) ∙ sym (append_assoc out first (rest b))) P.stands;
+        stands = subst (λ l. StandsAt (scan_machine p) p.stage told fed l p.scanner.scan.state p.scanner.waiting.items) (ap (λ l. out ++ l) (sym split) ∙ sym (append_assoc out first (rest b))) P.stands;
       };
     }

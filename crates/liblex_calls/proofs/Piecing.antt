@@ -17,7 +17,7 @@ use Rattle.lexscan_window.specs.declared.error.RunError.TheVariants as runs
 use Rattle.lexscan.specs.Pushes.{Fed, AsksForMore, AfterFeed, AfterFinish}
 use Rattle.liblex_calls.specs.Backlogs.{rest}
 use Rattle.liblex_calls.specs.Stages.{stage_of, end_of, fault_of}
-use Rattle.liblex_calls.specs.Progress.{IsMachineOf, machine_in, StandsAt, Progress, fed_with}
+use Rattle.liblex_calls.specs.Progress.{IsMachineOf, scan_machine, StandsAt, Progress, fed_with}
 use Rattle.liblex_calls.specs.declared.stage.Stage.{Stage}
 use Rattle.liblex_calls.specs.declared.stage.Stage.TheVariants as stages
 use Rattle.liblex_calls.specs.declared.piece_scan.PieceScan.{PieceScan}
@@ -114,9 +114,9 @@ fed_told false fed piece e = refl
 
 module _ (file : List ℕ) (told : Bool) (fed out : List ℕ) (p p' : PieceScan) (P : Progress file told fed out p) (put : List ℕ) (same : p'.scanner.machine ≡ p.scanner.machine) (wrote : rest p'.backlog ≡ rest p.backlog ++ put) where
   abbrev M : Machine
-  M = machine_in p
+  M = scan_machine p
 
-  same_machine : machine_in p' ≡ machine_in p
+  same_machine : scan_machine p' ≡ scan_machine p
   same_machine = ap (λ f. table_machine f.tables) same
 
   written : (out ++ rest p.backlog) ++ put ≡ out ++ rest p'.backlog
@@ -124,7 +124,7 @@ module _ (file : List ℕ) (told : Bool) (fed out : List ℕ) (p p' : PieceScan)
 
   -- a piece more, where the scan goes on
   pub fed_progress : (piece : List ℕ) → IsText piece → (result : Result Turn RunError) → p.stage ≡ stages.Going → p'.stage ≡ stage_of result → p'.finished ≡ p.finished
-      → ((fed out : List ℕ) → Fed (machine_in p) fed out p.scanner.scan.state p.scanner.waiting.items → AfterFeed (machine_in p) (fed ++ piece) (out ++ put) p'.scanner.scan.state p'.scanner.waiting.items result)
+      → ((fed out : List ℕ) → Fed (scan_machine p) fed out p.scanner.scan.state p.scanner.waiting.items → AfterFeed (scan_machine p) (fed ++ piece) (out ++ put) p'.scanner.scan.state p'.scanner.waiting.items result)
       → (IsErrOf result runs.TooManyReads → 2 ^ 64 - 1 ≤ p.scanner.scan.state.reading.taken + length p.scanner.waiting.items + length piece)
       → Progress file told (fed_with told fed piece) out p'
   fed_progress piece text result going stage finished after many =
@@ -146,7 +146,7 @@ module _ (file : List ℕ) (told : Bool) (fed out : List ℕ) (p p' : PieceScan)
 
   -- its end, where the scan goes on
   pub end_progress : (result : Result ℕ RunError) → p.stage ≡ stages.Going → p'.stage ≡ end_of result → p'.finished ≡ true
-      → ((fed out : List ℕ) → Fed (machine_in p) fed out p.scanner.scan.state p.scanner.waiting.items → AfterFinish (rules_of_machine (machine_in p)) fed (out ++ put) result)
+      → ((fed out : List ℕ) → Fed (scan_machine p) fed out p.scanner.scan.state p.scanner.waiting.items → AfterFinish (rules_of_machine (scan_machine p)) fed (out ++ put) result)
       → (IsErrOf result runs.TooManyReads → 2 ^ 64 - 1 ≤ p.scanner.scan.state.reading.taken + length p.scanner.waiting.items)
       → Progress file true fed out p'
   end_progress result going stage finished after many =
@@ -169,7 +169,7 @@ fed_still file told fed out piece p text not P = record {
   machine = P.machine;
   text = fed_text told fed piece P.text text;
   finished = P.finished;
-  stands = stays (machine_in p) p.stage told fed piece (out ++ rest p.backlog) p.scanner.scan.state p.scanner.waiting.items not P.stands;
+  stands = stays (scan_machine p) p.stage told fed piece (out ++ rest p.backlog) p.scanner.scan.state p.scanner.waiting.items not P.stands;
 }
 
 pub end_still : (file : List ℕ) (told : Bool) (fed out : List ℕ) (p : PieceScan) → (p.stage ≡ stages.Going → ⊥) → Progress file told fed out p → Progress file true fed out (record p { finished = true })
@@ -177,5 +177,5 @@ end_still file told fed out p not P = record {
   machine = P.machine;
   text = P.text;
   finished = refl;
-  stands = stays_told (machine_in p) p.stage told fed (out ++ rest p.backlog) p.scanner.scan.state p.scanner.waiting.items not P.stands;
+  stands = stays_told (scan_machine p) p.stage told fed (out ++ rest p.backlog) p.scanner.scan.state p.scanner.waiting.items not P.stands;
 }

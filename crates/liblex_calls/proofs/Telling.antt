@@ -22,7 +22,7 @@ use Rattle.lexkit.specs.Headline.{reading, TableHeadline, ScansTable, max_reads}
 use Rattle.lexkit.specs.declared.options.Options.{Options}
 use Rattle.lexkit.specs.declared.errors.ScanError.{ScanError}
 use Rattle.lexkit.specs.declared.errors.ScanError.TheVariants as scans
-use Rattle.liblex_calls.specs.Buffers.{HandedOut, Fits, NothingOut}
+use Rattle.liblex_calls.specs.Buffers.{HandedOut, FitsInto, NothingOut}
 use Rattle.lex_io.specs.Source.{Gives}
 use Rattle.lex_io.specs.SliceSources.{slice_rest, slice_ends}
 use Rattle.lex_io.specs.declared.slice_source.SliceSource.{SliceSource}
@@ -34,7 +34,7 @@ use Rattle.liblex_calls.specs.declared.answer.Answer.TheVariants as answers
 use Rattle.liblex_calls.specs.declared.memory.Kept.{Kept as Sink}
 
 -- a file that was handed out
-pub file_out : (options : Options) (text file old new : List ℕ) (count : ℕ) (answer : Answer) (S : Spec) → SpellsSpec (reading options) text S → IsCanonical S file → HandedOut file old new count → Fits file old answer → Generates options text old new count no_fault answer
+pub file_out : (options : Options) (text file old new : List ℕ) (count : ℕ) (answer : Answer) (S : Spec) → SpellsSpec (reading options) text S → IsCanonical S file → HandedOut file old new count → FitsInto file old answer → Generates options text old new count no_fault answer
 file_out options text file old new count answers.Done S spells canonical handed fits = record { spec = S; spells = spells; file = file; canonical = canonical; handed = handed; fits = fits; none = refl }
 file_out options text file old new count answers.TooSmall S spells canonical handed fits = record { spec = S; spells = spells; file = file; canonical = canonical; handed = handed; fits = fits; none = refl }
 file_out options text file old new count answers.Ended S spells canonical handed fits = absurd fits
@@ -77,7 +77,7 @@ module _ (file input old new : List ℕ) (count : ℕ) (s s' : SliceSource) (t t
       }
 
   -- the scan came to its end
-  pub ended_out : (end : ℕ) (answer : Answer) → TableHeadline gave_by wrote_by s s' t t' (nat_lt (slice_ends s) (slice_ends s')) (0 - 0) file (Ok end) → HandedOut t'.bytes.items old new count → Fits t'.bytes.items old answer → ScansInto file input old new count end answer
+  pub ended_out : (end : ℕ) (answer : Answer) → TableHeadline gave_by wrote_by s s' t t' (nat_lt (slice_ends s) (slice_ends s')) (0 - 0) file (Ok end) → HandedOut t'.bytes.items old new count → FitsInto t'.bytes.items old answer → ScansInto file input old new count end answer
   ended_out end answers.Done told handed fits = record { out = t'.bytes.items; run = run_out (Ok end) told (Status end) told.scans.ran; handed = handed; fits = fits }
   ended_out end answers.TooSmall told handed fits = record { out = t'.bytes.items; run = run_out (Ok end) told (Status end) told.scans.ran; handed = handed; fits = fits }
   ended_out end answers.Ended told handed fits = absurd fits

@@ -9,10 +9,10 @@ pub record HandedOut {A : Type 0} (items old new : List A) (count : ℕ) : Type 
   pub count_is : count ≡ length items
 
 -- the answer says whether there is room for all
-abbrev pub Fits : {A : Type 0} → List A → List A → Answer → Type 0
-Fits items buffer answers.Done = length items ≤ length buffer
-Fits items buffer answers.TooSmall = length buffer < length items
-Fits items buffer other = ⊥
+abbrev pub FitsInto : {A : Type 0} → List A → List A → Answer → Type 0
+FitsInto items buffer answers.Done = length items ≤ length buffer
+FitsInto items buffer answers.TooSmall = length buffer < length items
+FitsInto items buffer other = ⊥
 
 -- nothing was handed out
 pub record NothingOut {A : Type 0} (old new : List A) (count : ℕ) : Type 0 where

@@ -10,7 +10,7 @@ use Rattle.lexkit.specs.Faults.{line_of, gen_words, gen_status}
 use Rattle.lexkit.specs.declared.options.Options.{Options}
 use Rattle.lexkit.specs.declared.errors.GenError.{GenError}
 use Rattle.lexkit.specs.declared.errors.GenError.TheVariants as gens
-use Rattle.liblex_calls.specs.Buffers.{HandedOut, Fits, NothingOut}
+use Rattle.liblex_calls.specs.Buffers.{HandedOut, FitsInto, NothingOut}
 use Rattle.liblex_calls.specs.Kinds.{kind_number, build_number}
 use Rattle.liblex_calls.specs.declared.answer.Answer.{Answer}
 use Rattle.liblex_calls.specs.declared.answer.Answer.TheVariants as answers
@@ -38,7 +38,7 @@ pub record FileHandedOut (options : Options) (text old new : List ℕ) (count : 
   pub file : List ℕ
   pub canonical : IsCanonical spec file
   pub handed : HandedOut file old new count
-  pub fits : Fits file old answer
+  pub fits : FitsInto file old answer
   pub none : fault ≡ no_fault
 
 -- The text is refused for this reason; the line of the program that tells it was handed out.

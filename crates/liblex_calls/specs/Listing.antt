@@ -14,7 +14,7 @@ use Rattle.lexscan.specs.Tokens.{Tokenised, Stopped}
 use Rattle.lexkit.specs.Generated.{lines_of}
 use Rattle.lexkit.specs.Headline.{reading}
 use Rattle.lexkit.specs.declared.options.Options.{Options}
-use Rattle.liblex_calls.specs.Buffers.{HandedOut, Fits, NothingOut}
+use Rattle.liblex_calls.specs.Buffers.{HandedOut, FitsInto, NothingOut}
 use Rattle.liblex_calls.specs.Files.{ByFile}
 use Rattle.liblex_calls.specs.declared.answer.Answer.{Answer}
 use Rattle.liblex_calls.specs.declared.answer.Answer.TheVariants as answers
@@ -26,21 +26,21 @@ rule_number (rules.Numbered rule) = rule
 rule_number rules.Default = 4294967295
 
 -- a token with a number for its rule
-abbrev pub shown : Token → TextToken
-shown t = record { start = t.start; end = t.end; rule = rule_number t.rule; condition = t.condition }
+abbrev pub text_token : Token → TextToken
+text_token t = record { start = t.start; end = t.end; rule = rule_number t.rule; condition = t.condition }
 
 -- All tokens of the scan of the input by the rules of the file were handed out, with the status that it ends with.
 pub record TokensHandedOut (file input : List ℕ) (old new : List TextToken) (count status : ℕ) (answer : Answer) : Type 0 where
   pub tokens : List Token
   pub listed : ByFile file (λ R. Tokenised R input tokens (Status status))
-  pub handed : HandedOut (map shown tokens) old new count
-  pub fits : Fits (map shown tokens) old answer
+  pub handed : HandedOut (map text_token tokens) old new count
+  pub fits : FitsInto (map text_token tokens) old answer
 
 -- So were those before a turn that ends the scan at a fault of the stack of conditions.
 pub record TokensBeforeFault (file input : List ℕ) (old new : List TextToken) (count : ℕ) : Type 0 where
   pub tokens : List Token
   pub listed : ByFile file (λ R. Stopped R input tokens runs.Stack)
-  pub handed : HandedOut (map shown tokens) old new count
+  pub handed : HandedOut (map text_token tokens) old new count
 
 -- What listing tokens leaves, by what it answers.
 abbrev pub ListsInto : List ℕ → List ℕ → List TextToken → List TextToken → ℕ → ℕ → Answer → Type 0
@@ -58,7 +58,7 @@ pub record LinesHandedOut (options : Options) (text old new : List ℕ) (count :
   pub spec : Spec
   pub spells : SpellsSpec (reading options) text spec
   pub handed : HandedOut (lines_of spec.rules) old new count
-  pub fits : Fits (lines_of spec.rules) old answer
+  pub fits : FitsInto (lines_of spec.rules) old answer
 
 -- What telling the lines of rules leaves, by what it answers.
 abbrev pub TellsLines : Options → List ℕ → List ℕ → List ℕ → ℕ → Answer → Type 0

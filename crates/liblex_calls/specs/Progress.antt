@@ -29,16 +29,16 @@ pub record IsMachineOf (file : List ℕ) (M : Machine) : Type 0 where
   pub is : M ≡ machine_of_table table (λ state. flag goes_on state)
 
 -- the machine of a scan
-abbrev pub machine_in : PieceScan → Machine
-machine_in p = table_machine (tables_of (push_machine p.scanner))
+abbrev pub scan_machine : PieceScan → Machine
+scan_machine p = table_machine (tables_of (push_machine p.scanner))
 
 -- Over every input that this may be the beginning of, or all of if its end was told, the run writes this and ends so.
 abbrev pub RunsAll : Rules → Bool → List ℕ → List ℕ → Ending → Type 0
 RunsAll R told fed out ending = (x : List ℕ) → Consistent fed told x → Run R x out ending
 
 -- Over each of these inputs, what the run writes begins with this.
-abbrev pub WritesFirst : Rules → Bool → List ℕ → List ℕ → Type 0
-WritesFirst R told fed out = (x : List ℕ) → Consistent fed told x → (w : List ℕ) (ending : Ending) → Run R x w ending → BeginsWith w out
+abbrev pub OutputBegins : Rules → Bool → List ℕ → List ℕ → Type 0
+OutputBegins R told fed out = (x : List ℕ) → Consistent fed told x → (w : List ℕ) (ending : Ending) → Run R x w ending → BeginsWith w out
 
 -- What was fed and what was written, by how far the scan has come. While it goes on, the next turn asks for more than all that was
 -- fed: what was written is all that these bytes decide.
@@ -46,16 +46,16 @@ abbrev pub StandsAt : Machine → Stage → Bool → List ℕ → List ℕ → S
 StandsAt M stages.Going told fed out s waiting = (told ≡ false) × (s.ended ≡ None) × (h : Fed M fed out s waiting) × AsksForMore (rules_of_machine M) h.turns fed
 StandsAt M (stages.Ended status) told fed out s waiting = RunsAll (rules_of_machine M) told fed out (Status status)
 StandsAt M stages.Stack told fed out s waiting = RunsAll (rules_of_machine M) told fed out StackFault
-StandsAt M stages.OutOfMemory told fed out s waiting = WritesFirst (rules_of_machine M) told fed out
-StandsAt M stages.TooManyReads told fed out s waiting = WritesFirst (rules_of_machine M) told fed out × (2 ^ 64 - 1 ≤ length fed)
+StandsAt M stages.OutOfMemory told fed out s waiting = OutputBegins (rules_of_machine M) told fed out
+StandsAt M stages.TooManyReads told fed out s waiting = OutputBegins (rules_of_machine M) told fed out × (2 ^ 64 - 1 ≤ length fed)
 
 -- A scan by the rules of this file was fed these bytes, and these were handed out. Its end was told, or not. With those that are still to
 -- be handed out they are all that was written.
 pub record Progress (file : List ℕ) (told : Bool) (fed out : List ℕ) (p : PieceScan) : Type 0 where
-  pub machine : IsMachineOf file (machine_in p)
+  pub machine : IsMachineOf file (scan_machine p)
   pub text : IsText fed
   pub finished : p.finished ≡ told
-  pub stands : StandsAt (machine_in p) p.stage told fed (out ++ rest p.backlog) (push_state p.scanner) (push_waiting p.scanner)
+  pub stands : StandsAt (scan_machine p) p.stage told fed (out ++ rest p.backlog) (push_state p.scanner) (push_waiting p.scanner)
 
 -- What counts as fed with a piece more: once the end was told, nothing more does.
 abbrev pub fed_with : Bool → List ℕ → List ℕ → List ℕ

@@ -11,7 +11,7 @@ use Rattle.lexscan_window.specs.declared.error.RunError.{RunError}
 use Rattle.lexscan_window.specs.declared.error.RunError.TheVariants as runs
 use Rattle.lexkit.specs.declared.errors.ScanError.{ScanError}
 use Rattle.lexkit.specs.declared.errors.ScanError.TheVariants as scans
-use Rattle.liblex_calls.specs.Buffers.{HandedOut, Fits, NothingOut}
+use Rattle.liblex_calls.specs.Buffers.{HandedOut, FitsInto, NothingOut}
 use Rattle.liblex_calls.specs.Files.{ByFile}
 use Rattle.liblex_calls.specs.declared.answer.Answer.{Answer}
 use Rattle.liblex_calls.specs.declared.answer.Answer.TheVariants as answers
@@ -25,7 +25,7 @@ pub record RunHandedOut (file input old new : List ℕ) (count status : ℕ) (an
   pub out : List ℕ
   pub run : RunsByFile file input out (Status status)
   pub handed : HandedOut out old new count
-  pub fits : Fits out old answer
+  pub fits : FitsInto out old answer
 
 -- So was the run that ends at a fault of the stack of conditions.
 pub record FaultHandedOut (file input old new : List ℕ) (count : ℕ) : Type 0 where

@@ -1,6 +1,6 @@
 //! The tokens of whole inputs and the lines of rules, into a buffer of the caller.
 ghost use Rattle.std.specs.Prelude.{◌≡◌, map, IfOk};
-ghost use Rattle.liblex_calls.specs.Listing.{ListsInto, TellsLines, rule_number, shown};
+ghost use Rattle.liblex_calls.specs.Listing.{ListsInto, TellsLines, rule_number, text_token};
 
 use crate::answer::Answer;
 use crate::buffers::hand_out;
@@ -34,7 +34,7 @@ fn rule_number(rule: MatchedRule) -> u32
 
 /// The tokens, with numbers for their rules.
 fn shown_of(alloc: Global, list: &[Token]) -> Result<Vec<TextToken>, AllocError>
-    ensures { IfOk result (λ tokens. tokens.items ≡ map shown list.now) }
+    ensures { IfOk result (λ tokens. tokens.items ≡ map text_token list.now) }
 {
     let mut tokens = Vec::new(alloc);
     for token in list {
@@ -71,7 +71,7 @@ pub fn tokens_into(
     let ended = tokens(alloc, &flat, input, &mut list);
     let shown = match shown_of(alloc, &list) {
         Err(_) => return Answer::OutOfMemory,
-        Ok(shown) => shown,
+        Ok(shown) => text_token,
     };
     match ended {
         Ok(end) => {

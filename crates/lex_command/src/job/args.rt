@@ -3,7 +3,7 @@ ghost use Rattle.std.specs.Prelude.{◌≡◌, ◌≢◌, ◌⊎◌, IfErr, IfOk
 ghost use Rattle.std.specs.Prelude.{false, true};
 ghost use Rattle.clap.specs.Words.{all_of, app_of, found_of, rows_of, rule_of, with_rule};
 ghost use Rattle.lex_command.specs.Args.{IsNamed};
-ghost use Rattle.lex_command.specs.CommandLine.{AsksFor, IsJobOf, Makes, ScansBySpec, ScansByTable, files_of};
+ghost use Rattle.lex_command.specs.CommandLine.{AsksFor, IsJobOf, AsksToMake, ScansBySpec, ScansByTable, files_of};
 ghost use Rattle.lex_command.specs.CommandLine.{flag_rules, has_byte_at, has_separator, has_value_behind_equals};
 ghost use Rattle.lex_command.specs.CommandLine.{is_long_with_equals, is_out_with_equals, lex_app, makes_tables};
 ghost use Rattle.lex_command.specs.CommandLine.{name_rules, reads_patterns, value_rule, words_rule};
@@ -225,7 +225,7 @@ fn reads_patterns(matches: &ArgMatches<'_>) -> bool
 /// The making of tables, with what was met.
 fn generating(alloc: Global, matches: &ArgMatches<'_>) -> Result<Job, ArgsError>
     ensures named { IfOk result IsNamed }
-    ensures made { IfOk result (Makes (rows_of (found_of matches.now))) }
+    ensures made { IfOk result (AsksToMake (rows_of (found_of matches.now))) }
     ensures memory { IfErr result (λ e. e ≡ ArgsError.OutOfMemory) }
 {
     let out = match value_of(matches, "out") {

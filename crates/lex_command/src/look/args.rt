@@ -2,7 +2,7 @@
 ghost use Rattle.std.specs.Prelude.{◌≡◌, ◌≢◌, IfErr, IfOk, IfSome, None, Some, codes, false, fold, map};
 ghost use Rattle.std.specs.Prelude.{string_bytes};
 ghost use Rattle.clap.specs.Words.{app_of, found_of, rows_of, rule_of, subcommand_rows_of, with_rule, with_subcommand};
-ghost use Rattle.lex_command.specs.LookLine.{AsksFor, IsLookOf, about_of, file_app, lexlook_app, name_of};
+ghost use Rattle.lex_command.specs.LookLine.{AsksToShow, IsLookOf, about_of, file_app, lexlook_app, name_of};
 ghost use Rattle.lex_command.specs.LookLine.{needed_rule};
 
 use crate::error::ArgsError;
@@ -57,9 +57,9 @@ pub enum Look {
 /// FILE`, with `-i` or `-X` or without, or any words with `--help`, `-h` or `--version`. Flags may be repeated. Words that it
 /// refuses by `Usage` ask for nothing.
 pub fn read_args(alloc: Global, words: &[String]) -> Result<Look, ArgsError>
-    ensures asked { IfOk result (AsksFor (map string_bytes words.now)) }
+    ensures asked { IfOk result (AsksToShow (map string_bytes words.now)) }
     ensures refused { IfErr result (λ e. e ≡ ArgsError.Usage
-        → (look : Look) → AsksFor (map string_bytes words.now) look → ⊥) }
+        → (look : Look) → AsksToShow (map string_bytes words.now) look → ⊥) }
 {
     if let Some(what) = about_of(words) {
         return Ok(Look::About(what));

@@ -5,7 +5,7 @@ ghost use Rattle.lextab_packed.specs.Machines.{table_machine};
 ghost use Rattle.lexspec.specs.Views.{conditions_in, rules_in};
 ghost use Rattle.lexlook_calls.specs.Lines.{taken, taken_by, naming, text_place, both, side_words, told_line};
 ghost use Rattle.lexlook_calls.specs.Lines.{side_as, IsLabelled};
-ghost use Rattle.lexlook_calls.specs.Compared.{Holds};
+ghost use Rattle.lexlook_calls.specs.Compared.{HoldsOfSides};
 ghost use Rattle.lexlook_tables.specs.Comparing.{Counts};
 ghost use Rattle.lexlook_tables.specs.Same.{number_in};
 ghost use Rattle.lexlook_tables.specs.declared.same.tables.Comparison.{Comparison};
@@ -186,7 +186,7 @@ fn add_told(
 ) -> Result<(), AllocError>
     requires left_labels { IsLabelled (side_as left.name.now left.side.now) }
     requires right_labels { IsLabelled (side_as right.name.now right.side.now) }
-    requires holds { Holds (side_as left.name.now left.side.now) (side_as right.name.now right.side.now)
+    requires holds { HoldsOfSides (side_as left.name.now left.side.now) (side_as right.name.now right.side.now)
         order.now told.now }
     ensures { OnOk result (text.new.items ≡ text.old.items
         ++ told_line (side_as left.entry.name.now left.entry.side.now)
@@ -210,7 +210,7 @@ pub(crate) fn told_line(
 ) -> Result<Vec<u8>, AllocError>
     requires left_labels { IsLabelled (side_as left.name.now left.side.now) }
     requires right_labels { IsLabelled (side_as right.name.now right.side.now) }
-    requires holds { Holds (side_as left.name.now left.side.now) (side_as right.name.now right.side.now)
+    requires holds { HoldsOfSides (side_as left.name.now left.side.now) (side_as right.name.now right.side.now)
         order.now told.now }
     ensures { IfOk result (λ line. (all : Bool)
         × Counts all (table_machine left.entry.side.now.tables) (table_machine right.entry.side.now.tables)

@@ -4,7 +4,7 @@ ghost use Rattle.std.specs.Prelude.{map, slice_index, slice_index_or, [], OnOk};
 ghost use Rattle.lex_io.specs.Sink.{Appended};
 ghost use Rattle.lex_semantics.specs.Text.{Among};
 ghost use Rattle.lexauto_dfa.specs.Automata.{accepts_of, conditions_of, next_of, states_of};
-ghost use Rattle.lexlook_specs.specs.Faults.{write_fault_count};
+ghost use Rattle.lexlook_specs.specs.Faults.{picture_fault_count};
 ghost use Rattle.lexlook_specs.specs.Pictures.{all_starts, all_states, picture, starts_of, state_lines};
 
 use crate::picture::edges::add_edges;
@@ -80,7 +80,7 @@ fn write_starts<K: Sink>(
     requires names { length names.now ≡ conditions_of dfa.now }
     ensures bytes { Appended (λ xs. K.wrote sink.old xs sink.new)
         (all_starts dfa.now (map (λ n. n.now) names.now)) result }
-    ensures failures { K.failures sink.new ≡ K.failures sink.old + write_fault_count result }
+    ensures failures { K.failures sink.new ≡ K.failures sink.old + picture_fault_count result }
 {
     let mut text = Vec::new(alloc);
     for condition in 0..names.len() {
@@ -101,7 +101,7 @@ fn write_states<K: Sink>(
     requires few { K.failures sink.old < 2 ^ 64 - 1 }
     requires lines { (s i : ℕ) → s < states_of dfa.now → Among (accepts_of dfa.now s) i → i < length lines.now }
     ensures bytes { Appended (λ xs. K.wrote sink.old xs sink.new) (all_states dfa.now lines.now) result }
-    ensures failures { K.failures sink.new ≡ K.failures sink.old + write_fault_count result }
+    ensures failures { K.failures sink.new ≡ K.failures sink.old + picture_fault_count result }
 {
     let mut table = vec![in alloc; 0u32; dfa.len() as usize]?;
     let drawn = table.as_mut_slice();
@@ -128,7 +128,7 @@ pub fn write_picture<K: Sink>(
     requires lines { (s i : ℕ) → s < states_of dfa.now → Among (accepts_of dfa.now s) i → i < length lines.now }
     ensures bytes { Appended (λ xs. K.wrote sink.old xs sink.new)
         (picture dfa.now (map (λ n. n.now) names.now) lines.now) result }
-    ensures failures { K.failures sink.new ≡ K.failures sink.old + write_fault_count result }
+    ensures failures { K.failures sink.new ≡ K.failures sink.old + picture_fault_count result }
 {
     sink.put(b"digraph lex {\n  rankdir=LR;\n  node [shape=circle];\n")?;
     write_starts(alloc, dfa, names, sink)?;

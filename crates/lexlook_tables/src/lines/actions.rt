@@ -3,7 +3,7 @@ ghost use Rattle.std.specs.Prelude.{◌≡◌, map};
 ghost use Rattle.std.specs.List.{list_any};
 ghost use Rattle.lex_machine.specs.Views.{statement_of, cut_of};
 ghost use Rattle.lexlook_tables.specs.Lines.{is_unsteady, is_begin, is_home, strays};
-ghost use Rattle.lexlook_tables.specs.Lines.{is_steady, ends_line, may_keep_last};
+ghost use Rattle.lexlook_tables.specs.Lines.{is_steady, leaves_line, may_keep_last};
 
 use lex_machine::{Cut, Statement, has_reject};
 
@@ -112,7 +112,7 @@ pub(crate) fn is_steady(statements: &[Statement]) -> bool
 
 /// Whether an action that takes a newline in this condition leaves the scan in INITIAL, with no text kept by yymore.
 pub(crate) fn ends_line(condition: u8, statements: &[Statement]) -> bool
-    ensures { result ≡ ends_line condition (map statement_of statements.now) }
+    ensures { result ≡ leaves_line condition (map statement_of statements.now) }
 {
     (condition == 0 || any_home(statements)) && !any_strays(statements)
 }

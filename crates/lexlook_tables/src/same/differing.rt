@@ -2,7 +2,7 @@
 ghost use Rattle.std.specs.Prelude.{◌≡◌, ◌+◌, ◌<◌, ◌≤◌, ℕ, List, [], ◌∷◌, ◌++◌, length, None, IfOk, IfSome};
 ghost use Rattle.lex_semantics.specs.Machine.{Machine as MachineModel};
 ghost use Rattle.lexlook_tables.specs.declared.same.pairs.Pair.{Pair};
-ghost use Rattle.lexlook_tables.specs.Same.{AreSame, Differs, key, number_in};
+ghost use Rattle.lexlook_tables.specs.Same.{AlwaysAgree, Differs, key, number_in};
 ghost use Rattle.lexlook_tables.specs.Searching.{HasAt, KeyAt, AreKeyed, AreLinked, LeadBack, IsTextOf};
 
 use crate::same::pairs::{From, Pair, starts, widen};
@@ -81,7 +81,7 @@ pub fn tell_apart<A: Machine, B: Machine>(
     requires right_conditions { (c : ℕ) → c < sizes.conditions
         → number_in order.now c < (B.machine right.now).conditions }
     ensures same { IfOk result (λ found. found ≡ None
-        → AreSame order.now all (A.machine left.now) (B.machine right.now)) }
+        → AlwaysAgree order.now all (A.machine left.now) (B.machine right.now)) }
     ensures differ { IfOk result (λ found. IfSome found
         (Differs order.now all (A.machine left.now) (B.machine right.now))) }
 {

@@ -2,7 +2,7 @@
 ghost use Rattle.std.specs.Prelude.{◌≡◌, ◌≤◌, ◌-◌, ◌+◌, IfOk, map, length};
 ghost use Rattle.lex_machine.specs.Literals.{literal_bytes};
 ghost use Rattle.lex_machine.specs.Views.{statement_of, cut_of};
-ghost use Rattle.lextab_packed.specs.Views.{rule_of};
+ghost use Rattle.lextab_packed.specs.Views.{table_rule_of};
 ghost use Rattle.lextab_file.specs.Seen.{following, unseen, seen_after};
 ghost use Rattle.lextab_file.specs.Reading.{many, read_literal, read_cut, bars, arguments};
 ghost use Rattle.lextab_file.specs.Reading.{read_statement, read_statements, read_rule};
@@ -222,7 +222,7 @@ fn rule(
     conditions: u32,
     stack: bool,
 ) -> Result<(TableRule, &[u8]), ReadError>
-    ensures gives { Gives (λ x. (rule_of x.0, x.1.now)) result (read_rule conditions stack bytes.now) }
+    ensures gives { Gives (λ x. (table_rule_of x.0, x.1.now)) result (read_rule conditions stack bytes.now) }
 {
     let (cut, rest) = rule_cut(bytes)?;
     let (count, rest) = long_within(rest, 0, MAX_STATEMENTS as u32)?;
@@ -238,7 +238,7 @@ pub fn rules(
     conditions: u32,
     stack: bool,
 ) -> Result<(Vec<TableRule>, &[u8]), ReadError>
-    ensures { Gives (λ x. (map rule_of x.0.items, x.1.now)) result
+    ensures { Gives (λ x. (map table_rule_of x.0.items, x.1.now)) result
         (many (λ i. read_rule conditions stack) following count 0 bytes.now) }
 {
     let mut read = Vec::new(alloc);

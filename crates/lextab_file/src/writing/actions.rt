@@ -3,7 +3,7 @@ ghost use Rattle.std.specs.Prelude.{◌≡◌, ◌+◌, ◌-◌, ◌^◌, ◌<�
 ghost use Rattle.std.specs.List.{flat_map};
 ghost use Rattle.lex_io.specs.Sink.{Appended, fault_count};
 ghost use Rattle.lex_machine.specs.Views.{cut_of, statement_of};
-ghost use Rattle.lextab_packed.specs.Views.{rule_of};
+ghost use Rattle.lextab_packed.specs.Views.{table_rule_of};
 ghost use Rattle.lextab_file.specs.File.{long, cut_text, statement_text, rule_text};
 ghost use Rattle.lextab_file.specs.Fitting.{FitsStatement, FitsRule};
 ghost use Rattle.lextab_file.specs.Tags.{cut_byte, statement_byte};
@@ -99,7 +99,7 @@ fn put_statements<K: Sink>(sink: &mut K, statements: &[Statement]) -> Result<(),
 fn put_rule<K: Sink>(sink: &mut K, rule: &TableRule) -> Result<(), WriteFault>
     requires few { K.failures sink.old < 2 ^ 64 - 1 }
     requires fits { FitsRule rule.now }
-    ensures bytes { Appended (λ xs. K.wrote sink.old xs sink.new) (rule_text (rule_of rule.now)) result }
+    ensures bytes { Appended (λ xs. K.wrote sink.old xs sink.new) (rule_text (table_rule_of rule.now)) result }
     ensures failures { K.failures sink.new ≡ K.failures sink.old + fault_count result }
 {
     put_cut(sink, rule.cut)?;
@@ -112,7 +112,7 @@ pub fn put_rules<K: Sink>(sink: &mut K, rules: &[TableRule]) -> Result<(), Write
     requires few { K.failures sink.old < 2 ^ 64 - 1 }
     requires fits { All FitsRule rules.now }
     ensures bytes { Appended (λ xs. K.wrote sink.old xs sink.new)
-        (flat_map (λ r. rule_text (rule_of r)) rules.now) result }
+        (flat_map (λ r. rule_text (table_rule_of r)) rules.now) result }
     ensures failures { K.failures sink.new ≡ K.failures sink.old + fault_count result }
 {
     for rule in rules {

@@ -2,7 +2,7 @@
 ghost use Rattle.std.specs.Prelude.{◌≡◌, ◌+◌, ◌-◌, ◌^◌, ◌<◌, ◌≤◌, length};
 ghost use Rattle.std.specs.List.{flat_map};
 ghost use Rattle.lex_io.specs.Sink.{Appended, fault_count};
-ghost use Rattle.lextab_file.specs.File.{short, long, string};
+ghost use Rattle.lextab_file.specs.File.{short, long, counted};
 ghost use Rattle.lex_semantics.specs.Limits.{max_literal_bytes};
 
 use lex_io::{Sink, WriteFault};
@@ -41,7 +41,7 @@ pub fn put_longs<K: Sink>(sink: &mut K, numbers: &[u32]) -> Result<(), WriteFaul
 pub fn put_string<K: Sink>(sink: &mut K, bytes: &[u8]) -> Result<(), WriteFault>
     requires few { K.failures sink.old < 2 ^ 64 - 1 }
     requires short { length bytes.now ≤ max_literal_bytes }
-    ensures bytes { Appended (λ xs. K.wrote sink.old xs sink.new) (string bytes.now) result }
+    ensures bytes { Appended (λ xs. K.wrote sink.old xs sink.new) (counted bytes.now) result }
     ensures failures { K.failures sink.new ≡ K.failures sink.old + fault_count result }
 {
     put_long(sink, bytes.len() as u32)?;

@@ -1,20 +1,20 @@
 use Rattle.std.proofs.Common.{[], ◌∙◌, Bool, Err, sym, subst}
 use Rattle.lex_io.specs.Sink.{Appended}
-use Rattle.lexlook_calls.specs.Compared.{Holds}
+use Rattle.lexlook_calls.specs.Compared.{HoldsOfSides}
 use Rattle.lexlook_calls.specs.Lines.{side_as}
 use Rattle.lexlook_calls.specs.declared.error.LookError.{LookError}
 use Rattle.lexlook_calls.specs.declared.error.LookError.TheVariants.{Write}
 use Rattle.lexlook_calls.proofs.same.tell.Goals as goal
 
 pub told_line-requires-clause-holds : goal.told_line-requires-clause-holds
-told_line-requires-clause-holds g c = subst (λ o. Holds (side_as c.args.left.name.now c.args.left.side.now) (side_as c.args.right.name.now c.args.right.side.now) o c.in-Ok.found.told) (sym c.as_slice.ensures.value)
+told_line-requires-clause-holds g c = subst (λ o. HoldsOfSides (side_as c.args.left.name.now c.args.left.side.now) (side_as c.args.right.name.now c.args.right.side.now) o c.in-Ok.found.told) (sym c.as_slice.ensures.value)
     (c.in-Ok.ensures c.args.left.name.now c.args.right.name.now)
 
 pub returns-in-Err-put-clause-told : goal.returns-in-Err-put-clause-told
 returns-in-Err-put-clause-told g c = record {
   order = c.as_slice.result.now;
   told = c.in-Ok.found.told;
-  holds = subst (λ o. Holds (side_as c.args.left.name.now c.args.left.side.now) (side_as c.args.right.name.now c.args.right.side.now) o c.in-Ok.found.told) (sym c.as_slice.ensures.value)
+  holds = subst (λ o. HoldsOfSides (side_as c.args.left.name.now c.args.left.side.now) (side_as c.args.right.name.now c.args.right.side.now) o c.in-Ok.found.told) (sym c.as_slice.ensures.value)
       (c.in-Ok.ensures c.args.left.name.now c.args.right.name.now);
   all = c.in-Ok-told_line.ensures.0;
   counts = c.in-Ok-told_line.ensures.1;
@@ -26,7 +26,7 @@ returns-clause-told g c = (
   record {
     order = c.as_slice.result.now;
     told = c.in-Ok.found.told;
-    holds = subst (λ o. Holds (side_as c.args.left.name.now c.args.left.side.now) (side_as c.args.right.name.now c.args.right.side.now) o c.in-Ok.found.told) (sym c.as_slice.ensures.value)
+    holds = subst (λ o. HoldsOfSides (side_as c.args.left.name.now c.args.left.side.now) (side_as c.args.right.name.now c.args.right.side.now) o c.in-Ok.found.told) (sym c.as_slice.ensures.value)
         (c.in-Ok.ensures c.args.left.name.now c.args.right.name.now);
     all = c.in-Ok-told_line.ensures.0;
     counts = c.in-Ok-told_line.ensures.1;

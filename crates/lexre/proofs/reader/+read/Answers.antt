@@ -4,7 +4,7 @@ use Rattle.std.specs.FinMap.{get, insert}
 use Rattle.lex_semantics.specs.Tree.{Tree}
 use Rattle.lexre_bytes.specs.Lexical.{symbol_at}
 use Rattle.lexre.specs.Cycles.{AllLeadToText}
-use Rattle.lexre.specs.Names.{Trees, AreKnown, open_of, trees_of}
+use Rattle.lexre.specs.Names.{NamedTrees, AreKnown, open_of, trees_of}
 use Rattle.lexre.specs.Reading.{StandsIn, lowered}
 use Rattle.lexre.specs.StackViews.{state_of}
 use Rattle.lexre.specs.SymbolViews.{symbol_of}
@@ -120,7 +120,7 @@ read_name-returns-then-kept-room-clause-none t c =
 
 pub read_name-read_within-requires : goal.read_name-read_within-requires
 read_name-read_within-requires t c =
-    let P : Trees → Type 0 = λ x. AreKnown c.args.scope.options c.args.scope.definitions.now x in
+    let P : NamedTrees → Type 0 = λ x. AreKnown c.args.scope.options c.args.scope.definitions.now x in
     let Q : List (List ℕ) → Type 0 = λ x. AllLeadToText c.args.scope.options c.args.scope.definitions.now x c.in-Some-find.substitute.now in (
       search rules,
       (
@@ -137,21 +137,21 @@ read_name-read_within-requires t c =
 
 pub read_name-returns-in_err-enter-clause-known : goal.read_name-returns-in_err-enter-clause-known
 read_name-returns-in_err-enter-clause-known t c =
-    let P : Trees → Type 0 = λ x. AreKnown c.args.scope.options c.args.scope.definitions.now x in subst P (sym c.enter.ensures.trees) c.requires.known_so_far
+    let P : NamedTrees → Type 0 = λ x. AreKnown c.args.scope.options c.args.scope.definitions.now x in subst P (sym c.enter.ensures.trees) c.requires.known_so_far
 
 pub read_name-returns-in_err-share-in-Ok-clause-known : goal.read_name-returns-in_err-share-in-Ok-clause-known
 read_name-returns-in_err-share-in-Ok-clause-known t c =
-    let P : Trees → Type 0 = λ x. AreKnown c.args.scope.options c.args.scope.definitions.now x in subst P (sym c.leave.ensures.trees) c.in-Ok.ensures.known
+    let P : NamedTrees → Type 0 = λ x. AreKnown c.args.scope.options c.args.scope.definitions.now x in subst P (sym c.leave.ensures.trees) c.in-Ok.ensures.known
 
 pub read_name-returns-in_err-keep-in-Ok-clause-known : goal.read_name-returns-in_err-keep-in-Ok-clause-known
 read_name-returns-in_err-keep-in-Ok-clause-known t c =
-    let P : Trees → Type 0 = λ x. AreKnown c.args.scope.options c.args.scope.definitions.now x in
+    let P : NamedTrees → Type 0 = λ x. AreKnown c.args.scope.options c.args.scope.definitions.now x in
     let closed : P (trees_of c.leave.new.self) = subst P (sym c.leave.ensures.trees) c.in-Ok.ensures.known in
     subst P (sym c.in_err-keep-in-Ok.ensures.no_memory) closed
 
 pub read_name-returns-in_ok-keep-in-Ok-clause-known : goal.read_name-returns-in_ok-keep-in-Ok-clause-known
 read_name-returns-in_ok-keep-in-Ok-clause-known t c =
-    let P : Trees → Type 0 = λ x. AreKnown c.args.scope.options c.args.scope.definitions.now x in
+    let P : NamedTrees → Type 0 = λ x. AreKnown c.args.scope.options c.args.scope.definitions.now x in
     let closed : P (trees_of c.leave.new.self) = subst P (sym c.leave.ensures.trees) c.in-Ok.ensures.known in
     let Q : Tree → Type 0 = λ x. P (insert (trees_of c.leave.new.self) c.args.name.now (x, c.args.left - c.in-Ok.field-0.spare)) in
     subst P (sym c.in_ok-keep-in-Ok.ensures.trees) (subst Q (sym c.in_ok-share-in-Ok.ensures)

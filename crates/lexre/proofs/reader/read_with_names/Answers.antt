@@ -2,7 +2,7 @@ use Rattle.std.proofs.Common.{◌-◌, List, ℕ, sym, subst, arith}
 use Rattle.std.specs.FinMap.{get}
 use Rattle.lexre_bytes.specs.Lexical.{symbol_at}
 use Rattle.lexre.specs.Cycles.{AllLeadToText}
-use Rattle.lexre.specs.Names.{AreKnown, Trees}
+use Rattle.lexre.specs.Names.{AreKnown, NamedTrees}
 use Rattle.lexre.specs.Views.{tree_of}
 use Rattle.lexre.proofs.CycleLaws.{none_lead}
 use Rattle.lexre.proofs.LowerLaws.{spelled_rises}
@@ -10,7 +10,7 @@ use Rattle.lexre.proofs.reader.read_with_names.Goals as goal
 
 pub read_within-requires-clause-known_so_far : goal.read_within-requires-clause-known_so_far
 read_within-requires-clause-known_so_far c =
-    let P : Trees → Type 0 = λ x. AreKnown c.args.options c.args.definitions.now x in subst P (sym c.begin.ensures.trees) c.requires.known_so_far
+    let P : NamedTrees → Type 0 = λ x. AreKnown c.args.options c.args.definitions.now x in subst P (sym c.begin.ensures.trees) c.requires.known_so_far
 
 pub read_within-requires-clause-lead : goal.read_within-requires-clause-lead
 read_within-requires-clause-lead c =

@@ -2,7 +2,7 @@ use Rattle.std.proofs.Common.{◌≡◌, ℕ, List, map, ap, ◌∙◌, Vec, Glo
 use Rattle.lex_semantics.specs.Spec as S
 use Rattle.lexspec_actions.specs.Views.{condition_of as condition_in}
 use Rattle.lexspec.specs.Views.{spec_of}
-use Rattle.lextab_packed.specs.Views.{condition_of, rule_of, row_of, slots_of}
+use Rattle.lextab_packed.specs.Views.{condition_of, table_rule_of, row_of, slots_of}
 use Rattle.lexauto_dfa.specs.Parts.{lists_in}
 use Rattle.lextab.specs.Assembled.{start_in, conditions_with, action_in, rows_with}
 use Rattle.lextab.proofs.tables.table_parts.Goals as goal
@@ -18,7 +18,7 @@ returns-clause-table c =
     ∙ ap (λ (l : List ℕ). conditions_with (start_in l c.deref-2.result.now) 0 seen) c.deref.ensures.value
     ∙ ap (λ (l : List ℕ). conditions_with (start_in p.starts.items l) 0 seen) c.deref-2.ensures.value
     ∙ ap (λ (l : List S.Condition). conditions_with (start_in p.starts.items p.line_starts.items) 0 l) c.conditions.ensures.conditions in
-    let rules_are : map rule_of c.in_ok-rules.rules.items ≡ map action_in spec.rules = c.in_ok-rules.ensures.same ∙ ap (λ (l : List S.Rule). map action_in l) c.rules.ensures.rules in
+    let rules_are : map table_rule_of c.in_ok-rules.rules.items ≡ map action_in spec.rules = c.in_ok-rules.ensures.same ∙ ap (λ (l : List S.Rule). map action_in l) c.rules.ensures.rules in
     let rows_are : map row_of c.in_ok-rows.rows.items ≡ rows_with q.defaults.items q.bases.items (lists_in p) =
     c.in_ok-rows.ensures
     ∙ ap (λ (l : List ℕ). rows_with l c.deref-4.result.now (map (λ (v : Vec ℕ Global). v.items) c.deref-5.result.now)) c.deref-3.ensures.value

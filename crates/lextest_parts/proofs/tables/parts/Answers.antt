@@ -6,7 +6,7 @@ use Rattle.lex_machine.specs.declared.cut.Cut.{Cut}
 use Rattle.lextab_packed.specs.Table as T
 use Rattle.lextab_packed.specs.Checks.{IsTable}
 use Rattle.lextab_packed.specs.Invariant.{GoesOn}
-use Rattle.lextab_packed.specs.Views.{condition_of, rule_of, row_of, slots_of, table_of}
+use Rattle.lextab_packed.specs.Views.{condition_of, table_rule_of, row_of, slots_of, table_of}
 use Rattle.lextab_packed.specs.declared.parts.Row.{Row}
 use Rattle.lextab_packed.specs.declared.parts.TableCondition.{TableCondition}
 use Rattle.lextab_packed.specs.declared.parts.TableRule.{TableRule}
@@ -14,7 +14,7 @@ use Rattle.lextab_packed.specs.declared.parts.TableParts.{TableParts}
 use Rattle.lextest_parts.proofs.Letter.{letter, letter_is, letter_goes_on}
 use Rattle.lextest_parts.proofs.tables.parts.Goals as goal
 
-same_table : (p : TableParts) → map condition_of p.conditions.items ≡ (letter p.class_of.items).conditions → map rule_of p.rules.items ≡ (letter p.class_of.items).rules → p.classes ≡ 2
+same_table : (p : TableParts) → map condition_of p.conditions.items ≡ (letter p.class_of.items).conditions → map table_rule_of p.rules.items ≡ (letter p.class_of.items).rules → p.classes ≡ 2
     → map row_of p.rows.items ≡ (letter p.class_of.items).rows → p.checks.items ≡ 0 ∷ 1 ∷ [] → p.nexts.items ≡ 0 ∷ 2 ∷ [] → table_of p ≡ letter p.class_of.items
 same_table p cs rs k rows checks nexts = λ i. record {
   conditions = cs i;
@@ -29,8 +29,8 @@ three_rows : (rows : List Row) (a b d : Row) → rows ≡ a ∷ b ∷ d ∷ [] �
     → row_of d ≡ record { default_target = 0; base = 0; rules = 0 ∷ [] } → map row_of rows ≡ (letter []).rows
 three_rows rows a b d e x y z = ap (λ (l : List Row). map row_of l) e ∙ (λ i. x i ∷ y i ∷ z i ∷ [])
 
-one_rule : (rs : List TableRule) (ss : List Statement) (r : TableRule) → rs ≡ r ∷ [] → rule_of r ≡ record { cut = S.Whole; statements = map statement_of ss } → map statement_of ss ≡ S.Echo ∷ [] → map rule_of rs ≡ (letter []).rules
-one_rule rs ss r e f g = ap (λ (l : List TableRule). map rule_of l) e ∙ ap (λ (x : T.RuleOfTable). x ∷ []) (f ∙ ap (λ (l : List S.Statement). record { cut = S.Whole; statements = l }) g)
+one_rule : (rs : List TableRule) (ss : List Statement) (r : TableRule) → rs ≡ r ∷ [] → table_rule_of r ≡ record { cut = S.Whole; statements = map statement_of ss } → map statement_of ss ≡ S.Echo ∷ [] → map table_rule_of rs ≡ (letter []).rules
+one_rule rs ss r e f g = ap (λ (l : List TableRule). map table_rule_of l) e ∙ ap (λ (x : T.RuleOfTable). x ∷ []) (f ∙ ap (λ (l : List S.Statement). record { cut = S.Whole; statements = l }) g)
 
 pub returns-clause-table : goal.returns-clause-table
 returns-clause-table c =

@@ -6,8 +6,8 @@ use Rattle.lexscan_window.specs.declared.error.RunError.{RunError}
 use Rattle.lexscan_window.specs.declared.error.RunError.TheVariants as runs
 use Rattle.lexscan.specs.declared.token.Token.{Token}
 use Rattle.lexscan.specs.Tokens.{Tokenised, Stopped}
-use Rattle.liblex_calls.specs.Buffers.{HandedOut, Fits}
-use Rattle.liblex_calls.specs.Listing.{shown}
+use Rattle.liblex_calls.specs.Buffers.{HandedOut, FitsInto}
+use Rattle.liblex_calls.specs.Listing.{text_token}
 use Rattle.liblex_calls.proofs.Listed.{listed_out}
 use Rattle.liblex_calls.proofs.listing.tokens_into.Goals as goal
 
@@ -21,7 +21,7 @@ refused_by P r is h = subst (λ r. IfErr r P) is h
 pub returns-in-Ok-ended : goal.returns-in-Ok-ended
 returns-in-Ok-ended c =
     let (us, appended, tokens) = c.in-Ok-ended.ensures.listed in
-    let all = c.deref-in-Ok-ended.ensures.value ∙ c.in-Ok-shown_of.ensures ∙ ap (λ l. map shown l) (c.deref.ensures.value ∙ filled c.new-list.result.items c.tokens-ended.new.list.items us c.new-list.ensures.items appended) in
+    let all = c.deref-in-Ok-ended.ensures.value ∙ c.in-Ok-shown_of.ensures ∙ ap (λ l. map text_token l) (c.deref.ensures.value ∙ filled c.new-list.result.items c.tokens-ended.new.list.items us c.new-list.ensures.items appended) in
     listed_out c.args.file.now c.args.input.now c.args.buffer.now c.hand_out.new.buffer c.hand_out.new.count c.in-Ok-ended.end c.hand_out.result us
     (record {
       table = c.in-Ok.ensures.found.table;
@@ -31,13 +31,13 @@ returns-in-Ok-ended c =
       holds = subst (λ N. Tokenised (rules_of_machine N) c.args.input.now us (Status c.in-Ok-ended.end)) c.in-Ok.ensures.found.is tokens;
     })
     (subst (λ l. HandedOut l c.args.buffer.now c.hand_out.new.buffer c.hand_out.new.count) all c.hand_out.ensures.handed)
-    (subst (λ l. Fits l c.args.buffer.now c.hand_out.result) all c.hand_out.ensures.fits)
+    (subst (λ l. FitsInto l c.args.buffer.now c.hand_out.result) all c.hand_out.ensures.fits)
 
 pub returns-in-Err-Stack : goal.returns-in-Err-Stack
 returns-in-Err-Stack c =
     let stopped : c.tokens-ended.result ≡ Err runs.Stack = search rules in
     let (us, appended, tokens) = refused_by _ c.tokens-ended.result stopped c.tokens-ended.ensures.refused in
-    let all = c.deref-in-Err-Stack.ensures.value ∙ c.in-Ok-shown_of.ensures ∙ ap (λ l. map shown l) (c.deref.ensures.value ∙ filled c.new-list.result.items c.tokens-ended.new.list.items us c.new-list.ensures.items appended) in (
+    let all = c.deref-in-Err-Stack.ensures.value ∙ c.in-Ok-shown_of.ensures ∙ ap (λ l. map text_token l) (c.deref.ensures.value ∙ filled c.new-list.result.items c.tokens-ended.new.list.items us c.new-list.ensures.items appended) in (
       record {
         tokens = us;
         listed = record {

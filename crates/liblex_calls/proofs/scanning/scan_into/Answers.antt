@@ -1,5 +1,5 @@
 use Rattle.std.proofs.Common.{subst, arith}
-use Rattle.liblex_calls.specs.Buffers.{HandedOut, Fits}
+use Rattle.liblex_calls.specs.Buffers.{HandedOut, FitsInto}
 use Rattle.liblex_calls.specs.Scanning.{TellsScan}
 use Rattle.lex_machine.proofs.Growing.{is_text_from}
 use Rattle.liblex_calls.proofs.Telling.{ended_out, stopped_out}
@@ -11,7 +11,7 @@ returns-in-Ok c =
     ended_out c.args.file.now c.args.input.now c.args.buffer.now c.hand_out.new.buffer c.hand_out.new.count c.new-source.result c.scan_table.new.source c.new-sink.result c.scan_table.new.sink
     c.new-source.ensures.bytes c.new-sink.ensures.bytes (is_text_from c.args.input.now (λ k. omega (arith, c.type_inv.input k))) c.in-Ok.end c.hand_out.result c.in-Ok.ensures.told
     (subst (λ l. HandedOut l c.args.buffer.now c.hand_out.new.buffer c.hand_out.new.count) bytes c.hand_out.ensures.handed)
-    (subst (λ l. Fits l c.args.buffer.now c.hand_out.result) bytes c.hand_out.ensures.fits)
+    (subst (λ l. FitsInto l c.args.buffer.now c.hand_out.result) bytes c.hand_out.ensures.fits)
 
 pub returns : goal.returns
 returns c =

@@ -1,6 +1,6 @@
 use Rattle.std.proofs.Common.{◌≡◌, ◌∙◌, List, true, ap, map, subst}
 use Rattle.lex_semantics.specs.Tree.{Alt, trees}
-use Rattle.lexre.specs.Views.{emptied_each, marked, tree_of}
+use Rattle.lexre.specs.Views.{emptied_each, emptied_if, tree_of}
 use Rattle.lexre.specs.declared.pattern.Pattern.{Pattern}
 use Rattle.lexre.proofs.BareLaws.{marked_rightly, choice_tree_of}
 use Rattle.lexre.proofs.pattern.Pattern.choice.Goals as goal
@@ -10,4 +10,4 @@ returns c =
     let bare = c.are_bare-is_bare.result in
     let all = c.args.patterns.items in
     let same = subst (λ (ps : List Pattern). bare ≡ true → emptied_each (trees (map tree_of ps)) ≡ trees (map tree_of ps)) c.deref.ensures.value c.are_bare-is_bare.ensures in
-    choice_tree_of _ ∙ ap Alt (ap (λ v. marked bare (trees (map tree_of v.items))) c.in_ok-items.ensures.ok ∙ marked_rightly bare (trees (map tree_of all)) same)
+    choice_tree_of _ ∙ ap Alt (ap (λ v. emptied_if bare (trees (map tree_of v.items))) c.in_ok-items.ensures.ok ∙ marked_rightly bare (trees (map tree_of all)) same)

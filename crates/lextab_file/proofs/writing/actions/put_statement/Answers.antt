@@ -1,17 +1,17 @@
 use Rattle.std.proofs.Common.{refl, ap, [], ◌∷◌}
 use Rattle.std.specs.Int.{w16, to_be_bytes}
 use Rattle.std.proofs.lemmas.Result.{err_from_is_err_and}
-use Rattle.lextab_file.specs.File.{string}
+use Rattle.lextab_file.specs.File.{counted}
 use Rattle.lextab_file.proofs.Written.{begun_first, appended_then}
 use Rattle.lextab_file.proofs.writing.actions.put_statement.Goals as goal
 
 pub returns-in_err-put_tag-in-Print-clause-bytes : goal.returns-in_err-put_tag-in-Print-clause-bytes
 returns-in_err-put_tag-in-Print-clause-bytes g c =
     let p = err_from_is_err_and c.from_residual.result c.from_residual.ensures.1 in
-    rw (p.1, c.in-Print.is) (begun_first (λ xs. g.K.Sink.wrote c.args.sink.now xs c.put_tag-in-Print.new.sink) (1 ∷ []) (1 ∷ []) (string c.in-Print.bytes.items) refl c.in_err-put_tag-in-Print.ensures.bytes)
+    rw (p.1, c.in-Print.is) (begun_first (λ xs. g.K.Sink.wrote c.args.sink.now xs c.put_tag-in-Print.new.sink) (1 ∷ []) (1 ∷ []) (counted c.in-Print.bytes.items) refl c.in_err-put_tag-in-Print.ensures.bytes)
 
 pub returns-in_ok-put_tag-in-Print-clause-bytes : goal.returns-in_ok-put_tag-in-Print-clause-bytes
-returns-in_ok-put_tag-in-Print-clause-bytes g c = rw c.in-Print.is (appended_then g.K.Sink.wrote g.met.K.Sink.wrote_more c.args.sink.now c.put_tag-in-Print.new.sink _ (1 ∷ []) (1 ∷ []) _ (string c.in-Print.bytes.items) _ refl (ap string c.deref.ensures.value) c.in_ok-put_tag-in-Print.ensures.bytes c.put_string.ensures.bytes)
+returns-in_ok-put_tag-in-Print-clause-bytes g c = rw c.in-Print.is (appended_then g.K.Sink.wrote g.met.K.Sink.wrote_more c.args.sink.now c.put_tag-in-Print.new.sink _ (1 ∷ []) (1 ∷ []) _ (counted c.in-Print.bytes.items) _ refl (ap counted c.deref.ensures.value) c.in_ok-put_tag-in-Print.ensures.bytes c.put_string.ensures.bytes)
 
 pub returns-in_err-put_tag-in-Less-clause-bytes : goal.returns-in_err-put_tag-in-Less-clause-bytes
 returns-in_err-put_tag-in-Less-clause-bytes g c =

@@ -4,7 +4,7 @@ use Rattle.lex_semantics.specs.Machine.{Machine}
 use Rattle.lextab_packed.specs.Flats.{kind_of}
 use Rattle.lex_semantics.specs.Text.{flag}
 use Rattle.lextab_packed.specs.declared.tables.Tables.{Tables}
-use Rattle.lextab_packed.specs.Machines.{table_machine, states_of}
+use Rattle.lextab_packed.specs.Machines.{table_machine, table_states}
 use Rattle.lextab_packed.proofs.Leaping.{leaves_at, ends_at, run_then}
 use Rattle.lextab_packed.proofs.Marks as Mark
 use Rattle.lextab_packed.proofs.flat.Flat.run_end.Goals as goal
@@ -34,7 +34,7 @@ run-preserved c = (
     M : Machine
     M = table_machine t
 
-    goes : (s : ℕ) → c.args.place ≡ 256 * s → s < states_of t → (M.goes_on (M.next s (get_or c.args.bytes.now c.run.end 0)) ≡ true) × (c.target.result ≡ 256 * M.next s (get_or c.args.bytes.now c.run.end 0))
+    goes : (s : ℕ) → c.args.place ≡ 256 * s → s < table_states t → (M.goes_on (M.next s (get_or c.args.bytes.now c.run.end 0)) ≡ true) × (c.target.result ≡ 256 * M.next s (get_or c.args.bytes.now c.run.end 0))
     goes s is known =
         let next : ℕ = M.next s (get_or c.args.bytes.now c.run.end 0) in
         Mark.gone (flag t.goes_on.items next) (kind_of M next) next c.target.result (c.target.ensures s is known) (omega (arith, c.if-target-place.true, is, known, Mark.few_states t))

@@ -1,6 +1,6 @@
 use Rattle.std.proofs.Common.{◌≡◌, ℕ, ◌≤◌, Bool, true, false, refl, arith}
 use Rattle.lex_semantics.specs.Text.{flag}
-use Rattle.lextab_packed.specs.Flats.{marked, kind_of}
+use Rattle.lextab_packed.specs.Flats.{as_target, kind_of}
 use Rattle.lextab_packed.specs.Machines.{table_machine}
 use Rattle.lextab_packed.specs.declared.kinds.Kind.{Kind}
 use Rattle.lextab_packed.specs.Steps.{step_of}
@@ -8,7 +8,7 @@ use Rattle.lextab_packed.specs.Views.{table_of}
 use Rattle.lextab_packed.proofs.Marks.{few_states}
 use Rattle.lextab_packed.proofs.flat.FlatMachine.step.Goals as goal
 
-unmarked : (f : Bool) (k : Kind) (t r x : ℕ) → x ≡ marked f k t → t ≤ 8192 → ((k : Kind) (s : ℕ) → s ≤ 8192 → x ≡ marked true k s → r ≡ s) → ((k : Kind) (s : ℕ) → s ≤ 8192 → x ≡ marked false k s → r ≡ s) → r ≡ t
+unmarked : (f : Bool) (k : Kind) (t r x : ℕ) → x ≡ as_target f k t → t ≤ 8192 → ((k : Kind) (s : ℕ) → s ≤ 8192 → x ≡ as_target true k s → r ≡ s) → ((k : Kind) (s : ℕ) → s ≤ 8192 → x ≡ as_target false k s → r ≡ s) → r ≡ t
 unmarked true k t r x e low goes stops = goes k t low e
 unmarked false k t r x e low goes stops = stops k t low e
 

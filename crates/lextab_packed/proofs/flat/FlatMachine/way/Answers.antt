@@ -4,10 +4,10 @@ use Rattle.lex_semantics.specs.Text.{flag}
 use Rattle.lex_semantics.specs.Machine.{Machine, walk}
 use Rattle.lextab_packed.specs.declared.tables.Tables.{Tables}
 use Rattle.lex_machine.specs.Glances.{Gists}
-use Rattle.lextab_packed.specs.Flats.{marked, kind_of}
+use Rattle.lextab_packed.specs.Flats.{as_target, kind_of}
 use Rattle.lextab_packed.specs.Steps.{step_of}
 use Rattle.lextab_packed.specs.Views.{table_of}
-use Rattle.lextab_packed.specs.Machines.{table_machine, states_of}
+use Rattle.lextab_packed.specs.Machines.{table_machine, table_states}
 use Rattle.lextab_packed.proofs.Ways.{run_within, asked_run}
 use Rattle.lextab_packed.proofs.Marks as Mark
 use Rattle.lextab_packed.proofs.flat.FlatMachine.way.Goals as goal
@@ -21,7 +21,7 @@ returns-then-next-ge-STOP-clause-way c =
     let next : ℕ = step_of (table_of t.parts) (walk M c.args.first (take c.bytes.count c.args.bytes.now)) (get_or c.args.bytes.now c.bytes.count 0) in
     let below = Mark.next_below t c.args.first c.bytes.count c.args.bytes.now lt small c.bytes.invariant.known in
     let is = Mark.next_is t c.args.first c.bytes.count c.args.bytes.now lt small c.bytes.invariant.known in
-    let r : c.target-next.result ≡ marked (flag t.goes_on.items next) (kind_of (table_machine t) next) next = c.target-next.ensures (walk M c.args.first (take c.bytes.count c.args.bytes.now)) c.bytes.invariant.place_is c.bytes.invariant.known in
+    let r : c.target-next.result ≡ as_target (flag t.goes_on.items next) (kind_of (table_machine t) next) next = c.target-next.ensures (walk M c.args.first (take c.bytes.count c.args.bytes.now)) c.bytes.invariant.place_is c.bytes.invariant.known in
     let k = Mark.stopped (flag t.goes_on.items next) (kind_of M next) next c.target-next.result r (omega (arith, below, Mark.few_states t)) (omega (arith, c.if-next-ge-STOP.true)) in
     let state = c.state_of.ensures.stops (kind_of M next) next (omega (arith, below, Mark.few_states t)) k.1 in
     record {
@@ -43,7 +43,7 @@ returns-then-next-ge-STOP-clause-known c =
     let small : get_or c.args.bytes.now c.bytes.count 0 < 256 = let f = c.type_inv.bytes c.bytes.count in omega (arith, f) in
     let next : ℕ = step_of (table_of t.parts) (walk M c.args.first (take c.bytes.count c.args.bytes.now)) (get_or c.args.bytes.now c.bytes.count 0) in
     let below = Mark.next_below t c.args.first c.bytes.count c.args.bytes.now lt small c.bytes.invariant.known in
-    let r : c.target-next.result ≡ marked (flag t.goes_on.items next) (kind_of (table_machine t) next) next = c.target-next.ensures (walk M c.args.first (take c.bytes.count c.args.bytes.now)) c.bytes.invariant.place_is c.bytes.invariant.known in
+    let r : c.target-next.result ≡ as_target (flag t.goes_on.items next) (kind_of (table_machine t) next) next = c.target-next.ensures (walk M c.args.first (take c.bytes.count c.args.bytes.now)) c.bytes.invariant.place_is c.bytes.invariant.known in
     let k = Mark.stopped (flag t.goes_on.items next) (kind_of M next) next c.target-next.result r (omega (arith, below, Mark.few_states t)) (omega (arith, c.if-next-ge-STOP.true)) in
     let state = c.state_of.ensures.stops (kind_of M next) next (omega (arith, below, Mark.few_states t)) k.1 in
     omega (arith, state, below)
@@ -56,7 +56,7 @@ gist_at-requires c =
     let small : get_or c.args.bytes.now c.bytes.count 0 < 256 = let f = c.type_inv.bytes c.bytes.count in omega (arith, f) in
     let next : ℕ = step_of (table_of t.parts) (walk M c.args.first (take c.bytes.count c.args.bytes.now)) (get_or c.args.bytes.now c.bytes.count 0) in
     let below = Mark.next_below t c.args.first c.bytes.count c.args.bytes.now lt small c.bytes.invariant.known in
-    let r : c.target-next.result ≡ marked (flag t.goes_on.items next) (kind_of (table_machine t) next) next = c.target-next.ensures (walk M c.args.first (take c.bytes.count c.args.bytes.now)) c.bytes.invariant.place_is c.bytes.invariant.known in
+    let r : c.target-next.result ≡ as_target (flag t.goes_on.items next) (kind_of (table_machine t) next) next = c.target-next.ensures (walk M c.args.first (take c.bytes.count c.args.bytes.now)) c.bytes.invariant.place_is c.bytes.invariant.known in
     let k = Mark.stopped (flag t.goes_on.items next) (kind_of M next) next c.target-next.result r (omega (arith, below, Mark.few_states t)) (omega (arith, c.if-next-ge-STOP.true)) in
     (next, below, k.1)
 
@@ -67,7 +67,7 @@ bytes-preserved c =
     let lt : c.bytes.count < length c.args.bytes.now = omega (arith, c.bytes-test.true) in
     let small : get_or c.args.bytes.now c.bytes.count 0 < 256 = let f = c.type_inv.bytes c.bytes.count in omega (arith, f) in
     let next : ℕ = step_of (table_of t.parts) (walk M c.args.first (take c.bytes.count c.args.bytes.now)) (get_or c.args.bytes.now c.bytes.count 0) in
-    let r : c.target-next.result ≡ marked (flag t.goes_on.items next) (kind_of (table_machine t) next) next = c.target-next.ensures (walk M c.args.first (take c.bytes.count c.args.bytes.now)) c.bytes.invariant.place_is c.bytes.invariant.known in
+    let r : c.target-next.result ≡ as_target (flag t.goes_on.items next) (kind_of (table_machine t) next) next = c.target-next.ensures (walk M c.args.first (take c.bytes.count c.args.bytes.now)) c.bytes.invariant.place_is c.bytes.invariant.known in
     let k = Mark.goes_further t c.args.first c.bytes.count c.args.bytes.now lt small c.bytes.invariant.known c.target-next.result r (omega (arith, c.if-next-ge-STOP.false)) c.bytes.invariant.asked in
     record { inside = omega (arith, lt); place_is = k.0; known = k.1; asked = k.2 }
 
@@ -81,7 +81,7 @@ bytes-smaller-then-next-place c =
     let lt : c.bytes.count < length c.args.bytes.now = omega (arith, c.bytes-test.true) in
     let small : get_or c.args.bytes.now c.bytes.count 0 < 256 = let f = c.type_inv.bytes c.bytes.count in omega (arith, f) in
     let next : ℕ = step_of (table_of t.parts) (walk M c.args.first (take c.bytes.count c.args.bytes.now)) (get_or c.args.bytes.now c.bytes.count 0) in
-    let r : c.target-next.result ≡ marked (flag t.goes_on.items next) (kind_of (table_machine t) next) next = c.target-next.ensures (walk M c.args.first (take c.bytes.count c.args.bytes.now)) c.bytes.invariant.place_is c.bytes.invariant.known in
+    let r : c.target-next.result ≡ as_target (flag t.goes_on.items next) (kind_of (table_machine t) next) next = c.target-next.ensures (walk M c.args.first (take c.bytes.count c.args.bytes.now)) c.bytes.invariant.place_is c.bytes.invariant.known in
     let k = Mark.goes_further t c.args.first c.bytes.count c.args.bytes.now lt small c.bytes.invariant.known c.target-next.result r (omega (arith, c.if-next-ge-STOP.false)) c.bytes.invariant.asked in
     let run = c.run_end-count.ensures (walk M c.args.first (take (c.bytes.count + 1) c.args.bytes.now)) (sym c.if-next-place.true ∙ k.0) k.1 in
     omega (arith, lt, run.order, run.inside)
@@ -93,7 +93,7 @@ bytes-preserved-then-next-place c =
     let lt : c.bytes.count < length c.args.bytes.now = omega (arith, c.bytes-test.true) in
     let small : get_or c.args.bytes.now c.bytes.count 0 < 256 = let f = c.type_inv.bytes c.bytes.count in omega (arith, f) in
     let next : ℕ = step_of (table_of t.parts) (walk M c.args.first (take c.bytes.count c.args.bytes.now)) (get_or c.args.bytes.now c.bytes.count 0) in
-    let r : c.target-next.result ≡ marked (flag t.goes_on.items next) (kind_of (table_machine t) next) next = c.target-next.ensures (walk M c.args.first (take c.bytes.count c.args.bytes.now)) c.bytes.invariant.place_is c.bytes.invariant.known in
+    let r : c.target-next.result ≡ as_target (flag t.goes_on.items next) (kind_of (table_machine t) next) next = c.target-next.ensures (walk M c.args.first (take c.bytes.count c.args.bytes.now)) c.bytes.invariant.place_is c.bytes.invariant.known in
     let k = Mark.goes_further t c.args.first c.bytes.count c.args.bytes.now lt small c.bytes.invariant.known c.target-next.result r (omega (arith, c.if-next-ge-STOP.false)) c.bytes.invariant.asked in
     let run = c.run_end-count.ensures (walk M c.args.first (take (c.bytes.count + 1) c.args.bytes.now)) (sym c.if-next-place.true ∙ k.0) k.1 in
     let end : ℕ = c.run_end-count.result in
@@ -101,6 +101,6 @@ bytes-preserved-then-next-place c =
     record {
       inside = run.inside;
       place_is = k.0 ∙ ap (λ n. 256 * n) (sym within);
-      known = subst (λ s. s < states_of t) (sym within) k.1;
+      known = subst (λ s. s < table_states t) (sym within) k.1;
       asked = asked_run M c.args.first c.args.bytes.now (c.bytes.count + 1) end run k.2;
     }

@@ -2,7 +2,7 @@ use Rattle.std.proofs.Common.{◌≡◌, ℕ, zero, suc, ◌<◌, Bool, true, fa
 use Rattle.std.specs.Prelude.{slice_get}
 use Rattle.lextab_packed.proofs.Finding.{start_at}
 use Rattle.lextab_packed.specs.Views.{condition_of}
-use Rattle.lextab_packed.specs.Machines.{states_of}
+use Rattle.lextab_packed.specs.Machines.{table_states}
 use Rattle.lextab_packed.specs.declared.parts.TableCondition.{TableCondition}
 use Rattle.lextab_packed.proofs.machine.TablesMachine.start.Goals as goal
 
@@ -19,7 +19,7 @@ start_elsewhere (d ∷ cs) (suc i) c h e = start_elsewhere cs i c (omega (arith,
 pub returns-then-line_start-clause-known : goal.returns-then-line_start-clause-known
 returns-then-line_start-clause-known c =
     let t = c.args.self.now in
-    subst (λ (s : ℕ). s < states_of t) (sym (line_start_at t.parts.conditions.items c.args.condition c.index-condition.result.now c.requires (rw c.from.ensures at c.index-condition.ensures))) (t.below.start c.args.condition true c.requires)
+    subst (λ (s : ℕ). s < table_states t) (sym (line_start_at t.parts.conditions.items c.args.condition c.index-condition.result.now c.requires (rw c.from.ensures at c.index-condition.ensures))) (t.below.start c.args.condition true c.requires)
 
 pub returns-else-line_start-clause-state : goal.returns-else-line_start-clause-state
 returns-else-line_start-clause-state c =
@@ -30,4 +30,4 @@ returns-else-line_start-clause-state c =
 pub returns-else-line_start-clause-known : goal.returns-else-line_start-clause-known
 returns-else-line_start-clause-known c =
     let t = c.args.self.now in
-    subst (λ (s : ℕ). s < states_of t) (sym (start_elsewhere t.parts.conditions.items c.args.condition c.index-condition.result.now c.requires (rw c.from.ensures at c.index-condition.ensures))) (t.below.start c.args.condition false c.requires)
+    subst (λ (s : ℕ). s < table_states t) (sym (start_elsewhere t.parts.conditions.items c.args.condition c.index-condition.result.now c.requires (rw c.from.ensures at c.index-condition.ensures))) (t.below.start c.args.condition false c.requires)
