@@ -3,18 +3,61 @@
 # inputs, buffers that are too small, memory that is refused, and, where valgrind is there, no bad access and no leak. Needs gcc or CC.
 #
 #     scripts/liblex.sh [FOLDER]      the folder for what is built: out/liblex by default
+#
+# The proved part is crates/liblex/out/libliblex.a. One that is there is taken where nothing that it was made of is newer. Else `rt lib`
+# proves and makes it. That takes the crates which `rt check` or `rt all check` proved in this tree. It proves anew those that `rt ci`
+# did, since `rt ci` keeps them in a form of its own.
 set -eu
 top=$(cd "$(dirname "$0")/.." && pwd)
 out=${1:-$top/out/liblex}
 compiler=${CC:-gcc}
 kit=$(dirname "$(dirname "$(readlink -f "$(command -v rt)")")")
 [ -e "$kit/c/liblibc_c.a" ] || kit=${RATTLE_KIT:-/opt/rattle}
+proved=$top/crates/liblex/out/libliblex.a
 mkdir -p "$out"
+out=$(cd "$out" && pwd)
+
+# The crates of the repository that liblex is made of, by crates.txt.
+crates() {
+    awk 'function visit(name, words, count, at) {
+            if (!(name in below) || seen[name]++) return
+            print name
+            count = split(below[name], words, " ")
+            for (at = 1; at <= count; at++) visit(words[at])
+        }
+        { sub(/#.*/, ""); name = $1; sub(/:.*/, "", name); if (sub(/^[^:]*:/, "")) below[name] = $0 }
+        END { visit("liblex") }' "$top/crates.txt"
+}
+
+# A source, or a part of the toolchain, that was written or put there after the file $1 was; nothing where there is none. A folder counts,
+# so that a file that was taken away does.
+newer_than() {
+    for part in $(crates | sed 's|.*|&/src &/specs &/proofs|'); do
+        [ ! -e "$top/crates/$part" ] || set -- "$@" "$top/crates/$part"
+    done
+    file=$1
+    shift
+    find "$top/crates.txt" "$kit/WHAT" "$kit/bin/rattle" "$@" \( -newer "$file" -o -cnewer "$file" \) -print | head -n 1
+}
+
+# Proves and makes the archive. One that a source outran while it was made is not kept.
+make_archive() {
+    begun=$(mktemp)
+    (cd "$top/crates/liblex" && rt lib)
+    changed=$(newer_than "$begun")
+    rm "$begun"
+    [ -z "$changed" ] || { rm -f "$proved"; echo "liblex.sh: $changed changed meanwhile: call again"; exit 1; }
+}
+
+if [ -e "$proved" ] && [ -z "$(newer_than "$proved")" ]; then
+    echo "liblex.sh: crates/liblex/out/libliblex.a is newer than its sources, and is taken"
+else
+    make_archive
+fi
 
 # one archive: the proved part, and the part in C that takes memory
-(cd "$top/crates/liblex" && rt lib)
 rm -f "$out/liblex.a"
-printf 'create %s\naddlib %s\naddlib %s\nsave\nend\n' "$out/liblex.a" "$top/crates/liblex/out/libliblex.a" "$kit/c/liblibc_c.a" | ar -M
+printf 'create %s\naddlib %s\naddlib %s\nsave\nend\n' "$out/liblex.a" "$proved" "$kit/c/liblibc_c.a" | ar -M
 
 "$compiler" -std=c99 -Wall -Wextra -Werror -pedantic -O1 -g -I"$top/include" "$top/bindings/c/test.c" "$out/liblex.a" -o "$out/test"
 
@@ -56,5 +99,7 @@ fi
 
 if command -v cargo > /dev/null; then
     (cd "$top/bindings/rust" && LIBLEX_DIR="$out" CARGO_TARGET_DIR="$out/rust" cargo test --offline --quiet)
-    echo "liblex.sh: the bindings for Rust pass"
+    (cd "$top/bindings/rust" && LIBLEX_DIR="$out" CARGO_TARGET_DIR="$out/rust" RUSTDOCFLAGS="-D warnings" \
+        cargo doc --offline --quiet --no-deps)
+    echo "liblex.sh: the bindings for Rust pass, and their pages are built"
 fi
