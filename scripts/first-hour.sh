@@ -61,14 +61,14 @@ fail() {
 
 # Runs the block in the file $1.
 run_block() {
-    local home=$HOME example=$clone/examples/keywords.output last
+    local home=${HOME:-/} example=$clone/examples/keywords.output last
     grep -q 'scripts/install.sh' "$1" && home=$folder/home
     (cd "$clone" && HOME=$home bash -euo pipefail "$1") > "$folder/output" 2> "$folder/errors" < /dev/null || fail "failed: $(head -n 1 "$1")"
     if grep -q 'keywords\.input' "$1"; then
-        tail -c "$(wc -c < "$example")" "$folder/output" | cmp -s - "$example" || fail "other output than $example: $(head -n 1 "$1")"
+        tail -c "$(wc -c < "$example")" "$folder/output" | cmp -s - "$example" || fail "its output does not end with examples/keywords.output: $(head -n 1 "$1")"
     fi
     if grep -q 'rt try' "$1"; then
-        last=$(grep -oE 'run=[^`]+' "$clone/README.md")
+        last=$(grep -oE -m 1 'run=[^`]+' "$clone/README.md")
         grep -qxF "$last" "$folder/errors" || fail "README says that rt try writes '$last'"
     fi
 }
