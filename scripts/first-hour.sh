@@ -3,11 +3,12 @@
 # order, until one fails.
 #
 #     scripts/first-hour.sh            all of them: that proves everything twice, and takes hours
-#     scripts/first-hour.sh --quick    but for the blocks that prove: the programs that stand in crates/*/out are copied into the clone
+#     scripts/first-hour.sh --quick    but for what proves: the programs and the library of crates/*/out are copied into the clone. They have
+#                                      to be of the last commit, which is not looked at
 #     scripts/first-hour.sh --list     writes the blocks, and runs nothing
 #
 # A block of README is four blanks to the right, below an empty line. It is commands where its first word is `cd`, `rt`, or a path in
-# scripts/ or crates/, a parenthesis before it aside. Else it is an example of text. A block proves where it has `rt all`, `rt run`,
+# scripts/ or crates/, a parenthesis before it aside. Else it is an example of text. A line proves where it has `rt all`, `rt run`,
 # `rt check`, `rt lib` or `rt ci`. Each block is run by a bash of its own, in the top folder of the clone. HOME is a new folder where
 # scripts/install.sh is called, so README lets it install below HOME.
 #
@@ -41,15 +42,22 @@ is_commands() {
     [[ $(head -n 1 "$1") =~ $commands ]]
 }
 
-# Puts the programs of this tree into the clone.
-copy_programs() {
-    local program
-    [[ -x $top/crates/lex/out/lex ]] || refuse "crates/lex/out/lex is not there: build it, or leave --quick out"
-    for program in lex lexlook; do
-        [[ -x $top/crates/$program/out/$program ]] || continue
-        mkdir -p "$clone/crates/$program/out"
-        cp "$top/crates/$program/out/$program" "$clone/crates/$program/out/"
+# Puts what was built in this tree into the clone.
+copy_built() {
+    local built
+    for built in crates/lex/out/lex crates/lexlook/out/lexlook crates/liblex/out/libliblex.a; do
+        [[ -f $top/$built ]] || refuse "$built is not there: build it, or leave --quick out"
+        mkdir -p "$(dirname "$clone/$built")"
+        cp "$top/$built" "$clone/$built"
     done
+}
+
+# Takes the lines that prove out of the block $1; a status of 1 where no line is left.
+leave_proofs_out() {
+    local line
+    grep -E "$proving" "$1" | while read -r line; do echo "left out: $line"; done
+    sed -i -E "/$proving/d" "$1"
+    [[ -s $1 ]]
 }
 
 # Ends the whole, with what the block $1 wrote.
@@ -79,16 +87,14 @@ clone=$folder/lex
 mkdir "$folder/blocks" "$folder/home"
 git clone --quiet "$top" "$clone" || refuse "no clone of $top"
 write_blocks "$clone/README.md" "$folder/blocks"
-[[ $mode != --quick ]] || copy_programs
+[[ $mode != --quick ]] || copy_built
 count=0
 for block in "$folder"/blocks/*; do
     is_commands "$block" || continue
     count=$((count + 1))
     if [[ $mode == --list ]]; then
         cat "$block"
-    elif [[ $mode == --quick ]] && grep -qE "$proving" "$block"; then
-        echo "left out: $(head -n 1 "$block")"
-    else
+    elif [[ $mode != --quick ]] || leave_proofs_out "$block"; then
         SECONDS=0
         run_block "$block"
         echo "passed in $SECONDS s: $(head -n 1 "$block")"
