@@ -3,9 +3,10 @@
 # order, until one fails.
 #
 #     scripts/first-hour.sh            all of them: that proves everything twice, and takes hours
-#     scripts/first-hour.sh --quick    but for what proves: the programs and the library of crates/*/out are copied into the clone. They have
-#                                      to be of the last commit, which is not looked at
+#     scripts/first-hour.sh --quick    but for the lines that prove: the programs and the library of crates/*/out are copied into the clone
 #     scripts/first-hour.sh --list     writes the blocks, and runs nothing
+#
+# With --quick the programs have to be those of the last commit. That is not looked at.
 #
 # A block of README is four blanks to the right, below an empty line. It is commands where its first word is `cd`, `rt`, or a path in
 # scripts/ or crates/, a parenthesis before it aside. Else it is an example of text. A line proves where it has `rt all`, `rt run`,
@@ -60,10 +61,10 @@ leave_proofs_out() {
     [[ -s $1 ]]
 }
 
-# Ends the whole, with what the block $1 wrote.
+# Ends the whole, with what the block wrote, and why.
 fail() {
     tail -n 20 "$folder/output" "$folder/errors"
-    echo "first-hour.sh: $1"
+    echo "first-hour.sh: $1: $(head -n 1 "$block")"
     exit 1
 }
 
@@ -71,12 +72,12 @@ fail() {
 run_block() {
     local home=${HOME:-/} example=$clone/examples/keywords.output last
     grep -q 'scripts/install.sh' "$1" && home=$folder/home
-    (cd "$clone" && HOME=$home bash -euo pipefail "$1") > "$folder/output" 2> "$folder/errors" < /dev/null || fail "failed: $(head -n 1 "$1")"
+    (cd "$clone" && HOME=$home bash -euo pipefail "$1") > "$folder/output" 2> "$folder/errors" < /dev/null || fail "failed"
     if grep -q 'keywords\.input' "$1"; then
-        tail -c "$(wc -c < "$example")" "$folder/output" | cmp -s - "$example" || fail "its output does not end with examples/keywords.output: $(head -n 1 "$1")"
+        tail -c "$(wc -c < "$example")" "$folder/output" | cmp -s - "$example" || fail "the output does not end with keywords.output"
     fi
     if grep -q 'rt try' "$1"; then
-        last=$(grep -oE -m 1 'run=[^`]+' "$clone/README.md")
+        last=$(sed -n 's/.*`\(run=ended[^`]*\)`.*/\1/p' "$clone/README.md")
         grep -qxF "$last" "$folder/errors" || fail "README says that rt try writes '$last'"
     fi
 }
