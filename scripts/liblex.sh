@@ -1,6 +1,7 @@
 #!/bin/sh
 # Builds liblex.a, with the toolkit's small C part in it, and tries it from C and, where cargo is there, from Rust, over examples/: whole
-# inputs, buffers that are too small, memory that is refused, and, where valgrind is there, no bad access and no leak. Needs gcc or CC.
+# inputs, buffers that are too small, memory that is refused, and, where valgrind is there, no bad access and no leak. The examples of
+# docs/C.md are run too. Needs gcc or CC.
 #
 #     scripts/liblex.sh [FOLDER]      the folder for what is built: out/liblex by default
 #
@@ -91,6 +92,40 @@ for kilobytes in 2300 2400 2500 2600 2700 2800 2900 3000 3200 3400 3600 3800 400
 done
 [ "$told" -gt 0 ] || { echo "liblex.sh: no limit refused memory"; exit 1; }
 echo "liblex.sh: memory that is refused is told"
+
+# The examples of docs/C.md in C, as they stand there: two programs, and two functions that bindings/c/pages.c calls.
+awk -v page="$out/page" '/^```c$/ { count++; inside = 1; next } /^```$/ { inside = 0 } inside { print > (page count ".c") }' "$top/docs/C.md"
+for number in 1 2; do
+    "$compiler" -Wall -Wextra -Werror -I"$top/include" "$out/page$number.c" "$out/liblex.a" -o "$out/page$number"
+done
+"$compiler" -Wall -Wextra -Werror -g -I"$top/include" -pthread \
+    "$top/bindings/c/pages.c" "$out/page3.c" "$out/page4.c" "$out/liblex.a" -o "$out/pages"
+
+# Fails with what the page $1 should write and does not.
+page_failed() {
+    echo "liblex.sh: an example of docs/C.md failed: $1"
+    exit 1
+}
+
+[ "$("$out/page1")" = "aN bN" ] || page_failed "whole input"
+[ "$("$out/page2")" = "$(printf 'rule 1: a\nrule 0: 1\nrule 1: b\nrule 0: 22')" ] || page_failed "tokens"
+for text in "$top"/examples/*.l; do
+    name=${text%.l} wanted=0 status=0
+    [ -e "$name.status" ] && wanted=$(cat "$name.status")
+    "$out/pages" input "$text" < "$name.input" > "$out/written" || status=$?
+    [ "$status" = "$wanted" ] && cmp -s "$out/written" "$name.output" || page_failed "as it comes, $text"
+done
+printf '%%%%\n[0-9]+   printf("N");\n^a.*\\n  ;\n' > "$out/lines.l"
+for lines in 0 1 2 3 5 100000; do
+    awk -v lines="$lines" 'BEGIN { for (; lines > 0; lines--) print substr("a line of b", 1 + lines % 12), lines }' > "$out/lines"
+    for end in "" "last 1"; do
+        printf '%s' "$end" >> "$out/lines"
+        "$out/pages" whole "$out/lines.l" "$out/lines" > "$out/whole"
+        "$out/pages" pieces "$out/lines.l" "$out/lines" > "$out/written" && cmp -s "$out/whole" "$out/written" ||
+            page_failed "in pieces, $lines lines"
+    done
+done
+echo "liblex.sh: the examples of docs/C.md pass"
 
 if command -v valgrind > /dev/null; then
     examples valgrind -q --error-exitcode=9 --leak-check=full

@@ -9,6 +9,11 @@
 //! ```
 #![deny(missing_docs)]
 
+/// The examples of docs/C.md, as tests.
+#[cfg(doctest)]
+#[doc = include_str!("../../../docs/C.md")]
+struct Page;
+
 use std::error::Error;
 use std::fmt;
 
