@@ -360,7 +360,7 @@ pub struct Scan {
 // that it leads to are the scan's alone: the rules, the text that is held, and what was not handed out yet. They are taken by malloc,
 // and free takes them in any thread. The library has no variable of a thread, and none that it writes. A scan is no `Clone`, and each
 // call takes it by value or by `&mut`. So its calls come one after another, and what moves it between threads puts them in order. This is
-// an argument, and no theorem. Since there is none, include/lex.h asks that all calls of a scan come from one thread.
+// an argument, and no theorem.
 unsafe impl Send for Scan {}
 
 impl Scan {
