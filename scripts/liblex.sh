@@ -43,10 +43,9 @@ newer_than() {
 
 # Proves and makes the archive. One that a source outran while it was made is not kept.
 make_archive() {
-    begun=$(mktemp)
-    trap 'rm -f "$begun"' EXIT
+    : > "$out/begun"
     (cd "$top/crates/liblex" && rt lib)
-    changed=$(newer_than "$begun")
+    changed=$(newer_than "$out/begun")
     [ -z "$changed" ] || { rm -f "$proved"; echo "liblex.sh: $changed changed meanwhile: call again"; exit 1; }
 }
 
