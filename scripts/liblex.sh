@@ -49,6 +49,7 @@ make_archive() {
     [ -z "$changed" ] || { rm -f "$proved"; echo "liblex.sh: $changed changed meanwhile: call again"; exit 1; }
 }
 
+rm -f "$out/liblex.a"
 if [ -e "$proved" ] && [ -z "$(newer_than "$proved")" ]; then
     echo "liblex.sh: crates/liblex/out/libliblex.a is newer than its sources, and is taken"
 else
@@ -56,7 +57,6 @@ else
 fi
 
 # one archive: the proved part, and the part in C that takes memory
-rm -f "$out/liblex.a"
 printf 'create %s\naddlib %s\naddlib %s\nsave\nend\n' "$out/liblex.a" "$proved" "$kit/c/liblibc_c.a" | ar -M
 
 "$compiler" -std=c99 -Wall -Wextra -Werror -pedantic -O1 -g -I"$top/include" "$top/bindings/c/test.c" "$out/liblex.a" -o "$out/test"
