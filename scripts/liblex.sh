@@ -5,18 +5,20 @@
 #
 #     scripts/liblex.sh [FOLDER]      the folder for what is built: out/liblex by default
 #
-# The proved part is crates/liblex/out/libliblex.a. One that is there is taken where nothing that it was made of is newer. Else `rt lib`
-# proves and makes it. That takes the crates which `rt check` or `rt all check` proved in this tree. It proves anew those that `rt ci`
-# did, since `rt ci` keeps them in a form of its own.
+# The proved part is crates/liblex/out/libliblex.a, of which FOLDER has a copy, since `rt ci` removes what stands in out/ of a crate. One of
+# the two is taken where nothing that it was made of is newer. Else `rt lib` proves and makes it. That takes the crates which `rt check`,
+# `rt all check` or `rt lib` proved in this tree. What `rt ci` alone proved it proves anew: `rt ci` keeps no libraries for other commands,
+# and makes no archive of this one.
 set -eu
 top=$(cd "$(dirname "$0")/.." && pwd)
 out=${1:-$top/out/liblex}
 compiler=${CC:-gcc}
 kit=$(dirname "$(dirname "$(readlink -f "$(command -v rt)")")")
 [ -e "$kit/c/liblibc_c.a" ] || kit=${RATTLE_KIT:-/opt/rattle}
-proved=$top/crates/liblex/out/libliblex.a
 mkdir -p "$out"
 out=$(cd "$out" && pwd)
+proved=$top/crates/liblex/out/libliblex.a
+kept=$out/libliblex.a
 
 # The crates of the repository that liblex is made of, by crates.txt.
 crates() {
@@ -41,6 +43,10 @@ newer_than() {
     find "$top/crates.txt" "$kit/WHAT" "$kit/bin/rattle" "$@" \( -newer "$file" -o -cnewer "$file" \) -print | head -n 1
 }
 
+is_up_to_date() {
+    [ -e "$1" ] && [ -z "$(newer_than "$1")" ]
+}
+
 # Proves and makes the archive. One that a source outran while it was made is not kept.
 make_archive() {
     : > "$out/begun"
@@ -50,14 +56,18 @@ make_archive() {
 }
 
 rm -f "$out/liblex.a"
-if [ -e "$proved" ] && [ -z "$(newer_than "$proved")" ]; then
+if is_up_to_date "$proved"; then
     echo "liblex.sh: crates/liblex/out/libliblex.a is newer than its sources, and is taken"
+    cp -p "$proved" "$kept"
+elif is_up_to_date "$kept"; then
+    echo "liblex.sh: $kept is newer than its sources, and is taken"
 else
     make_archive
+    cp -p "$proved" "$kept"
 fi
 
 # one archive: the proved part, and the part in C that takes memory
-printf 'create %s\naddlib %s\naddlib %s\nsave\nend\n' "$out/liblex.a" "$proved" "$kit/c/liblibc_c.a" | ar -M
+printf 'create %s\naddlib %s\naddlib %s\nsave\nend\n' "$out/liblex.a" "$kept" "$kit/c/liblibc_c.a" | ar -M
 
 "$compiler" -std=c99 -Wall -Wextra -Werror -pedantic -O1 -g -I"$top/include" "$top/bindings/c/test.c" "$out/liblex.a" -o "$out/test"
 
