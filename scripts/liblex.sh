@@ -103,7 +103,8 @@ done
 echo "liblex.sh: memory that is refused is told"
 
 # The examples of docs/C.md in C, as they stand there: two programs, and two functions that bindings/c/pages.c calls.
-awk -v page="$out/page" '/^```c$/ { count++; inside = 1; next } /^```$/ { inside = 0 } inside { print > (page count ".c") }' "$top/docs/C.md"
+awk -v page="$out/page" '/^```c$/ { count++; inside = 1; next } /^```$/ { inside = 0 } inside { print > (page count ".c") }' \
+    "$top/docs/C.md"
 for number in 1 2; do
     "$compiler" -Wall -Wextra -Werror -I"$top/include" "$out/page$number.c" "$out/liblex.a" -o "$out/page$number"
 done
@@ -129,9 +130,9 @@ for lines in 0 1 2 3 5 100000; do
     awk -v lines="$lines" 'BEGIN { for (; lines > 0; lines--) print substr("a line of b", 1 + lines % 12), lines }' > "$out/lines"
     for end in "" "last 1"; do
         printf '%s' "$end" >> "$out/lines"
-        "$out/pages" whole "$out/lines.l" "$out/lines" > "$out/whole"
-        "$out/pages" pieces "$out/lines.l" "$out/lines" > "$out/written" && cmp -s "$out/whole" "$out/written" ||
-            page_failed "in pieces, $lines lines"
+        "$out/pages" whole "$out/lines.l" "$out/lines" > "$out/whole" || page_failed "whole, $lines lines"
+        "$out/pages" pieces "$out/lines.l" "$out/lines" > "$out/written" || page_failed "in pieces, $lines lines"
+        cmp -s "$out/whole" "$out/written" || page_failed "in pieces, $lines lines: something else is written"
     done
 done
 echo "liblex.sh: the examples of docs/C.md pass"
