@@ -35,7 +35,7 @@ class Scan(NamedTuple):
 
 def plain(text):
     """What a cell or an example of the manual stands for."""
-    return text.replace("\\n", "\n").replace("\\t", "\t")
+    return text.replace("\\n", "\n").replace("\\t", "\t").replace("\\0", "\0")
 
 
 def code(cell):

@@ -2,7 +2,7 @@
 # Tries the pictures that lexlook writes, with dot of Graphviz. It is no part of the gate.
 #
 #     scripts/pages/pictures.sh LEXLOOK            each of examples/*.l: dot takes its picture, and a second run writes the same
-#     scripts/pages/pictures.sh LEXLOOK --readme   writes docs/keys.svg, the picture of examples/keys.l in the README
+#     scripts/pages/pictures.sh LEXLOOK --readme   writes docs/keys.svg, the picture of examples/keys.l that README links
 #
 # LEXLOOK is the program, as crates/lexlook/out/lexlook.
 set -eu

@@ -1,4 +1,18 @@
 //! Scanners made of lex specifications, and run. What the library does is proved (docs/PROVED.md); this crate only hands it slices.
+//!
+//! ```
+//! use liblex::{generate, scan, Options};
+//!
+//! let table = generate(b"%%\n[0-9]+ printf(\"N\");\n", Options::default())?;
+//! assert_eq!(scan(&table, b"a1 b22\n")?.output, b"aN bN\n");
+//! # Ok::<(), liblex::LexError>(())
+//! ```
+#![deny(missing_docs)]
+
+/// The examples of docs/C.md, as tests.
+#[cfg(doctest)]
+#[doc = include_str!("../../../docs/C.md")]
+struct Page;
 
 use std::error::Error;
 use std::fmt;
@@ -158,7 +172,9 @@ impl Error for LexError {}
 /// What a scan wrote, and the status that its rules ended with.
 #[derive(Clone, Debug, PartialEq, Eq)]
 pub struct Scanned {
+    /// What the rules write.
     pub output: Vec<u8>,
+    /// The status that they end with, 0 to 63.
     pub status: u8,
 }
 
@@ -178,7 +194,9 @@ pub struct Token {
 /// The tokens of an input, and the status that the rules ended with.
 #[derive(Clone, Debug, PartialEq, Eq)]
 pub struct Listed {
+    /// The match of each turn of the scan, in order.
     pub tokens: Vec<Token>,
+    /// The status that the rules end with, 0 to 63.
     pub status: u8,
 }
 
@@ -332,10 +350,18 @@ pub enum Progress {
     Ended,
 }
 
-/// A scan by pieces. What its calls append, one after another, is what `scan` writes for all the bytes fed.
+/// A scan by pieces. What its calls append, one after another, is what `scan` writes for all the bytes fed. It may be moved to
+/// another thread.
 pub struct Scan {
     inner: ffi::Scan,
 }
+
+// Safety: an open scan is one block of memory, which `inner.place` leads to (`PieceScan` of crates/liblex_calls). That block and those
+// that it leads to are the scan's alone: the rules, the text that is held, and what was not handed out yet. They are taken by malloc,
+// and free takes them in any thread. The library has no variable of a thread, and none that it writes. A scan is no `Clone`, and each
+// call takes it by value or by `&mut`. So its calls come one after another, and what moves it between threads puts them in order. This is
+// an argument, and no theorem.
+unsafe impl Send for Scan {}
 
 impl Scan {
     /// Begins a scan by the rules of a table file.

@@ -3,6 +3,7 @@
 use liblex::{generate, rule_lines, scan, tokens, LexError, Options, Progress, Scan, Token};
 use std::fs;
 use std::path::Path;
+use std::thread;
 
 #[test]
 fn examples_write_what_is_stored() {
@@ -22,6 +23,7 @@ fn examples_write_what_is_stored() {
         for size in [1, 2, 7, 4096] {
             assert_eq!(by_pieces(&table, &input, size), (scanned.output.clone(), scanned.status), "{text:?}");
         }
+        assert_eq!(by_threads(&table, &input, 7), (scanned.output, scanned.status), "{text:?}");
         count += 1;
     }
     assert!(count >= 20);
@@ -63,6 +65,35 @@ fn by_pieces(table: &[u8], input: &[u8], size: usize) -> (Vec<u8>, u8) {
     }
     let status = scan.finish(&mut output).unwrap();
     (output, status)
+}
+
+/// The same, where each piece is fed by a thread of its own, which the scan is moved to, and the end is asked for by another.
+fn by_threads(table: &[u8], input: &[u8], size: usize) -> (Vec<u8>, u8) {
+    let mut scan = Scan::open(table).unwrap();
+    let mut output = Vec::new();
+    for piece in input.chunks(size) {
+        let piece = piece.to_vec();
+        let fed = thread::spawn(move || {
+            scan.feed(&piece, &mut output).unwrap();
+            (scan, output)
+        });
+        (scan, output) = fed.join().unwrap();
+    }
+    let ended = thread::spawn(move || {
+        let status = scan.finish(&mut output).unwrap();
+        (output, status)
+    });
+    ended.join().unwrap()
+}
+
+#[test]
+fn a_scan_is_closed_by_another_thread() {
+    let table = generate(b"%%\n[0-9]+ printf(\"N\");\n", Options::default()).unwrap();
+    let mut scan = Scan::open(&table).unwrap();
+    let mut output = Vec::new();
+    scan.feed(b"a12", &mut output).unwrap();
+    thread::spawn(move || drop(scan)).join().unwrap();
+    assert_eq!(output, b"a");
 }
 
 #[test]
