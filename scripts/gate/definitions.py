@@ -3,10 +3,9 @@
 cites, and those that these are made of.
 
     scripts/gate/definitions.py             how many there are, by crate, and what is missing on the page
-    scripts/gate/definitions.py --status    the same, and a status of 1 where something is missing
+    scripts/gate/definitions.py --status    the same, and a status of 1 where something is missing, or a name has two meanings
     scripts/gate/definitions.py --write     the same, and the table at the end of the page is written
-    scripts/gate/definitions.py NAME ..     the definitions that the contracts of these calls lead to, with their lines, and
-                                       the names that stand for two of them
+    scripts/gate/definitions.py NAME ..     the definitions that the contracts of these calls lead to, with their lines
     scripts/gate/definitions.py --std NAME .. the names from outside this project that those definitions are written with
 
 A public contract is a clause of a function, or of a method of a type or trait, that one of the crates of SURFACE gives its
@@ -211,12 +210,6 @@ def tokens(lines):
 def listed(specs, targets):
     for target in sorted(targets):
         print(".".join(target), len(specs.lines[target]))
-    homes = collections.defaultdict(list)
-    for target in sorted(targets):
-        homes[target[2]].append(".".join(target[:2]))
-    for name, modules in homes.items():
-        if len(modules) > 1:
-            print(f"two meanings: {name} of {', '.join(modules)}")
     lines = [specs.lines[target] for target in targets]
     print(len(targets), "definitions in", sum(map(len, lines)), "lines and", sum(map(tokens, lines)), "tokens")
 
@@ -248,8 +241,18 @@ def write(specs, direct, whole):
         file.write(counted(specs, before + table(specs, direct) + after, whole))
 
 
+def homes(targets):
+    """The names that stand in more than one module, but for `>>=`: one step after another, of each kind of reader."""
+    found = collections.defaultdict(list)
+    for target in sorted(targets):
+        found[target[2]].append(".".join(target[:2]))
+    return {name: modules for name, modules in found.items() if len(modules) > 1 and name != "◌>>=◌"}
+
+
 def faults(specs, direct, whole):
-    """What the page lacks, and what it has that is not so."""
+    """What the page lacks, what it has that is not so, and which names have two meanings."""
+    for name, modules in homes(specs.closure(direct)).items():
+        yield f"two meanings: {name} of {', '.join(modules)}"
     page = read(ROOT, "docs", "DEFINITIONS.md")
     on_page, there = collections.Counter(named()), {".".join(target[1:]) for target in [*specs.lines, *specs.makers]}
     for target in sorted(specs.closure(direct)):
