@@ -43,6 +43,8 @@ mod ffi {
     }
 
     extern "C" {
+        pub fn lex_version() -> u32;
+
         pub fn lex_generate(
             text: *const u8,
             text_len: usize,
@@ -113,6 +115,12 @@ const ENDED: i32 = 2;
 const REFUSED: i32 = 65;
 const STACK: i32 = 70;
 const OUT_OF_MEMORY: i32 = 71;
+
+/// The version of the library that is linked: 10,000 times its first number, 100 times its second, and its third.
+pub fn version() -> u32 {
+    // Safety: the call takes nothing and touches nothing.
+    unsafe { ffi::lex_version() }
+}
 
 /// How a specification is read.
 #[derive(Clone, Copy, Debug, Default, PartialEq, Eq)]

@@ -1,6 +1,6 @@
 //! Each file of examples/, and refusals.
 
-use liblex::{generate, rule_lines, scan, tokens, LexError, Options, Progress, Scan, Token};
+use liblex::{generate, rule_lines, scan, tokens, version, LexError, Options, Progress, Scan, Token};
 use std::fs;
 use std::path::Path;
 use std::thread;
@@ -27,6 +27,12 @@ fn examples_write_what_is_stored() {
         count += 1;
     }
     assert!(count >= 20);
+}
+
+#[test]
+fn the_version_is_that_of_the_crate() {
+    let numbers: Vec<u32> = env!("CARGO_PKG_VERSION").split('.').map(|number| number.parse().unwrap()).collect();
+    assert_eq!(version(), 10_000 * numbers[0] + 100 * numbers[1] + numbers[2]);
 }
 
 #[test]
