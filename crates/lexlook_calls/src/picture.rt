@@ -5,7 +5,7 @@ ghost use Rattle.lex_semantics.specs.Limits.{max_positions, max_states};
 ghost use Rattle.lex_semantics.specs.Text.{Among};
 ghost use Rattle.lexauto_dfa.specs.Automata.{accepts_of, conditions_of, states_of};
 ghost use Rattle.lexspec.specs.Views.{conditions_in, rules_in, spec_of};
-ghost use Rattle.lexlook_specs.specs.Faults.{look_fault_count as picture_fault_count};
+ghost use Rattle.lexlook_specs.specs.Faults.{picture_fault_count};
 ghost use Rattle.lexlook_calls.specs.Errors.{look_fault_count};
 ghost use Rattle.lexlook_calls.specs.Looks.{Draws, picture_of};
 

@@ -7,7 +7,7 @@ use Rattle.lexre.specs.Counting.{state_nodes, adds, AddsOne, item_adds, capped_n
 use Rattle.lexre.specs.Definitions.{Definitions}
 use Rattle.lexre.specs.Grammar.{SpellsWithin}
 use Rattle.lexre_bytes.specs.Lexical.{symbol_at}
-use Rattle.lexre.specs.Outcome.{UnlessMemory, IsRefused}
+use Rattle.lexre.specs.Outcome.{UnlessPatternMemory, IsRefused}
 use Rattle.lexre.specs.Reading.{SpellsIn, StandsIn, StepsIn, NoneWithin}
 use Rattle.lexre.specs.Running.{State, state, fresh, push, pushed, finished, step_of, IsPlain, Stands, Steps, RunsText}
 use Rattle.lexre_bytes.specs.Symbols.{Symbol, item, name, opening, closing, bar, sign, Lexer, IsCut}
@@ -27,16 +27,16 @@ something_left [] h e = h refl
 something_left (b ∷ bs) h e = cc
 
 -- a weaker reason
-pub unless_weaker : (kind : PatternErrorKind) (P Q : Type 0) → (P → Q) → UnlessMemory kind P → UnlessMemory kind Q
+pub unless_weaker : (kind : PatternErrorKind) (P Q : Type 0) → (P → Q) → UnlessPatternMemory kind P → UnlessPatternMemory kind Q
 unless_weaker OutOfMemory P Q f h = tt
 unless_weaker _ P Q f h = f h
 
-pub unless_of : (kind : PatternErrorKind) (P : Type 0) → P → UnlessMemory kind P
+pub unless_of : (kind : PatternErrorKind) (P : Type 0) → P → UnlessPatternMemory kind P
 unless_of OutOfMemory P h = tt
 unless_of _ P h = h
 
 -- another word for the same fault
-pub retold : (a b : PatternErrorKind) (P : Type 0) → (a ≡ OutOfMemory → b ≡ OutOfMemory) → UnlessMemory a P → UnlessMemory b P
+pub retold : (a b : PatternErrorKind) (P : Type 0) → (a ≡ OutOfMemory → b ≡ OutOfMemory) → UnlessPatternMemory a P → UnlessPatternMemory b P
 retold OutOfMemory b P h u = let e : b ≡ OutOfMemory = h refl in rw e tt
 retold _ b P h u = unless_of b P u
 
@@ -84,7 +84,7 @@ module _ (posix : Bool) (symbol_at : Lexer) (defined : List ℕ → Option (List
   NoTree most d text = (t : Tree) → SpellsWithin posix symbol_at defined d text t → nodes t ≤ most → ⊥
 
   pub refused : (kind : PatternErrorKind) (P : Type 0) (most d : ℕ) (st : State) (rest text : List ℕ) → Agree st rest (state fresh [] d) text
-      → (P → NoRun most st rest) → UnlessMemory kind P → UnlessMemory kind (NoTree most d text)
+      → (P → NoRun most st rest) → UnlessPatternMemory kind P → UnlessPatternMemory kind (NoTree most d text)
   refused kind P most d st rest text agree f h =
       unless_weaker kind P (NoTree most d text) (λ p t spells few. f p t (agree.back t (spelled_runs posix symbol_at defined d text t spells)) few) h
 
@@ -103,7 +103,7 @@ module _ (posix : Bool) (symbol_at : Lexer) (defined : List ℕ → Option (List
         omega (arith, steps_grow posix symbol_at defined s (signs rest rest' s here) st after step, counted after rest' tree (ss, cut, run))
 
     pub refused_front : (kind : PatternErrorKind) (most d : ℕ) (st : State) (rest text : List ℕ) → Agree st rest (state fresh [] d) text → (rest ≡ [] → ⊥) → most ≤ 65536
-        → UnlessMemory kind (IsRefused (symbol_at rest)) → UnlessMemory kind (NoTree most d text)
+        → UnlessPatternMemory kind (IsRefused (symbol_at rest)) → UnlessPatternMemory kind (NoTree most d text)
     refused_front kind most d st rest text agree some small h = refused kind _ most d st rest text agree (front_refused most st rest some small) h
 
     step_refused : (most most' : ℕ) (st : State) (rest after : List ℕ) (s : Symbol) → symbol_at rest ≡ Some (s, after) → most ≤ most' → NoStep most' st s → NoRun most st rest
@@ -112,7 +112,7 @@ module _ (posix : Bool) (symbol_at : Lexer) (defined : List ℕ → Option (List
         h next step (omega (arith, counted next after tree run'))
 
     pub refused_step : (kind : PatternErrorKind) (most most' d : ℕ) (st : State) (rest text after : List ℕ) (s : Symbol) → Agree st rest (state fresh [] d) text
-        → symbol_at rest ≡ Some (s, after) → most ≤ most' → UnlessMemory kind (NoStep most' st s) → UnlessMemory kind (NoTree most d text)
+        → symbol_at rest ≡ Some (s, after) → most ≤ most' → UnlessPatternMemory kind (NoStep most' st s) → UnlessPatternMemory kind (NoTree most d text)
     refused_step kind most most' d st rest text after s agree here le h =
         refused kind _ most d st rest text agree (step_refused most most' st rest after s here le) h
 
@@ -121,7 +121,7 @@ module _ (posix : Bool) (symbol_at : Lexer) (defined : List ℕ → Option (List
   end_refused most st rest end e tree (s ∷ ss, (rest', here, cut), run) few = no_end rest s rest' here end
 
   pub refused_end : (kind : PatternErrorKind) (most d : ℕ) (st : State) (rest text : List ℕ) → Agree st rest (state fresh [] d) text → rest ≡ []
-      → UnlessMemory kind (finished st ≡ None) → UnlessMemory kind (NoTree most d text)
+      → UnlessPatternMemory kind (finished st ≡ None) → UnlessPatternMemory kind (NoTree most d text)
   refused_end kind most d st rest text agree end h = refused kind _ most d st rest text agree (end_refused most st rest end) h
 
   pub found_at_end : (d : ℕ) (st : State) (rest text : List ℕ) (tree : Tree) → Agree st rest (state fresh [] d) text → rest ≡ []
@@ -195,15 +195,15 @@ steps_name how definitions (state here outer (suc d)) after n t stands e = (t, s
 abbrev NoStepIn : ReadOptions → Definitions → ℕ → State → Symbol → Type 0
 NoStepIn how definitions most st s = (after : State) → StepsIn how definitions st s after → state_nodes after ≤ most → ⊥
 
-pub no_push : (how : ReadOptions) (definitions : Definitions) (kind : PatternErrorKind) (most : ℕ) (st : State) (s : Symbol) (t : Tree) → UnlessMemory kind (Some (push t st) ≡ None)
-    → UnlessMemory kind (NoStepIn how definitions most st s)
+pub no_push : (how : ReadOptions) (definitions : Definitions) (kind : PatternErrorKind) (most : ℕ) (st : State) (s : Symbol) (t : Tree) → UnlessPatternMemory kind (Some (push t st) ≡ None)
+    → UnlessPatternMemory kind (NoStepIn how definitions most st s)
 no_push how definitions kind most st s t h = unless_weaker kind _ (NoStepIn how definitions most st s) (λ e. absurd (never e)) h
   where
     never : Some (push t st) ≡ None → ⊥
     never e = cc
 
 pub no_name_step : (how : ReadOptions) (definitions : Definitions) (kind : PatternErrorKind) (room : ℕ) (st : State) (n : List ℕ)
-    → UnlessMemory kind (NoneWithin room (StandsIn how definitions (left_of st) n)) → UnlessMemory kind (NoStepIn how definitions (state_nodes st + room) st (name n))
+    → UnlessPatternMemory kind (NoneWithin room (StandsIn how definitions (left_of st) n)) → UnlessPatternMemory kind (NoStepIn how definitions (state_nodes st + room) st (name n))
 no_name_step how definitions kind room st n h = unless_weaker kind _ (NoStepIn how definitions (state_nodes st + room) st (name n)) (go st) h
   where
     go : (st : State) → NoneWithin room (StandsIn how definitions (left_of st) n) → NoStepIn how definitions (state_nodes st + room) st (name n)

@@ -1,6 +1,6 @@
 -- What a `Stack` stands for.
 use Rattle.std.specs.Prelude.{◌≡◌, ℕ, map, reverse, option_map, Option, Some, None, Result, Ok, Err}
-use Rattle.lexre.specs.Outcome.{UnlessMemory}
+use Rattle.lexre.specs.Outcome.{UnlessPatternMemory}
 use Rattle.lexre.specs.Running.{State, frame, state, on_item, on_series}
 use Rattle.lexre.specs.Running as run
 use Rattle.lexre.specs.Views.{tree_of}
@@ -23,4 +23,4 @@ state_of s = state (frame_of s.here) (reverse (map frame_of s.outer.items)) s.le
 -- A step leads to `new` and brings as many nodes as were answered; or there is no step.
 abbrev pub StepsTo : Result ℕ PatternErrorKind → Option State → ℕ → State → Type 0
 StepsTo (Ok n) step adds new = (step ≡ Some new) × (n ≡ adds)
-StepsTo (Err kind) step adds new = UnlessMemory kind (step ≡ None)
+StepsTo (Err kind) step adds new = UnlessPatternMemory kind (step ≡ None)

@@ -2,7 +2,7 @@
 ghost use Rattle.std.specs.Prelude.{◌≡◌, ℕ, List, Option, Some, None, MatchResult, IfOk, drop};
 ghost use Rattle.lexre.specs.Fronts.{class_front, escape_front, quoted_front};
 ghost use Rattle.lexre_bytes.specs.Lexical.{symbol_at};
-ghost use Rattle.lexre.specs.Outcome.{IsRefused, UnlessMemory};
+ghost use Rattle.lexre.specs.Outcome.{IsRefused, UnlessPatternMemory};
 ghost use Rattle.lexre.specs.Soundness.{IsSoundSymbol};
 ghost use Rattle.lexre.specs.SymbolViews.{Front, symbol_of};
 
@@ -23,7 +23,7 @@ fn quoted_item<'a>(
 ) -> Result<(Symbol<'a>, &'a [u8]), FaultAt<'a>>
     ensures front { MatchResult result
         (λ x. ◌≡◌ {A = Front} (quoted_front fold text.now) (Some (symbol_of x.0, x.1.now)))
-        (λ e. UnlessMemory e.kind (IsRefused (quoted_front fold text.now))) }
+        (λ e. UnlessPatternMemory e.kind (IsRefused (quoted_front fold text.now))) }
     ensures sound { IfOk result (λ x. IsSoundSymbol x.0) }
 {
     let (bytes, rest) = match quoted_at(alloc, quote, text) {
@@ -81,7 +81,7 @@ pub(crate) fn symbol_at<'a>(
 ) -> Result<(Symbol<'a>, &'a [u8]), FaultAt<'a>>
     ensures front { MatchResult result
         (λ x. ◌≡◌ {A = Front} (symbol_at fold text.now) (Some (symbol_of x.0, x.1.now)))
-        (λ e. UnlessMemory e.kind (IsRefused (symbol_at fold text.now))) }
+        (λ e. UnlessPatternMemory e.kind (IsRefused (symbol_at fold text.now))) }
     ensures sound { IfOk result (λ x. IsSoundSymbol x.0) }
 {
     let missing = FaultAt {

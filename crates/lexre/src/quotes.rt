@@ -8,7 +8,7 @@ ghost use Rattle.lexre_bytes.specs.Quotes.{after_quotes};
 ghost use Rattle.lexre_bytes.specs.Unread.{Fault, after_byte, fault_inside, unread};
 ghost use Rattle.lexre_bytes.specs.declared.error.PatternErrorKind.TheVariants.{UnclosedQuote};
 ghost use Rattle.lexre.specs.Cutting.{IsQuoteFault};
-ghost use Rattle.lexre.specs.Outcome.{UnlessMemory};
+ghost use Rattle.lexre.specs.Outcome.{UnlessPatternMemory};
 ghost use Rattle.lexre.specs.Views.{tree_of};
 ghost use Rattle.lexre.specs.Limits.{max_nodes};
 
@@ -61,7 +61,7 @@ pub(crate) fn quoted_at<'a>(
 ) -> Result<(Vec<u8>, &'a [u8]), FaultAt<'a>>
     ensures { MatchResult result
         (λ x. ◌≡◌ {A = Option (List ℕ × List ℕ)} (quoted_bytes text.now) (Some (x.0.items, x.1.now)))
-        (λ e. UnlessMemory e.kind (◌≡◌ {A = Option (List ℕ × List ℕ)} (quoted_bytes text.now) None)) }
+        (λ e. UnlessPatternMemory e.kind (◌≡◌ {A = Option (List ℕ × List ℕ)} (quoted_bytes text.now) None)) }
 {
     let mut bytes = Vec::new(alloc);
     let mut rest = text;
@@ -114,7 +114,7 @@ pub(crate) fn quoted_pattern(
 ) -> Result<Pattern, PatternErrorKind>
     ensures tree { MatchResult result
         (λ p. tree_of p ≡ quoted_tree fold bytes.now)
-        (λ e. UnlessMemory e (max_nodes < nodes (quoted_tree fold bytes.now))) }
+        (λ e. UnlessPatternMemory e (max_nodes < nodes (quoted_tree fold bytes.now))) }
     ensures sound { IfOk result (λ p. IsSoundTree (tree_of p)) }
 {
     match bytes {

@@ -8,7 +8,7 @@ ghost use Rattle.lex_semantics.specs.Tree.{Tree};
 ghost use Rattle.lexre.specs.Counting.{state_nodes};
 ghost use Rattle.lexre.specs.Cycles.{AllLead, AllLeadToSymbol, AllLeadToText};
 ghost use Rattle.lexre.specs.Names.{AreKnown, open_of, trees_of};
-ghost use Rattle.lexre.specs.Outcome.{UnlessMemory};
+ghost use Rattle.lexre.specs.Outcome.{UnlessPatternMemory};
 ghost use Rattle.lexre.specs.Reading.{IsRead, IsStep, NoneWithin, SpellsIn, StandsIn, StepsIn, begins_interval};
 ghost use Rattle.lexre.specs.Running.{State};
 ghost use Rattle.lexre.specs.Soundness.{IsSoundState, IsSoundSymbol};
@@ -106,7 +106,7 @@ fn read_name(
         left room r.spare (tree_of r.tree.pattern)) }
     ensures known { AreKnown scope.entry.options scope.entry.definitions.now (trees_of names.new) }
     ensures same_open { OnOk result (open_of names.new ≡ open_of names.old) }
-    ensures none { IfErr result (λ e. UnlessMemory e
+    ensures none { IfErr result (λ e. UnlessPatternMemory e
         (NoneWithin room (StandsIn scope.entry.options scope.entry.definitions.now left name.now))) }
 {
     if let Some(kept) = names.find(name, left) {
@@ -156,7 +156,7 @@ fn step(
         (state_of stack.old) (state_of stack.new) room a.spare a.nodes) }
     ensures known { AreKnown scope.entry.options scope.entry.definitions.now (trees_of names.new) }
     ensures same_open { OnOk result (open_of names.new ≡ open_of names.old) }
-    ensures none { IfErr result (λ e. UnlessMemory e
+    ensures none { IfErr result (λ e. UnlessPatternMemory e
         ((after : State) → StepsIn scope.entry.options scope.entry.definitions.now (state_of stack.old)
         (symbol_of symbol.entry) after → state_nodes after ≤ state_nodes (state_of stack.old) + room → ⊥)) }
 {
@@ -206,7 +206,7 @@ fn read_within(
         left room r.spare (tree_of r.tree.pattern)) }
     ensures known { AreKnown scope.entry.options scope.entry.definitions.now (trees_of names.new) }
     ensures same_open { OnOk result (open_of names.new ≡ open_of names.old) }
-    ensures none { IfErr result (λ e. UnlessMemory e.kind
+    ensures none { IfErr result (λ e. UnlessPatternMemory e.kind
         (NoneWithin room (SpellsIn scope.entry.options scope.entry.definitions.now left text.now))) }
 {
     let mut stack = Stack::new(alloc, left);
@@ -259,7 +259,7 @@ pub fn read_pattern(
 ) -> Result<Pattern, PatternError>
     ensures found { IfOk result (λ p. Spells options definitions.now text.now (tree_of p)) }
     ensures sound { IfOk result (λ p. IsSoundTree (tree_of p)) }
-    ensures none { IfErr result (λ e. UnlessMemory e.kind ((t : Tree)
+    ensures none { IfErr result (λ e. UnlessPatternMemory e.kind ((t : Tree)
         → Spells options definitions.now text.now t → ⊥)) }
 {
     let mut names = NameCache::new(alloc);
@@ -279,7 +279,7 @@ pub fn read_with_names(
     ensures found { IfOk result (λ p. Spells options definitions.now text.now (tree_of p)) }
     ensures sound { IfOk result (λ p. IsSoundTree (tree_of p)) }
     ensures known { AreKnown options definitions.now (trees_of names.new) }
-    ensures none { IfErr result (λ e. UnlessMemory e.kind ((t : Tree)
+    ensures none { IfErr result (λ e. UnlessPatternMemory e.kind ((t : Tree)
         → Spells options definitions.now text.now t → ⊥)) }
 {
     let scope = Scope {

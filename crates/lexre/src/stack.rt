@@ -11,7 +11,7 @@ ghost use Rattle.lex_semantics.specs.Tree.{Repeat, Tree};
 ghost use Rattle.lexre.specs.Counting.{adds, closing_adds, extra, item_adds};
 ghost use Rattle.lexre.specs.Running.{choice_tree, how_many, on_item, one_more, operand};
 ghost use Rattle.lexre.specs.Running.{operand_signs, parts_before, series_count, series_tree};
-ghost use Rattle.lexre.specs.Outcome.{UnlessMemory};
+ghost use Rattle.lexre.specs.Outcome.{UnlessPatternMemory};
 ghost use Rattle.lexre.specs.Running.{State, closed, finished, fresh, gathered, onto_last};
 ghost use Rattle.lexre.specs.Running.{opened, parted, push, pushed, state, step_of};
 ghost use Rattle.lexre.specs.StackViews.{StepsTo, frame_of, signs_of, state_of};
@@ -361,7 +361,7 @@ impl Stack {
     pub(crate) fn finish(self) -> Result<Pattern, PatternErrorKind>
         ensures { MatchResult result
             (λ p. finished (state_of self) ≡ Some (tree_of p))
-            (λ e. UnlessMemory e (finished (state_of self) ≡ None)) }
+            (λ e. UnlessPatternMemory e (finished (state_of self) ≡ None)) }
     {
         let Stack {
             alloc,

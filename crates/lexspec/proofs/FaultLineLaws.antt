@@ -37,7 +37,7 @@ use Rattle.lexspec.specs.declared.rule.Rule.{Rule as RuleKept}
 use Rattle.lexspec.specs.declared.rules_so_far.RulesSoFar.{RulesSoFar}
 use Rattle.lexspec_actions.proofs.SameActions.{balanced}
 use Rattle.lexspec_actions.specs.Actions.{SpellsAction}
-use Rattle.lexspec_actions.specs.Bytes.{after_space, skip}
+use Rattle.lexspec_actions.specs.Bytes.{after_space, after_spaces}
 use Rattle.lexspec_actions.specs.Names.{Scope, known_in}
 use Rattle.lexspec_lines.specs.Lines.{newlines}
 use Rattle.lexspec_lines.specs.declared.declarations.Declarations.{Declarations}
@@ -123,7 +123,7 @@ a_spells : (how : ReadOptions) (defined : Definitions) → Spells how defined (c
 a_spells how defined = read_as how.fold how.posix defined
 
 nothing_acts : (known : Scope) → SpellsAction known [] []
-unfolding skip after_space take_up_to
+unfolding after_spaces after_space take_up_to
 nothing_acts known = (([], refl, balanced [] refl, refl), refl)
 
 abbrev closing : Item

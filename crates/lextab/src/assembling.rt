@@ -2,7 +2,7 @@
 ghost use Rattle.std.specs.Prelude.{◌≡◌, ℕ, map, length, IfOk};
 ghost use Rattle.lex_semantics.specs.Text.{IsText};
 ghost use Rattle.lexspec_actions.specs.Views.{condition_of as condition_in};
-ghost use Rattle.lexspec.specs.RuleViews.{table_rule_of as rule_in};
+ghost use Rattle.lexspec.specs.RuleViews.{rule_of as rule_in};
 ghost use Rattle.lextab_packed.specs.Checks.{Each, HasText};
 ghost use Rattle.lextab_packed.specs.Views.{condition_of, table_rule_of, row_of};
 ghost use Rattle.lextab.specs.Assembled.{start_in, conditions_with, action_in, rows_with};

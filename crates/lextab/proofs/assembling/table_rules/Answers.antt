@@ -2,7 +2,7 @@ use Rattle.std.proofs.Common.{◌≡◌, ℕ, ◌+◌, ◌∷◌, [], ◌++◌, 
 use Rattle.std.proofs.lemmas.List.{map_push}
 use Rattle.lex_semantics.specs.Spec as S
 use Rattle.lex_machine.specs.Views.{statement_of, cut_of}
-use Rattle.lexspec.specs.RuleViews.{table_rule_of as rule_in}
+use Rattle.lexspec.specs.RuleViews.{rule_of as rule_in}
 use Rattle.lextab_packed.specs.Table as T
 use Rattle.lextab_packed.specs.Checks.{Each, HasText}
 use Rattle.lextab_packed.specs.Views.{table_rule_of}

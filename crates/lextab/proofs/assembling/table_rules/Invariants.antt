@@ -1,5 +1,5 @@
 use Rattle.std.proofs.Common.{◌≡◌, ◌++◌, map, drop}
-use Rattle.lexspec.specs.RuleViews.{table_rule_of as rule_in}
+use Rattle.lexspec.specs.RuleViews.{rule_of as rule_in}
 use Rattle.lextab_packed.specs.Checks.{Each, HasText}
 use Rattle.lextab_packed.specs.Views.{table_rule_of}
 use Rattle.lextab.specs.Assembled.{action_in}
