@@ -45,10 +45,9 @@ read_version() {
 
 # The folder of the toolkit, whose small part in C belongs to the library.
 kit() {
-    local program
-    program=$(readlink -f "$(command -v rt || true)")
-    program=$(dirname "$(dirname "${program:-/none/none}")")
-    if [[ -e $program/c/liblibc_c.a ]]; then echo "$program"; else echo "${RATTLE_KIT:-/opt/rattle}"; fi
+    local folder=${RATTLE_KIT:-/opt/rattle}
+    if command -v rt > /dev/null; then folder=$(dirname "$(dirname "$(readlink -f "$(command -v rt)")")"); fi
+    if [[ -e $folder/c/liblibc_c.a ]]; then echo "$folder"; else echo "${RATTLE_KIT:-/opt/rattle}"; fi
 }
 
 # What was not built, with the command that builds it; a status of 1 where there is something.
@@ -174,7 +173,7 @@ choose_name() {
         named=$name
     elif other=$(other_lex); then
         name=lexp
-        say "there is another lex, $other: the program is installed as lexp (--name lex installs it as lex)"
+        note="there is another lex, $other: the program is installed as lexp (--name lex installs it as lex)"
     else
         name='lex'
     fi
@@ -241,7 +240,8 @@ copy() {
     local path
     trap 'take_back; rm -rf "$work"' EXIT
     while read -r path; do make_folder "$(dirname "$root/$path")"; done < <(cat "$work/paths"; echo "$list")
-    (cd "$work/files" && write_list > "$work/list" && install -m 644 "$work/list" "$list")
+    (cd "$work/files"; write_list > "$work/list")
+    install -m 644 "$work/list" "$work/files/$list"
     while read -r path; do
         copied+=("$root/$path")
         cp -pP "$work/files/$path" "$root/$path.new-by-install" || refuse "$root/$path cannot be written: nothing is installed"
@@ -302,16 +302,14 @@ remove_earlier() {
     remove_files "$1" < "$work/earlier-paths"
 }
 
-# Where programs look for shared libraries in DIR/lib, their table is made anew.
-tell_loader() {
-    if [[ -z ${DESTDIR:-} && $(id -u) == 0 ]] && ldconfig -NXv 2> /dev/null | grep "^$prefix/lib:" > /dev/null; then
-        ldconfig
-    fi
+# Whether programs look for shared libraries in DIR/lib, by a table that may be written.
+is_loaded_from() {
+    [[ -z ${DESTDIR:-} && $(id -u) == 0 ]] && ldconfig -NXv 2> /dev/null | grep -F "$prefix/lib: " > /dev/null
 }
 
 # ---- the command line
 
-prefix=/usr/local name='' named='' mode=install made=() copied=()
+prefix=/usr/local name='' named='' note='' mode=install made=() copied=()
 while (($#)); do
     case $1 in
         --prefix) (($# > 1)) || usage; prefix=$2; shift 2 ;;
@@ -334,6 +332,8 @@ compiler=${CC:-cc} archive=$top/out/liblex/liblex.a part=$top/crates/liblex/out/
 work=$(mktemp -d)
 trap 'rm -rf "$work"' EXIT
 
+loaded=0
+if is_loaded_from; then loaded=1; fi
 if [[ $mode == uninstall ]]; then
     uninstall
 else
@@ -345,5 +345,6 @@ else
     [[ ! -f $root/$list ]] || cp "$root/$list" "$work/earlier"
     copy
     remove_earlier "$work/earlier"
+    [[ -z $note ]] || say "$note"
 fi
-tell_loader
+if ((loaded)) || is_loaded_from; then ldconfig; fi

@@ -45,7 +45,7 @@ put_archive() {
     sed -i "s|^prefix=.*|prefix=\${pcfiledir}/../..|" "$work/$name/lib/pkgconfig/lex.pc"
     sed -i 's|^\.I /usr/share/|.I share/|' "$work/$name"/share/man/man1/*.1
     tar -C "$work" --sort=name --format=ustar --mtime="@$SOURCE_DATE_EPOCH" --owner=0 --group=0 --numeric-owner -cf - "$name" |
-        gzip -9n > "$out/$name-linux-$(uname -m).tar.gz"
+        gzip -9n > "$work/made/$name-linux-$(uname -m).tar.gz"
 }
 
 # ---- the package for Debian
@@ -149,7 +149,7 @@ put_package() {
     echo "liblex ${version%%.*} lexp (>= $version)" > "$debian/DEBIAN/shlibs"
     echo "activate-noawait ldconfig" > "$debian/DEBIAN/triggers"
     find "$debian" -exec touch -h -d "@$SOURCE_DATE_EPOCH" {} +
-    dpkg-deb --root-owner-group -Zxz --build "$debian" "$out/lexp_$version-1_$(dpkg --print-architecture).deb" > /dev/null
+    dpkg-deb --root-owner-group -Zxz --build "$debian" "$work/made" > /dev/null
 }
 
 (($# <= 1)) || refuse "usage: package.sh [FOLDER]"
@@ -159,11 +159,14 @@ done
 version=$(cat "$top/VERSION")
 maintainer="${DEBFULLNAME:-the lex authors} <${DEBEMAIL:-lex-authors@users.noreply.invalid}>"
 read_time
-out=${1:-$top/out/package}
-mkdir -p "$out"
-out=$(cd "$out" && pwd)
 gather
+mkdir "$work/made"
 put_archive
 suit_debian
 put_package
-(cd "$out" && sha256sum "lexp_$version-1_$(dpkg --print-architecture).deb" "lex-$version-linux-$(uname -m).tar.gz")
+mkdir -p "${1:-$top/out/package}"
+cd "${1:-$top/out/package}"
+for made in "$work"/made/*; do
+    cp "$made" .
+    sha256sum "${made##*/}"
+done
