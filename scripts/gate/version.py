@@ -5,7 +5,7 @@
 
 These have to name it: include/lex.pc, docs/lex.1, docs/lexlook.1, CHANGELOG.md (its first release), and Cargo.toml and Cargo.lock of
 bindings/rust. These may: LEX_VERSION of include/lex.h, and constants in crates/ and bindings/rust/src whose names have the word VERSION
-and whose values are texts."""
+and whose values are texts. So may LEX_VERSION_NUMBER, and a constant VERSION of liblex, as numbers: 10203 is version 1.2.3."""
 import re
 import sys
 from pathlib import Path
@@ -24,7 +24,11 @@ NEEDED = {
 # Where it may stand, any number of times.
 DEFINED = re.compile(r'^#define LEX_VERSION\s+"([^"]*)"', re.M)
 CONSTANT = re.compile(r'\b(?:const|static) \w*VERSION\w*\s*:[^="\n]*=\s*b?"([^"\n]*)"')
-SOURCES = {"include/lex.h": DEFINED, "crates/*/src/**/*.rt": CONSTANT, "bindings/rust/src/**/*.rs": CONSTANT}
+TEXTS = {"include/lex.h": DEFINED, "crates/*/src/**/*.rt": CONSTANT, "bindings/rust/src/**/*.rs": CONSTANT}
+# The same as a number.
+DEFINED_NUMBER = re.compile(r"^#define LEX_VERSION_NUMBER\s+(\d+)", re.M)
+CONSTANT_NUMBER = re.compile(r"\b(?:const|static) VERSION\s*:\s*u32\s*=\s*([\d_]+)")
+NUMBERS = {"include/lex.h": DEFINED_NUMBER, "crates/liblex*/src/**/*.rt": CONSTANT_NUMBER}
 
 
 def needed():
@@ -35,14 +39,23 @@ def needed():
         yield name, found[1] if found else None
 
 
-def allowed():
-    """Each place that names the version too. Of a text with other words the number counts."""
-    for files, pattern in SOURCES.items():
+def found_in(sources):
+    """What the patterns find in the files, with the file and the line."""
+    for files, pattern in sources.items():
         for path in sorted(ROOT.glob(files)):
             text = path.read_text(encoding="utf-8")
             for found in pattern.finditer(text):
-                number = NUMBER.search(found[1])
-                yield f"{path.relative_to(ROOT)}:{text.count(chr(10), 0, found.start()) + 1}", number[0] if number else found[1]
+                yield f"{path.relative_to(ROOT)}:{text.count(chr(10), 0, found.start()) + 1}", found[1]
+
+
+def allowed():
+    """Each place that names the version too. Of a text with other words the number counts."""
+    for place, text in found_in(TEXTS):
+        number = NUMBER.search(text)
+        yield place, number[0] if number else text
+    for place, digits in found_in(NUMBERS):
+        number = int(digits.replace("_", ""))
+        yield place, f"{number // 10_000}.{number // 100 % 100}.{number % 100}"
 
 
 def main():
