@@ -3,9 +3,9 @@
 #
 #     scripts/campaigns/install.sh
 #
-# The programs and the library have to be built: scripts/install.sh says how, where they are not. A line is printed for each try, with what went
-# wrong in it; the status is 1 if one failed. It needs what scripts/install.sh and scripts/package.sh need, man, pkg-config and lintian. What
-# tries fish and zsh is left out where these are not there.
+# The programs and the library have to be built: scripts/install.sh says how, where they are not. A line is printed for each try, with what
+# went wrong in it; the status is 1 if one failed. It needs what scripts/install.sh and scripts/package.sh need, and man, pkg-config and
+# lintian. What tries fish and zsh is left out where these are not there.
 set -euo pipefail
 export LC_ALL=C
 unset DESTDIR
@@ -292,7 +292,7 @@ from_c() {
     alone --prefix "$PWD/new"
     awk '/^```/ { if (inside) exit; inside = 1; next } inside' "$top/docs/C.md" > program.c
     export PKG_CONFIG_PATH=$PWD/new/lib/pkgconfig
-    [[ $(pkg-config --modversion lex) == "$(cat "$top/VERSION")" ]] || wrong "pkg-config has another version"
+    pkg-config --modversion lex | cmp - "$top/VERSION"
     read -ra flags <<< "$(pkg-config --cflags --libs lex)"
     LD_LIBRARY_PATH=$PWD/new/lib build_and_run "${flags[@]}"
     LD_LIBRARY_PATH=$PWD/new/lib ldd program | grep -q "liblex.so.1 => $PWD/new/lib/liblex.so.1 "
@@ -314,7 +314,8 @@ pages() {
 # What bash completes the words $2 .. of the program $1 to, by its function.
 completed() {
     bash -c 'source "$1"; shift; COMP_WORDS=("$@"); COMP_CWORD=$(($# - 1)); COMPREPLY=()
-        "_$1" "$1" "${COMP_WORDS[COMP_CWORD]}" "${COMP_WORDS[COMP_CWORD - 1]}"; echo "${COMPREPLY[*]}"' - "$top/share/completions/$1.bash" "$@"
+        "_$1" "$1" "${COMP_WORDS[COMP_CWORD]}" "${COMP_WORDS[COMP_CWORD - 1]}"; echo "${COMPREPLY[*]}"' \
+        - "$top/share/completions/$1.bash" "$@"
 }
 
 by_bash() {
@@ -329,12 +330,18 @@ by_bash() {
     [[ $(bash -c 'source "$1"; complete -p lexlook' - new/share/bash-completion/completions/lexlook) == *"-F _lexlook lexlook" ]]
 }
 
+# What fish completes the line $2 to, by the installed completions of $1.
+fish_completed() {
+    fish -N -c "source new/share/fish/vendor_completions.d/$1.fish; complete -C '$2'" | cut -f 1 | sort | paste -sd ' '
+}
+
 by_fish() {
     alone --prefix "$PWD/new"
-    [[ $(fish -N -c 'source new/share/fish/vendor_completions.d/lexlook.fish; complete -C "lexlook "' | cut -f 1 | paste -sd ' ') == \
-        "lines picture same trace words" ]]
-    [[ $(fish -N -c 'source new/share/fish/vendor_completions.d/lex.fish; complete -C "lex --scan-spec a.l -"' | cut -f 1 | sort | paste -sd ' ') == \
-        "-X -i -w" ]]
+    [[ $(fish_completed lexlook 'lexlook ') == "lines picture same trace words" ]]
+    [[ $(fish_completed lexlook 'lexlook same -') == "-X -i" ]]
+    [[ $(fish_completed lex 'lex --') == "--scan-spec --scan-table" ]]
+    [[ $(fish_completed lex 'lex --scan-spec a.l -') == "-X -i -w" ]]
+    [[ -z $(fish_completed lex 'lex --scan-table a.tab -') ]]
 }
 
 by_zsh() {
@@ -343,7 +350,7 @@ by_zsh() {
 
 # The words of the synopses and of tagged options of a page: those that begin with a hyphen, and subcommands.
 words_of_page() {
-    sed -n '/^\.SH SYNOPSIS/,/^\.SH DESCRIPTION/p' "$1" | tr -d '\\' | grep -oE '(^| |\[)--?[A-Za-z][a-z-]*' | tr -d ' [' | sort -u
+    sed -n '/^\.SH SYNOPSIS/,/^\.SH DESCRIPTION/p' "$1" | tr -d "\\\\" | grep -oE '(^| |\[)--?[A-Za-z][a-z-]*' | tr -d ' [' | sort -u
     sed -nE 's/^\.B lexlook ([a-z]+)$/\1/p' "$1"
 }
 
@@ -384,25 +391,27 @@ dpkg_there() {
     dpkg --root="$PWD/root" --force-not-root --force-script-chrootless --force-depends --log=/dev/null "$@"
 }
 
-# The programs of the root run in it, with the libraries that they name, where this is root's process, and else from outside.
+# Runs the program $1 of the root in it, with the libraries that it names, where this is root's process, and else from outside.
 run_there() {
+    local program=$1
+    shift
     if (($(id -u) == 0)); then
-        ldd "root/usr/bin/$1" | grep -o '/[^ ]*' | while read -r library; do cp -Ln --parents "$library" root; done || true
-        chroot root "/usr/bin/$@"
+        ldd "root/usr/bin/$program" | grep -o '/[^ ]*' | while read -r library; do cp -Ln --parents "$library" root; done || true
+        chroot root "/usr/bin/$program" "$@"
     else
-        "root/usr/bin/$@"
+        "root/usr/bin/$program" "$@"
     fi
 }
 
 for_debian() {
-    local example=root/usr/share/doc/lexp/examples
+    local examples=root/usr/share/doc/lexp/examples
     "$top/scripts/package.sh" one > /dev/null
     dpkg_there -i one/*.deb
     dpkg_there --status lexp | grep -qx 'Status: install ok installed'
     (cd root && md5sum --quiet -c var/lib/dpkg/info/lexp.md5sums)
-    run_there lexp --scan-spec /usr/share/doc/lexp/examples/keywords.l < $example/keywords.input | cmp - $example/keywords.output
+    run_there lexp --scan-spec /usr/share/doc/lexp/examples/keywords.l < "$examples/keywords.input" | cmp - "$examples/keywords.output"
     run_there lexlook --help | grep -q picture
-    [[ $(PKG_CONFIG_SYSROOT_DIR=$PWD/root PKG_CONFIG_PATH=$(echo root/usr/lib/*/pkgconfig) pkg-config --modversion lex) == "$(cat "$top/VERSION")" ]]
+    PKG_CONFIG_PATH=$(echo root/usr/lib/*/pkgconfig) pkg-config --modversion lex | cmp - "$top/VERSION"
     [[ ! -e root/usr/bin/lex ]]
     dpkg_there --purge lexp
     find root/usr | none lex
