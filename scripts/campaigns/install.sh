@@ -414,7 +414,7 @@ for_debian() {
     PKG_CONFIG_PATH=$(echo root/usr/lib/*/pkgconfig) pkg-config --modversion lex | cmp - "$top/VERSION"
     [[ ! -e root/usr/bin/lex ]]
     dpkg_there --purge lexp
-    find root/usr | none lex
+    find root -name '*lex*' | none lex
 }
 
 unpacked() {
