@@ -75,8 +75,10 @@ put_archive() {
     if [[ -e $archive && ! $part -nt $archive ]]; then
         install -m 644 "$archive" "$1"
     else
-        (cd "$(dirname "$1")" && printf 'create liblex.a\naddlib %s\naddlib %s\nsave\nend\n' "$part" "$(kit)/c/liblibc_c.a" | ar -M)
-        chmod 644 "$1"
+        cp "$part" "$work/part.a"
+        cp "$(kit)/c/liblibc_c.a" "$work/memory.a"
+        (cd "$work" && printf '%s\n' 'create liblex.a' 'addlib part.a' 'addlib memory.a' save end | ar -M)
+        install -m 644 "$work/liblex.a" "$1"
     fi
 }
 
@@ -327,7 +329,7 @@ case $prefix in
 esac
 [[ -z $name || ($name =~ ^[A-Za-z0-9][A-Za-z0-9._+-]*$ && $name != lexlook) ]] || refuse "the program cannot be called $name"
 while [[ $prefix == */ ]]; do prefix=${prefix%/}; done
-root=${DESTDIR:-}$prefix
+root=${DESTDIR:+$(realpath -m "$DESTDIR")}$prefix
 compiler=${CC:-cc} archive=$top/out/liblex/liblex.a part=$top/crates/liblex/out/libliblex.a
 work=$(mktemp -d)
 trap 'rm -rf "$work"' EXIT

@@ -157,7 +157,8 @@ named_lex() {
 # A lex that was in the prefix before is kept, and replaced where --name says so.
 foreign_lex() {
     mkdir -p new/bin
-    cp "$work/flex/lex" new/bin/lex
+    cp "$work/flex/lex" new/bin/flex
+    ln -s flex new/bin/lex
     alone --prefix "$PWD/new" 2> said
     grep -qF "there is another lex, $PWD/new/bin/lex" said
     [[ -x new/bin/lexp ]]
@@ -166,6 +167,7 @@ foreign_lex() {
     cmp new/bin/lex "$work/flex/lex"
     alone --prefix "$PWD/new" --name lex
     cmp new/bin/lex "$top/crates/lex/out/lex"
+    cmp new/bin/flex "$work/flex/lex"
 }
 
 # An installation again, under the same name and under another one.
@@ -182,8 +184,10 @@ again() {
     [[ ! -e new ]] || { find new; wrong "something is left"; }
 }
 
+# A folder that DESTDIR names by a path from here, and that has a blank in its name.
 staged() {
-    DESTDIR=$PWD/stage alone --prefix /usr
+    DESTDIR="a stage" alone --prefix /usr
+    mv "a stage" stage
     grep -qx prefix=/usr stage/usr/lib/pkgconfig/lex.pc
     (cd stage/usr && sha256sum --quiet -c share/lex/installed-files)
     DESTDIR=$PWD/stage alone --prefix /usr --uninstall
