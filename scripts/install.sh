@@ -306,7 +306,7 @@ remove_earlier() {
 
 # Whether programs look for shared libraries in DIR/lib, by a table that may be written.
 is_loaded_from() {
-    [[ -z ${DESTDIR:-} && $(id -u) == 0 ]] && ldconfig -NXv 2> /dev/null | grep -F "$prefix/lib: " > /dev/null
+    [[ -z ${DESTDIR:-} && $(id -u) == 0 && -n $(ldconfig -NXv 2> /dev/null | awk -v folder="$prefix/lib:" '$1 == folder') ]]
 }
 
 # ---- the command line

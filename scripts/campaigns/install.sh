@@ -44,6 +44,11 @@ none() {
     if grep -E -- "$1"; then wrong "that is there"; fi
 }
 
+# Fails where no line that is read has the pattern $1. All is read, so that what writes it is not ended early.
+some() {
+    [[ -n $(grep -E -- "$1") ]] || wrong "no line has $1"
+}
+
 # ---- helpers of tries
 
 # Folders with all programs of the path but lex and lexp: then no other lex is there.
@@ -108,7 +113,7 @@ run_programs() {
     "$1/bin/$2" -o keys.tab "$top/examples/keys.l"
     "$1/bin/$2" --scan-table keys.tab < "$top/examples/keys.input" | cmp - "$top/examples/keys.output"
     "$1/bin/lexlook" same "$top/examples/keys.l" keys.tab
-    "$1/bin/lexlook" --help | grep -q picture
+    "$1/bin/lexlook" --help | some picture
 }
 
 # ---- installing
@@ -299,7 +304,7 @@ from_c() {
     pkg-config --modversion lex | cmp - "$top/VERSION"
     read -ra flags <<< "$(pkg-config --cflags --libs lex)"
     LD_LIBRARY_PATH=$PWD/new/lib build_and_run "${flags[@]}"
-    LD_LIBRARY_PATH=$PWD/new/lib ldd program | grep -q "liblex.so.1 => $PWD/new/lib/liblex.so.1 "
+    LD_LIBRARY_PATH=$PWD/new/lib ldd program | some "liblex.so.1 => $PWD/new/lib/liblex.so.1 "
     build_and_run -Wl,-Bstatic "${flags[@]}" -Wl,-Bdynamic
     ldd program | none liblex
     nm -D --defined-only new/lib/liblex.so | sed -n 's/.* T \(.*\)@@LEX_1$/\1/p' | sort > exported
@@ -411,10 +416,10 @@ for_debian() {
     local examples=root/usr/share/doc/lexp/examples
     "$top/scripts/package.sh" one > /dev/null
     dpkg_there -i one/*.deb
-    dpkg_there --status lexp | grep -qx 'Status: install ok installed'
+    dpkg_there --status lexp | some '^Status: install ok installed$'
     (cd root && md5sum --quiet -c var/lib/dpkg/info/lexp.md5sums)
     run_there lexp --scan-spec /usr/share/doc/lexp/examples/keywords.l < "$examples/keywords.input" | cmp - "$examples/keywords.output"
-    run_there lexlook --help | grep -q picture
+    run_there lexlook --help | some picture
     PKG_CONFIG_PATH=$(echo root/usr/lib/*/pkgconfig) pkg-config --modversion lex | cmp - "$top/VERSION"
     [[ ! -e root/usr/bin/lex ]]
     dpkg_there --purge lexp
@@ -426,7 +431,7 @@ unpacked() {
     tar -xzf one/*.tar.gz
     cd lex-*
     scan_examples bin/lexp
-    bin/lexlook --help | grep -q picture
+    bin/lexlook --help | some picture
     awk '/^```/ { if (inside) exit; inside = 1; next } inside' share/doc/lex/C.md > program.c
     read -ra flags <<< "$(PKG_CONFIG_PATH=$PWD/lib/pkgconfig pkg-config --cflags --libs lex)"
     LD_LIBRARY_PATH=$PWD/lib build_and_run "${flags[@]}"
