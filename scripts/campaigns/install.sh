@@ -46,7 +46,9 @@ none() {
 
 # Fails where no line that is read has the pattern $1. All is read, so that what writes it is not ended early.
 some() {
-    [[ -n $(grep -E -- "$1") ]] || wrong "no line has $1"
+    local found
+    found=$(grep -E -- "$1") || wrong "no line has $1"
+    echo "$found"
 }
 
 # ---- helpers of tries
