@@ -392,7 +392,7 @@ same_bytes() {
 
 by_lintian() {
     "$top/scripts/package.sh" one > /dev/null
-    lintian --allow-root --fail-on error,warning one/*.deb
+    lintian --allow-root --fail-on error one/*.deb
 }
 
 # dpkg with an administration of its own in the folder root.
