@@ -440,6 +440,10 @@ unpacked() {
 }
 
 make_path
+if ! alone --prefix "$work/first" 2> "$work/said"; then
+    cat "$work/said" >&2
+    exit 1
+fi
 try "a new prefix" fresh
 try "another lex on the path" beside_another
 try "another lex on the path, and --name lex" named_lex
