@@ -1,0 +1,12 @@
+# Completion of lexlook for bash: subcommands, their flags, and files.
+
+_lexlook() {
+    COMPREPLY=()
+    if ((COMP_CWORD == 1)); then
+        mapfile -t COMPREPLY < <(compgen -W 'picture same lines words trace --help --version' -- "$2")
+    elif [[ $2 == -* ]]; then
+        mapfile -t COMPREPLY < <(compgen -W '-i -X' -- "$2")
+    fi
+}
+
+complete -o default -F _lexlook lexlook

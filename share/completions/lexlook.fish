@@ -1,0 +1,13 @@
+# Completion of lexlook for fish: subcommands, their flags, and files.
+
+set -l first __fish_is_first_token
+
+complete -c lexlook -n $first -f -a picture -d 'Write the minimal DFA as a picture for Graphviz'
+complete -c lexlook -n $first -f -a same -d 'Say whether two files do the same on every input'
+complete -c lexlook -n $first -f -a lines -d 'Say whether an input may be cut after any newline'
+complete -c lexlook -n $first -f -a words -d 'Write for each rule the shortest text that it takes'
+complete -c lexlook -n $first -f -a trace -d 'Scan standard input, and write a line for each match'
+complete -c lexlook -n $first -f -l help -d 'Write the subcommands'
+complete -c lexlook -n $first -f -l version -d 'Write the version'
+complete -c lexlook -n "not $first" -s i -d 'Letters in patterns stand for both cases'
+complete -c lexlook -n "not $first" -s X -d 'An interval applies to the whole series to its left'
