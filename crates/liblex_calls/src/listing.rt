@@ -71,7 +71,7 @@ pub fn tokens_into(
     let ended = tokens(alloc, &flat, input, &mut list);
     let shown = match shown_of(alloc, &list) {
         Err(_) => return Answer::OutOfMemory,
-        Ok(shown) => text_token,
+        Ok(shown) => shown,
     };
     match ended {
         Ok(end) => {
