@@ -2,14 +2,15 @@
 # Scans 1 GB of lines (or BYTES) in pieces, by 1, 2 and 4 processes at a time: by scripts/pieces.sh, and by GNU parallel as docs/MANUAL.md
 # has it. Beside them one scan of the whole, `wc -l` and `cat` of the same file. Each runs RUNS times in turn (3 without it). A row tells
 # the median of the seconds by the clock, the least, and the seconds of the processor of the median's run. What is written is compared
-# with what the scan of the whole writes.
+# with what the scan of the whole writes. With LIBLEX, the path of liblex.a, there are rows of threads.c too: one process with so many
+# threads, over the mapped file.
 #
-#     bench/pieces/run.sh LEX LEXLOOK [RUNS [BYTES]]
+#     bench/pieces/run.sh LEX LEXLOOK [RUNS [BYTES [LIBLEX]]]
 set -euo pipefail
 here=$(cd "$(dirname "$0")" && pwd)
 export LEX LEXLOOK
 LEX=$(realpath "$1") LEXLOOK=$(realpath "$2")
-runs=${3:-3} bytes=${4:-1000000000}
+runs=${3:-3} bytes=${4:-1000000000} library=${5:+$(realpath "${5-}")}
 folder=$(mktemp -d)
 trap 'rm -r "$folder"' EXIT
 cd "$folder"
@@ -30,9 +31,13 @@ ways=(
     "wc -l|wc -l < big.txt > output"
     "one scan|\"\$LEX\" --scan-table log.tab < big.txt > output"
 )
+if [[ -n $library ]]; then
+    cc -O2 -pthread -I"$here/../../include" "$here/threads.c" "$library" -o threads
+fi
 for jobs in 1 2 4; do
     ways+=("pieces.sh, $jobs|\"$here/../../scripts/pieces.sh\" log.tab big.txt output $jobs")
     ways+=("parallel, $jobs|parallel --will-cite -j $jobs --pipepart -a big.txt --block 64M --keep-order \"\$LEX\" --scan-table log.tab > output")
+    [[ -z $library ]] || ways+=("threads, $jobs|./threads log.tab big.txt $jobs > output")
 done
 
 TIMEFORMAT='%R %U %S'

@@ -1,11 +1,11 @@
 //! One scan, by a specification's text or a table file.
-ghost use Rattle.std.specs.Prelude.{◌≡◌, ℕ, ◌+◌, ◌-◌, ◌^◌, ◌<◌, ◌≤◌, List, Ok, nat_lt, IfErr, IsErrOf};
+ghost use Rattle.std.specs.Prelude.{ℕ, ◌-◌, ◌≤◌, List, nat_lt, IfErr};
 ghost use Rattle.lexspec.specs.Views.{spec_of};
-ghost use Rattle.lexscan_window.specs.declared.error.RunError.TheVariants.{Failed};
+ghost use Rattle.lexscan.specs.Runs.{FewCounts};
 ghost use Rattle.lexkit.specs.Headline.{Headline, IsWithin, ScansBy, TableHeadline, TellsFault};
 ghost use Rattle.lexkit.specs.Generated.{HasTables};
 ghost use Rattle.lexkit.specs.declared.options.Options.{Options as Asked};
-ghost use Rattle.lexkit.specs.ScanCounts.{HandedOnAtEnd, read_faults, write_faults};
+ghost use Rattle.lexkit.specs.ScanCounts.{ScanCounts};
 ghost use Rattle.lex_semantics.specs.Limits.{max_positions, max_states};
 ghost use Rattle.lex_semantics.specs.Sound.{IsSound};
 ghost use Rattle.lex_semantics.specs.Spec.{Spec as Meant};
@@ -38,18 +38,11 @@ pub fn scan_spec<S: Source, K: Sink>(
 ) -> Result<u8, ScanError>
     requires few_positions { options.limits.positions ≤ max_positions }
     requires few_states { options.limits.states ≤ max_states }
-    requires few_ends { S.ends source.old < 2 ^ 64 - 1 }
-    requires few_read_faults { S.failures source.old < 2 ^ 64 - 1 }
-    requires few_write_faults { K.failures sink.old < 2 ^ 64 - 1 }
+    requires few { FewCounts S.ends S.failures K.failures source.old sink.old }
     ensures told { Headline S.gave K.wrote source.old source.new sink.old sink.new
         (nat_lt (S.ends source.old) (S.ends source.new)) (S.failures source.new - S.failures source.old)
         options text.now result }
-    ensures read_faults { S.failures source.new ≡ S.failures source.old + read_faults result }
-    ensures write_faults { K.failures sink.new ≡ K.failures sink.old + write_faults result }
-    ensures ends_stay { S.ends source.old ≤ S.ends source.new }
-    ensures one_end { S.ends source.new ≤ S.ends source.old + 1 }
-    ensures not_failed { IsErrOf result (ScanError.Run Failed) → ⊥ }
-    ensures handed_on { HandedOnAtEnd (K.flushed sink.new) result }
+    ensures counts { ScanCounts S.ends S.failures K.failures K.flushed source.old source.new sink.old sink.new result }
 {
     let spec = match read_text(alloc, text, options) {
         Err(error) => return Err(ScanError::Generate(error)),
@@ -69,18 +62,11 @@ pub fn scan_by<S: Source, K: Sink>(
 ) -> Result<u8, ScanError>
     requires few_positions { limits.positions ≤ max_positions }
     requires few_states { limits.states ≤ max_states }
-    requires few_ends { S.ends source.old < 2 ^ 64 - 1 }
-    requires few_read_faults { S.failures source.old < 2 ^ 64 - 1 }
-    requires few_write_faults { K.failures sink.old < 2 ^ 64 - 1 }
+    requires few { FewCounts S.ends S.failures K.failures source.old sink.old }
     ensures told { ScansBy S.gave K.wrote source.old source.new sink.old sink.new
         (nat_lt (S.ends source.old) (S.ends source.new)) (S.failures source.new - S.failures source.old)
         limits (spec_of spec.now) result }
-    ensures read_faults { S.failures source.new ≡ S.failures source.old + read_faults result }
-    ensures write_faults { K.failures sink.new ≡ K.failures sink.old + write_faults result }
-    ensures ends_stay { S.ends source.old ≤ S.ends source.new }
-    ensures one_end { S.ends source.new ≤ S.ends source.old + 1 }
-    ensures not_failed { IsErrOf result (ScanError.Run Failed) → ⊥ }
-    ensures handed_on { HandedOnAtEnd (K.flushed sink.new) result }
+    ensures counts { ScanCounts S.ends S.failures K.failures K.flushed source.old source.new sink.old sink.new result }
 {
     let least = match least_automaton(alloc, spec, limits) {
         Err(error) => return Err(ScanError::Generate(error)),
@@ -104,19 +90,12 @@ pub fn scan_made<S: Source, K: Sink>(
     source: &mut S,
     sink: &mut K,
 ) -> Result<u8, ScanError>
-    requires few_ends { S.ends source.old < 2 ^ 64 - 1 }
-    requires few_read_faults { S.failures source.old < 2 ^ 64 - 1 }
-    requires few_write_faults { K.failures sink.old < 2 ^ 64 - 1 }
+    requires few { FewCounts S.ends S.failures K.failures source.old sink.old }
     ensures told { (options : Asked) (text : List ℕ) → HasTables options text tables
         → Headline S.gave K.wrote source.old source.new sink.old sink.new
         (nat_lt (S.ends source.old) (S.ends source.new)) (S.failures source.new - S.failures source.old)
         options text result }
-    ensures read_faults { S.failures source.new ≡ S.failures source.old + read_faults result }
-    ensures write_faults { K.failures sink.new ≡ K.failures sink.old + write_faults result }
-    ensures ends_stay { S.ends source.old ≤ S.ends source.new }
-    ensures one_end { S.ends source.new ≤ S.ends source.old + 1 }
-    ensures not_failed { IsErrOf result (ScanError.Run Failed) → ⊥ }
-    ensures handed_on { HandedOnAtEnd (K.flushed sink.new) result }
+    ensures counts { ScanCounts S.ends S.failures K.failures K.flushed source.old source.new sink.old sink.new result }
 {
     let flat = match Flat::new(alloc, tables) {
         Err(_) => return Err(ScanError::Generate(GenError::OutOfMemory)),
@@ -137,19 +116,12 @@ pub fn scan_table<S: Source, K: Sink>(
     source: &mut S,
     sink: &mut K,
 ) -> Result<u8, ScanError>
-    requires few_ends { S.ends source.old < 2 ^ 64 - 1 }
-    requires few_read_faults { S.failures source.old < 2 ^ 64 - 1 }
-    requires few_write_faults { K.failures sink.old < 2 ^ 64 - 1 }
+    requires few { FewCounts S.ends S.failures K.failures source.old sink.old }
     ensures told { TableHeadline S.gave K.wrote source.old source.new sink.old sink.new
         (nat_lt (S.ends source.old) (S.ends source.new)) (S.failures source.new - S.failures source.old)
         bytes.now result }
     ensures fault { IfErr result (TellsFault bytes.now) }
-    ensures read_faults { S.failures source.new ≡ S.failures source.old + read_faults result }
-    ensures write_faults { K.failures sink.new ≡ K.failures sink.old + write_faults result }
-    ensures ends_stay { S.ends source.old ≤ S.ends source.new }
-    ensures one_end { S.ends source.new ≤ S.ends source.old + 1 }
-    ensures not_failed { IsErrOf result (ScanError.Run Failed) → ⊥ }
-    ensures handed_on { HandedOnAtEnd (K.flushed sink.new) result }
+    ensures counts { ScanCounts S.ends S.failures K.failures K.flushed source.old source.new sink.old sink.new result }
 {
     let flat = match read_flat(alloc, bytes) {
         Err(error) => return Err(ScanError::Table(error)),

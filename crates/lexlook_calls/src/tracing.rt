@@ -1,9 +1,9 @@
 //! The lines of the matches of a scan.
-ghost use Rattle.std.specs.Prelude.{◌≡◌, ◌+◌, ◌-◌, ◌^◌, ◌<◌, ◌≤◌, nat_lt, IsErrOf};
+ghost use Rattle.std.specs.Prelude.{◌-◌, ◌≤◌, nat_lt};
 ghost use Rattle.lex_semantics.specs.Limits.{max_positions, max_states};
-ghost use Rattle.lexkit.specs.ScanCounts.{HandedOnAtEnd, read_faults, write_faults};
+ghost use Rattle.lexkit.specs.ScanCounts.{ScanCounts};
 ghost use Rattle.lexlook_calls.specs.Tracing.{Traces};
-ghost use Rattle.lexscan_window.specs.declared.error.RunError.TheVariants.{Failed};
+ghost use Rattle.lexscan.specs.Runs.{FewCounts};
 
 use lexkit::{GenError, Options, ScanError, Sink, Source, read_text, scan_by};
 use lexlook_specs::traced;
@@ -23,18 +23,11 @@ pub fn trace<S: Source, K: Sink>(
 ) -> Result<u8, ScanError>
     requires few_positions { options.limits.positions ≤ max_positions }
     requires few_states { options.limits.states ≤ max_states }
-    requires few_ends { S.ends source.old < 2 ^ 64 - 1 }
-    requires few_read_faults { S.failures source.old < 2 ^ 64 - 1 }
-    requires few_write_faults { K.failures sink.old < 2 ^ 64 - 1 }
+    requires few { FewCounts S.ends S.failures K.failures source.old sink.old }
     ensures told { Traces S.gave K.wrote source.old source.new sink.old sink.new
         (nat_lt (S.ends source.old) (S.ends source.new)) (S.failures source.new - S.failures source.old)
         options text.now result }
-    ensures read_faults { S.failures source.new ≡ S.failures source.old + read_faults result }
-    ensures write_faults { K.failures sink.new ≡ K.failures sink.old + write_faults result }
-    ensures ends_stay { S.ends source.old ≤ S.ends source.new }
-    ensures one_end { S.ends source.new ≤ S.ends source.old + 1 }
-    ensures not_failed { IsErrOf result (ScanError.Run Failed) → ⊥ }
-    ensures handed_on { HandedOnAtEnd (K.flushed sink.new) result }
+    ensures counts { ScanCounts S.ends S.failures K.failures K.flushed source.old source.new sink.old sink.new result }
 {
     let spec = match read_text(alloc, text, options) {
         Err(error) => return Err(ScanError::Generate(error)),

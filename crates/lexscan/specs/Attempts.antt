@@ -1,5 +1,5 @@
 -- Turns over the bytes that are there: what each is asked and does, over the scan before and after.
-use Rattle.std.specs.Prelude.{◌≡◌, ℕ, ◌+◌, ◌-◌, ◌^◌, ◌<◌, true, false, List, Option, Some, None, Result, Ok, Err, ⊤, OnErr, IsErrOf}
+use Rattle.std.specs.Prelude.{◌≡◌, ℕ, ◌+◌, true, false, List, Option, Some, None, Result, Ok, Err, ⊤, OnErr, IsErrOf}
 use Rattle.lex_io.specs.declared.source.Source as Source
 use Rattle.lex_io.specs.declared.sink.Sink as Sink
 use Rattle.lex_semantics.specs.Machine.{Machine}
@@ -20,12 +20,6 @@ pub record IsPaused (M : Machine) (s : Scan) : Type 0 where
   pub reading : s.state.reading.at_end ≡ false
   pub kept : ScanInvariant M s
   pub reachable : IsReachable M s.state
-
--- The counts of both ends have room for one more.
-pub record FewCounts {S K : Type 0} (ends_of reads_of : S → ℕ) (writes_of : K → ℕ) (s : S) (t : K) : Type 0 where
-  pub ends : ends_of s < 2 ^ 64 - 1
-  pub reads : reads_of s < 2 ^ 64 - 1
-  pub writes : writes_of t < 2 ^ 64 - 1
 
 module _ {S K : Type 0} {of_source : Source.Ghosts S} {of_sink : Sink.Ghosts K} where
   -- After a turn that was made the next one may be, and after a refusal the scan has failed.

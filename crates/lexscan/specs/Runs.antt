@@ -1,5 +1,5 @@
 -- What a whole run leaves.
-use Rattle.std.specs.Prelude.{◌≡◌, ℕ, ◌+◌, ◌-◌, ◌≤◌, Bool, false, List, ◌++◌, length, Result, Ok, Err, IsErrOf}
+use Rattle.std.specs.Prelude.{◌≡◌, ℕ, ◌+◌, ◌-◌, ◌^◌, ◌<◌, ◌≤◌, Bool, false, List, ◌++◌, length, Result, Ok, Err, IsErrOf}
 use Rattle.lex_semantics.specs.Rules.{Rules}
 use Rattle.lex_semantics.specs.Acting.{Status, StackFault}
 use Rattle.lex_semantics.specs.Machine.{Machine}
@@ -36,6 +36,12 @@ Ran R given out at_end max_reads (Err e) = RunStopped R given out at_end max_rea
 -- The bytes given, the answers of the end and the failed reads are together no more than this.
 abbrev pub FewReads : {S : Type 0} → (S → ℕ) → (S → ℕ) → S → S → List ℕ → ℕ → Type 0
 FewReads ends_of reads_of s s' given max_reads = length given + (ends_of s' - ends_of s) + (reads_of s' - reads_of s) ≤ max_reads
+
+-- The counts of both ends have room for one more.
+pub record FewCounts {S K : Type 0} (ends_of reads_of : S → ℕ) (writes_of : K → ℕ) (s : S) (t : K) : Type 0 where
+  pub ends : ends_of s < 2 ^ 64 - 1
+  pub reads : reads_of s < 2 ^ 64 - 1
+  pub writes : writes_of t < 2 ^ 64 - 1
 
 -- What a run adds to the counts of the two ends.
 pub record RunCounts {S K : Type 0} (ends_of reads_of : S → ℕ) (writes_of : K → ℕ) (s s' : S) (t t' : K) (result : Result ℕ RunError) : Type 0 where

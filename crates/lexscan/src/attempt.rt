@@ -4,7 +4,8 @@ ghost use Rattle.lexscan_window.specs.Intakes.{source_of, sink_of};
 ghost use Rattle.lexscan.specs.Ties.{HandedOn};
 ghost use Rattle.lexscan.specs.Scans.{IsGoing, MayTurn, SameEnds};
 ghost use Rattle.lexscan.specs.Pushes.{IsReachable, WentBack, TurnsOver};
-ghost use Rattle.lexscan.specs.Attempts.{Attempted, IsPaused, FewCounts, TurnsCount, TurnsLeft};
+ghost use Rattle.lexscan.specs.Attempts.{Attempted, IsPaused, TurnsCount, TurnsLeft};
+ghost use Rattle.lexscan.specs.Runs.{FewCounts};
 
 use crate::further::MOST_SHOWN;
 use crate::scan::{Ends, Scan};

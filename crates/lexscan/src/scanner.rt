@@ -9,6 +9,7 @@ ghost use Rattle.lex_semantics.specs.MachineLaws.{SomeReject};
 ghost use Rattle.lex_semantics.specs.ByteSets.{bit_of};
 ghost use Rattle.lexscan_window.specs.Reads.{read_fault_count, write_fault_count, end_step};
 ghost use Rattle.lexscan_window.specs.Memos.{AreTrue, AreTrue-prop};
+ghost use Rattle.lexscan.specs.Runs.{FewCounts};
 ghost use Rattle.lexscan.specs.Stacks.{AllBelow-prop};
 ghost use Rattle.lexscan.specs.Ties.{HandedOn};
 ghost use Rattle.lexscan.specs.Matches.{match_in, text_of};
@@ -52,9 +53,7 @@ impl<'a, M: Machine, S: Source, K: Sink> Scanner<'a, M, S, K> {
         sink: &'a mut K,
         max_reads: u64,
     ) -> Scanner<'a, M, S, K>
-        requires few_ends { S.ends source.old < 2 ^ 64 - 1 }
-        requires few_reads { S.failures source.old < 2 ^ 64 - 1 }
-        requires few_writes { K.failures sink.old < 2 ^ 64 - 1 }
+        requires few { FewCounts S.ends S.failures K.failures source.old sink.old }
         ensures same_source { scanner_source_name result ≡ source.entry.ghost_name }
         ensures same_sink { scanner_sink_name result ≡ sink.entry.ghost_name }
         ensures source { scanner_source result ≡ source.old }

@@ -1,10 +1,9 @@
 //! A whole run.
-ghost use Rattle.std.specs.Prelude.{◌≡◌, ℕ, ◌+◌, ◌-◌, ◌^◌, ◌<◌, ◌≤◌, List, IsErrOf, nat_lt};
+ghost use Rattle.std.specs.Prelude.{ℕ, List, nat_lt};
 ghost use Rattle.lex_semantics.specs.Machine.{rules_of_machine};
 ghost use Rattle.lex_semantics.specs.MachineLaws.{NoReject};
-ghost use Rattle.lexscan_window.specs.Reads.{read_fault_count, write_fault_count};
 ghost use Rattle.lexscan.specs.Ties.{RunHandedOn};
-ghost use Rattle.lexscan.specs.Runs.{Ran, FewReads};
+ghost use Rattle.lexscan.specs.Runs.{Ran, FewReads, FewCounts, RunCounts};
 ghost use Rattle.lexscan.specs.Scans.{IsFresh, RunMade};
 
 use crate::find::has_backlog;
@@ -24,18 +23,12 @@ pub fn run<M: Machine, S: Source, K: Sink>(
     sink: &mut K,
     max_reads: u64,
 ) -> Result<u8, RunError>
-    requires few_ends { S.ends source.old < 2 ^ 64 - 1 }
-    requires few_reads { S.failures source.old < 2 ^ 64 - 1 }
-    requires few_writes { K.failures sink.old < 2 ^ 64 - 1 }
+    requires few { FewCounts S.ends S.failures K.failures source.old sink.old }
     ensures ran { (given : List ℕ) × (out : List ℕ) × S.gave source.old given source.new × K.wrote sink.old out sink.new
         × Ran (rules_of_machine (M.machine machine.now)) given out
         (nat_lt (S.ends source.old) (S.ends source.new)) max_reads result
         × FewReads S.ends S.failures source.old source.new given max_reads }
-    ensures ends_stay { S.ends source.old ≤ S.ends source.new }
-    ensures one_end { S.ends source.new ≤ S.ends source.old + 1 }
-    ensures read_faults { S.failures source.new ≡ S.failures source.old + read_fault_count result }
-    ensures write_faults { K.failures sink.new ≡ K.failures sink.old + write_fault_count result }
-    ensures not_failed { IsErrOf result RunError.Failed → ⊥ }
+    ensures counts { RunCounts S.ends S.failures K.failures source.old source.new sink.old sink.new result }
     ensures handed_on { RunHandedOn (K.flushed sink.new) result }
 {
     let mut ends = Ends {
