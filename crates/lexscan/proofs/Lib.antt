@@ -15,5 +15,6 @@ pub mod Taking
 pub mod Pushing
 pub mod Lying
 pub mod SoFar
+pub mod Pulling
 pub mod Tables
 pub mod AskingComputed

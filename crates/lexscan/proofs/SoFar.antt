@@ -42,7 +42,7 @@ no_shorter x given true h = omega (arith, ap length h)
 no_shorter x given false h = omega (arith, ap length h.1, length-append given h.0)
 
 -- and has the same parts among them
-same_part : (x given : List ℕ) (b : Bool) (i j : ℕ) → ExtendsGiven given b x → j ≤ length given → part x i j ≡ part given i j
+pub same_part : (x given : List ℕ) (b : Bool) (i j : ℕ) → ExtendsGiven given b x → j ≤ length given → part x i j ≡ part given i j
 same_part x given true i j h le = ap (λ z. part z i j) h
 same_part x given false i j h le = ap (λ z. part z i j) h.1 ∙ part_front given h.0 i j le
 

@@ -22,3 +22,4 @@ pub mod Attempts
 pub mod Steps
 pub mod Scans
 pub mod Tokens
+pub mod Pulls

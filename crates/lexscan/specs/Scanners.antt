@@ -4,9 +4,12 @@ use Rattle.lex_io.specs.declared.source.Source as Source
 use Rattle.lex_io.specs.declared.sink.Sink as Sink
 use Rattle.lexscan.specs.declared.scanner.Scanner.{Scanner}
 use Rattle.lexscan.specs.declared.push.PushScanner.{PushScanner}
+use Rattle.lexscan.specs.declared.pull.PullScanner.{PullScanner}
 use Rattle.lexscan_window.specs.Intakes.{source_of, source_name, sink_of, sink_name}
 use Rattle.lexscan_window.specs.declared.state.State.{State}
-use Rattle.std.specs.Prelude.{ℕ, List}
+use Rattle.lexscan_window.specs.Window.{last_of}
+use Rattle.lexscan.specs.Matches.{kept_before}
+use Rattle.std.specs.Prelude.{◌≡◌, ℕ, Bool, List, drop}
 
 module _ {M S K : Type 0} {of_machine : Machine.Ghosts M} {of_source : Source.Ghosts S} {of_sink : Sink.Ghosts K} where
   -- the machine that it goes by
@@ -45,3 +48,31 @@ module _ {M : Type 0} {of_machine : Machine.Ghosts M} where
   -- what it keeps beside these
   abbrev pub push_state : PushScanner M of_machine → State
   push_state s = s.scan.state
+
+  -- of a scanner that is asked for tokens: the machine that it goes by
+  abbrev pub pull_machine : PullScanner M of_machine → M
+  pull_machine s = s.machine
+
+  -- the bytes that were fed and that no turn has asked for
+  abbrev pub pull_waiting : PullScanner M of_machine → List ℕ
+  pull_waiting s = drop s.from s.waiting.items
+
+  -- whether the end of the input was told
+  abbrev pub pull_finished : PullScanner M of_machine → Bool
+  pull_finished s = s.finished
+
+  -- what it keeps beside these
+  abbrev pub pull_state : PullScanner M of_machine → State
+  pull_state s = s.scan.state
+
+  -- the text that it shows: that of the token that was told last, or nothing
+  abbrev pub pull_text : PullScanner M of_machine → List ℕ
+  pull_text s = last_of s.shown (kept_before s.scan.state)
+
+  -- Nothing has changed that a caller can tell.
+  pub record SamePull (s t : PullScanner M of_machine) : Type 0 where
+    pub machine : pull_machine t ≡ pull_machine s
+    pub waiting : pull_waiting t ≡ pull_waiting s
+    pub finished : pull_finished t ≡ pull_finished s
+    pub state : pull_state t ≡ pull_state s
+    pub text : pull_text t ≡ pull_text s

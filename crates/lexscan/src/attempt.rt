@@ -31,7 +31,7 @@ fn go_back_to(state: &mut State, place: TextPlace, stack: &Stack, held: usize, t
 impl Scan {
     /// One turn, where as many reads are allowed as there are bytes. Answers nothing where it asks for a byte more, and
     /// goes back to where it began.
-    fn attempt<M: Machine, S: Source, K: Sink>(
+    pub fn attempt<M: Machine, S: Source, K: Sink>(
         &mut self,
         machine: &M,
         ends: &mut Ends<'_, '_, S, K>,

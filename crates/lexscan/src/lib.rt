@@ -14,12 +14,13 @@
 //! - `attempt`: for `push`: turns that are undone where they ask for a byte that was not fed yet.
 //! - `asking`: the state after all bytes of a match that asks for more, from where the next piece goes on.
 //! - `push`: a scan that is fed its input piece by piece.
+//! - `pull`: a scan that is fed piece by piece, and is asked for its tokens one by one.
 //! - `token`: the tokens of an input in memory, by the turns of a scanner.
 //! - `laws`: a table has the tokens of its specification; worked examples of what turns ask for.
 //!
 //! It promises lexkit what a run writes, takes and holds, by relations between scan, source and sink before and after
 //! (`specs/Scans`, `TurnInvariants`, `Runs`). How turns are made may be changed alone, under the contracts of `run`,
-//! `Scanner` and `PushScanner`.
+//! `Scanner`, `PushScanner` and `PullScanner`.
 //!
 //! Decided for this room alone; docs/DECISIONS.md has what concerns others (The scanner):
 //!
@@ -40,6 +41,7 @@ mod find;
 mod further;
 mod laws;
 mod leave;
+mod pull;
 mod push;
 mod scan;
 mod scanner;
@@ -51,6 +53,7 @@ pub use laws::{examples_of_asking, table_tokens};
 pub use lex_io::{ByteReader, FromBytes, FromRead, MemorySource, ReadFault, Source};
 pub use lexscan_matching::{accepted, longest};
 pub use lexscan_window::{Candidate, Match, MatchedRule, RunError, Window};
+pub use pull::{PullScanner, Pulled, PulledToken};
 pub use push::PushScanner;
 pub use scanner::Scanner;
 pub use token::{Token, texts_of, tokens};

@@ -20,7 +20,7 @@ use lexscan_window::{Memo, RunError, State, StatePath, Waiting};
 use std::alloc::Global;
 
 /// Drops bytes from the front.
-fn drop_front(bytes: &mut Vec<u8>, count: usize)
+pub fn drop_front(bytes: &mut Vec<u8>, count: usize)
     requires { count ≤ vec_len bytes.old }
     ensures bytes { bytes.new.items ≡ drop count bytes.old.items }
     ensures room { vec_capacity bytes.new ≡ vec_capacity bytes.old }
@@ -46,7 +46,7 @@ fn keep_rest(waiting: &mut Vec<u8>, piece: &[u8], done: usize)
 }
 
 /// How many bytes there are with a piece more, where their count and that of the end's answer fit.
-fn count_with(taken: u64, waiting: usize, piece: usize) -> Option<u64>
+pub fn count_with(taken: u64, waiting: usize, piece: usize) -> Option<u64>
     ensures some { IfSome result (λ count. (count ≡ taken + waiting + piece) × (count < 2 ^ 64 - 1)) }
     ensures none { IfNone result (2 ^ 64 - 1 ≤ taken + waiting + piece) }
 {

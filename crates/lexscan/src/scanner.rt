@@ -145,25 +145,7 @@ impl<'a, M: Machine, S: Source, K: Sink> Scanner<'a, M, S, K> {
         ensures told { result ≡ match_in (scanner_state self.now) }
         ensures small { IfSome result (λ m. m.start + m.length < 2 ^ 64) }
     {
-        if self.scan.state.failed {
-            return None;
-        }
-        let rule = self.scan.state.matched?;
-        let window = &self.scan.state.reading.window;
-        let end = self.scan.state.acting.end;
-        // What is held was taken, and the text lies before the next match: turns keep to both, but no field says so.
-        let before = self
-            .scan
-            .state
-            .reading
-            .taken
-            .saturating_sub(window.len() as u64);
-        let place = before + self.scan.state.place.at as u64;
-        Some(Match {
-            rule,
-            start: place.saturating_sub(end as u64),
-            length: end,
-        })
+        self.scan.matched()
     }
 
     /// The text of the match that `matched` tells, as it stands in the buffer, or nothing where that tells none. The

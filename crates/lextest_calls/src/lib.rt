@@ -34,6 +34,8 @@ mod pipelines;
 #[cfg(test)]
 mod plain;
 #[cfg(test)]
+mod pulls;
+#[cfg(test)]
 mod refused;
 #[cfg(test)]
 mod reports;
