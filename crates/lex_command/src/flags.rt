@@ -1,6 +1,6 @@
 //! What both command lines have: flags, words that have a value, and how patterns are read.
-ghost use Rattle.std.specs.Prelude.{◌≡◌, IfOk, false, fold, map, option_map};
-ghost use Rattle.clap.specs.Words.{app_of, first_of, found_of, rows_of, rule_of, with_rule};
+ghost use Rattle.std.specs.Prelude.{◌≡◌, IfOk, false, fold, map, option_map, string_bytes};
+ghost use Rattle.clap.specs.Words.{all_of, app_of, first_of, found_of, rows_of, rule_of, with_rule};
 ghost use Rattle.lex_command.specs.Flags.{flag_rule, has_flag, patterns_of};
 
 use clap::{Arg, ArgAction, ArgMatches, Command};
@@ -51,6 +51,24 @@ pub(crate) fn value_of<'a>(matches: &ArgMatches<'a>, name: &str) -> Option<&'a s
     ensures { option_map (λ s. s.now) result ≡ first_of name.now (rows_of (found_of matches.now)) }
 {
     matches.get_str(name)
+}
+
+/// The values of the name, where some stand there.
+pub(crate) fn values_of<'m, 'a>(matches: &'m ArgMatches<'a>, name: &str) -> Option<&'m [&'a str]>
+    ensures { option_map (λ s. map (λ v. v.now) s.now) result ≡ all_of name.now (rows_of (found_of matches.now)) }
+{
+    matches.get_strs(name)
+}
+
+/// The names, as texts of their own.
+pub(crate) fn copied(alloc: Global, names: &[&str]) -> Result<Vec<String>, AllocError>
+    ensures { IfOk result (λ v. map string_bytes v.items ≡ map (λ n. n.now) names.now) }
+{
+    let mut copies = Vec::new(alloc);
+    for name in names {
+        copies.push(String::from_str(alloc, *name)?)?;
+    }
+    Ok(copies)
 }
 
 /// How patterns are read, by what stands there.

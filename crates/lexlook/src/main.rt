@@ -7,7 +7,8 @@
 //! a fault and a status are as those of the program lex, by lexkit.
 //!
 //! A subcommand has its words in lex_command, its call in lexlook_calls, and here its function `show_..`, which writes to
-//! standard output, flushes, and answers the status: 1 for an answer no, and of a trace that of the scan.
+//! standard output, flushes, and answers the status: 1 for an answer no, and of a trace that of the scan. The call of `utf8` is
+//! that of lexlook_unicode.
 #![tactic(auto)]
 
 ghost use Rattle.std.specs.Prelude.{◌≡◌, ◌≤◌};
@@ -23,6 +24,7 @@ use lexkit::{
     ToWrite, command_words, read_spec_file, report_failure,
 };
 use lexlook_calls::{Given, draw, tell_lines, tell_same, tell_words, trace};
+use lexlook_unicode::{DefinitionError, definition_of};
 use std::alloc::AllocError;
 use std::io;
 use std::process::ExitCode;
@@ -136,6 +138,20 @@ fn show_trace(rt: &HostRuntime, file: String, options: Options) -> Result<ExitCo
     Ok(ExitCode::from(result?))
 }
 
+/// Writes the definition of sets of code points to standard output. A word that names no set is usage, and so are sets of
+/// which there is no pattern.
+fn show_letters(rt: &HostRuntime, sets: &[String]) -> Result<ExitCode, Failure> {
+    let line = match definition_of(rt.alloc(), sets) {
+        Ok(line) => line,
+        Err(DefinitionError::OutOfMemory) => return Err(Failure::from(AllocError)),
+        Err(_) => return Err(Failure::Usage),
+    };
+    let mut sink = ToWrite::new(io::writer(rt));
+    sink.put(line.as_slice())?;
+    sink.flush()?;
+    Ok(ExitCode::SUCCESS)
+}
+
 /// The status of an answer: 0 for yes, 1 for no.
 fn status_of(yes: bool) -> ExitCode {
     if yes {
@@ -177,6 +193,7 @@ fn run(rt: &HostRuntime) -> Result<ExitCode, Failure> {
             right,
             patterns,
         } => show_same(rt, left.as_str(), right.as_str(), options_of(patterns)),
+        Look::Letters { sets } => show_letters(rt, sets.as_slice()),
     }
 }
 

@@ -1,7 +1,7 @@
 //! What a command line of lex asks for.
-ghost use Rattle.std.specs.Prelude.{◌≡◌, ◌≢◌, ◌⊎◌, IfErr, IfOk, codes, fold, map, option_map, string_bytes};
+ghost use Rattle.std.specs.Prelude.{◌≡◌, ◌≢◌, ◌⊎◌, IfErr, IfOk, codes, fold, map, string_bytes};
 ghost use Rattle.std.specs.Prelude.{false, true};
-ghost use Rattle.clap.specs.Words.{all_of, app_of, found_of, rows_of, rule_of, with_rule};
+ghost use Rattle.clap.specs.Words.{app_of, found_of, rows_of, rule_of, with_rule};
 ghost use Rattle.lex_command.specs.Args.{IsNamed};
 ghost use Rattle.lex_command.specs.CommandLine.{AsksFor, IsJobOf, AsksToMake, ScansBySpec, ScansByTable, files_of};
 ghost use Rattle.lex_command.specs.CommandLine.{flag_rules, has_byte_at, has_separator, has_value_behind_equals};
@@ -9,7 +9,7 @@ ghost use Rattle.lex_command.specs.CommandLine.{is_long_with_equals, is_out_with
 ghost use Rattle.lex_command.specs.CommandLine.{name_rules, reads_patterns, value_rule, words_rule};
 
 use crate::error::ArgsError;
-use crate::flags::{PatternFlags, has, patterns_of, value_of, with_flags};
+use crate::flags::{PatternFlags, copied, has, patterns_of, value_of, values_of, with_flags};
 use clap::{Arg, ArgAction, ArgMatches, Command};
 use std::alloc::{AllocError, Global};
 
@@ -196,13 +196,6 @@ fn with_names<'a>(alloc: Global, command: Command<'a>) -> Result<Command<'a>, Al
     with.arg(file_words(alloc))
 }
 
-/// The values of the name, where some stand there.
-fn values_of<'m, 'a>(matches: &'m ArgMatches<'a>, name: &str) -> Option<&'m [&'a str]>
-    ensures { option_map (λ s. map (λ v. v.now) s.now) result ≡ all_of name.now (rows_of (found_of matches.now)) }
-{
-    matches.get_strs(name)
-}
-
 /// Whether something stands there that only making tables takes: `-t`, `-n`, `-v`, `-b`, `-o` or a file.
 fn makes_tables(matches: &ArgMatches<'_>) -> bool
     ensures { result ≡ makes_tables (rows_of (found_of matches.now)) }
@@ -251,17 +244,6 @@ fn files_of(alloc: Global, matches: &ArgMatches<'_>) -> Result<Vec<String>, Allo
         None => Ok(Vec::new(alloc)),
         Some(names) => copied(alloc, names),
     }
-}
-
-/// The names, as texts of their own.
-fn copied(alloc: Global, names: &[&str]) -> Result<Vec<String>, AllocError>
-    ensures { IfOk result (λ v. map string_bytes v.items ≡ map (λ n. n.now) names.now) }
-{
-    let mut copies = Vec::new(alloc);
-    for name in names {
-        copies.push(String::from_str(alloc, *name)?)?;
-    }
-    Ok(copies)
 }
 
 /// The scan by the specification in the file.

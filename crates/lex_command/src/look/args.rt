@@ -3,10 +3,11 @@ ghost use Rattle.std.specs.Prelude.{◌≡◌, ◌≢◌, IfErr, IfOk, IfSome, N
 ghost use Rattle.std.specs.Prelude.{string_bytes};
 ghost use Rattle.clap.specs.Words.{app_of, found_of, rows_of, rule_of, subcommand_rows_of, with_rule, with_subcommand};
 ghost use Rattle.lex_command.specs.LookLine.{AsksToShow, IsLookOf, about_of, file_app, lexlook_app, name_of};
-ghost use Rattle.lex_command.specs.LookLine.{needed_rule};
+ghost use Rattle.lex_command.specs.CommandLine.{words_rule};
+ghost use Rattle.lex_command.specs.LookLine.{needed_rule, sets_app};
 
 use crate::error::ArgsError;
-use crate::flags::{PatternFlags, patterns_of, value_of, with_flags};
+use crate::flags::{PatternFlags, copied, patterns_of, value_of, values_of, with_flags};
 use clap::{Arg, ArgAction, ArgMatches, Command};
 use std::alloc::{AllocError, Global};
 
@@ -51,10 +52,14 @@ pub enum Look {
         /// How patterns are read.
         patterns: PatternFlags,
     },
+    /// The definition of these sets of code points, of which there is one at least.
+    Letters {
+        sets: Vec<String>,
+    },
 }
 
 /// Reads the words after the program's name: `picture FILE`, `same FILE FILE`, `lines FILE`, `words FILE` or `trace
-/// FILE`, with `-i` or `-X` or without, or any words with `--help`, `-h` or `--version`. Flags may be repeated. Words that it
+/// FILE`, with `-i` or `-X` or without, `utf8 SET..`, or any words with `--help`, `-h` or `--version`. Flags may be repeated. Words that it
 /// refuses by `Usage` ask for nothing.
 pub fn read_args(alloc: Global, words: &[String]) -> Result<Look, ArgsError>
     ensures asked { IfOk result (AsksToShow (map string_bytes words.now)) }
@@ -94,6 +99,16 @@ fn needed_word<'a>(alloc: Global, id: &'a str) -> Arg<'a>
     ensures global { result.global ≡ false }
 {
     Arg::new(alloc, id).required(true).action(ArgAction::Set)
+}
+
+/// The words that name sets.
+fn set_words<'a>(alloc: Global) -> Arg<'a>
+    ensures rule { rule_of result ≡ words_rule (codes "set") }
+    ensures global { result.global ≡ false }
+{
+    Arg::new(alloc, "set")
+        .num_args(1..)
+        .action(ArgAction::Append)
 }
 
 /// The command with these words more, which name files.
@@ -140,6 +155,21 @@ fn with_look<'a>(
     top.subcommand(file_command(alloc, name, files)?)
 }
 
+/// The words of `utf8`: its sets.
+fn sets_command<'a>(alloc: Global) -> Result<Command<'a>, AllocError>
+    ensures { IfOk result (λ c. app_of c ≡ sets_app) }
+{
+    let command = Command::new(alloc, "utf8").disable_help_flag(true);
+    command.arg(set_words(alloc))
+}
+
+/// The words with `utf8` more.
+fn with_letters<'a>(alloc: Global, top: Command<'a>) -> Result<Command<'a>, AllocError>
+    ensures { IfOk result (λ c. app_of c ≡ with_subcommand (app_of top.entry) sets_app.top) }
+{
+    top.subcommand(sets_command(alloc)?)
+}
+
 /// The words that the program knows.
 fn command<'a>(alloc: Global) -> Result<Command<'a>, AllocError>
     ensures { IfOk result (λ c. app_of c ≡ lexlook_app) }
@@ -155,7 +185,8 @@ fn command<'a>(alloc: Global) -> Result<Command<'a>, AllocError>
     let top = with_look(alloc, top, "same", two)?;
     let top = with_look(alloc, top, "lines", one)?;
     let top = with_look(alloc, top, "words", one)?;
-    with_look(alloc, top, "trace", one)
+    let top = with_look(alloc, top, "trace", one)?;
+    with_letters(alloc, top)
 }
 
 /// What the matches ask for.
@@ -166,6 +197,7 @@ fn look_of(alloc: Global, matches: &ArgMatches<'_>) -> Result<Look, ArgsError>
 {
     match matches.subcommand() {
         Some((name, found)) if name == "same" => same_look(alloc, found),
+        Some((name, found)) if name == "utf8" => letters_look(alloc, found),
         Some((name, found)) => one_look(alloc, name, found),
         None => Err(ArgsError::Usage),
     }
@@ -189,10 +221,10 @@ fn named(name: &str) -> Option<Subcommand>
     }
 }
 
-/// What the matches behind the name of a subcommand ask for that is none of two files.
+/// What the matches behind the name of a subcommand of one file ask for.
 fn one_look(alloc: Global, name: &str, found: &ArgMatches<'_>) -> Result<Look, ArgsError>
     ensures asked { IfOk result (IsLookOf (Some (name.now, rows_of (found_of found.now)))) }
-    ensures refused { IfErr result (λ e. e ≡ ArgsError.Usage → name.now ≢ codes "same"
+    ensures refused { IfErr result (λ e. e ≡ ArgsError.Usage → name.now ≢ codes "same" → name.now ≢ codes "utf8"
         → (look : Look) → IsLookOf (Some (name.now, rows_of (found_of found.now))) look → ⊥) }
 {
     let what = match named(name) {
@@ -229,4 +261,18 @@ fn same_look(alloc: Global, found: &ArgMatches<'_>) -> Result<Look, ArgsError>
         right: String::from_str(alloc, right)?,
         patterns: patterns_of(found),
     })
+}
+
+/// The definition that the matches behind its name ask for.
+fn letters_look(alloc: Global, found: &ArgMatches<'_>) -> Result<Look, ArgsError>
+    ensures asked { IfOk result (IsLookOf (Some (codes "utf8", rows_of (found_of found.now)))) }
+    ensures refused { IfErr result (λ e. e ≡ ArgsError.Usage
+        → (look : Look) → IsLookOf (Some (codes "utf8", rows_of (found_of found.now))) look → ⊥) }
+{
+    match values_of(found, "set") {
+        None => Err(ArgsError::Usage),
+        Some(sets) => Ok(Look::Letters {
+            sets: copied(alloc, sets)?,
+        }),
+    }
 }

@@ -15,9 +15,11 @@ const HELP: &str = "lexlook shows what a specification of lex does.\n\n\
     lexlook words FILE [-i] [-X]\n    \
     for each rule the shortest text that it takes, or by which rules its texts are taken\n\
     lexlook trace FILE [-i] [-X]\n    \
-    a line for each match of a scan of standard input by a specification, and the scan's status\n\n\
+    a line for each match of a scan of standard input by a specification, and the scan's status\n\
+    lexlook utf8 SET..\n    \
+    a definition of the code points of these sets, over the bytes of their UTF-8\n\n\
     FILE may be - for standard input. With -i letters stand for both cases. With -X an interval\n\
-    applies to the whole series to its left.\n";
+    applies to the whole series to its left. A SET is U+0400-U+04FF, Lu, Greek, XID_Start or the like.\n";
 
 /// The program's name and its version, which is that of the file VERSION.
 const VERSION: &str = "lexlook 1.0.0\n";

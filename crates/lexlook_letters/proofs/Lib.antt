@@ -1,0 +1,7 @@
+pub mod Wholes
+pub mod Boxes
+pub mod Runs
+pub mod Digits
+pub mod Spelled
+pub mod Words
+pub mod Remainders

@@ -1,0 +1,5 @@
+pub mod Encoding
+pub mod Sequences
+pub mod Cutting
+pub mod Text
+pub mod EncodingExamples

@@ -1,0 +1,9 @@
+//! Worked examples of the definitions.
+ghost use Rattle.lexlook_letters.specs.EncodingExamples.{Encodings, EndsOfLengths, Surrogates};
+
+/// Worked examples of encodings: those of RFC 3629, the ends of each length, and what has none.
+pub fn examples_of_encodings()
+    ensures encodings { Encodings }
+    ensures ends { EndsOfLengths }
+    ensures surrogates { Surrogates }
+{}

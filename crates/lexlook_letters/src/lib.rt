@@ -1,0 +1,36 @@
+//! Classes of code points as patterns over the bytes of their UTF-8. (RFC 3629, section 3.)
+//!
+//! - `ranges`: ranges of code points.
+//! - `sequence`: a sequence of ranges of bytes, and that of a piece of a range of code points.
+//! - `cutting`: where a range of code points is cut into pieces.
+//! - `split`: the sequences of many ranges, `sequences`.
+//! - `text`: the bytes of a pattern.
+//! - `spelling`: the pattern of sequences, `spell`.
+//! - `letters`: the pattern of ranges, `spell_ranges`.
+//! - `complement`: the code points that ranges leave out, `others`.
+//! - `laws`: worked examples of encodings.
+//!
+//! It promises that the words of the sequences are the encodings of the code points of the ranges, each in its shortest form,
+//! and of no surrogate. What the ranges are does not matter: they may overlap, be empty, or go past U+10FFFF.
+//!
+//! - **A piece is a box.** Where code points of one length begin and end at whole blocks of 64, each byte may be chosen by
+//!   itself. So a piece is told by its two ends, and `cutting` finds the longest one at a front.
+#![tactic(auto)]
+
+mod complement;
+mod cutting;
+mod laws;
+mod letters;
+mod ranges;
+mod sequence;
+mod spelling;
+mod split;
+mod text;
+
+pub use complement::others;
+pub use laws::examples_of_encodings;
+pub use letters::spell_ranges;
+pub use ranges::CodeRange;
+pub use sequence::{ByteRange, Sequence};
+pub use spelling::{LettersError, spell};
+pub use split::sequences;
