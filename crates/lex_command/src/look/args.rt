@@ -3,10 +3,11 @@ ghost use Rattle.std.specs.Prelude.{◌≡◌, ◌≢◌, IfErr, IfOk, IfSome, N
 ghost use Rattle.std.specs.Prelude.{string_bytes};
 ghost use Rattle.clap.specs.Words.{app_of, found_of, rows_of, rule_of, subcommand_rows_of, with_rule, with_subcommand};
 ghost use Rattle.lex_command.specs.LookLine.{AsksToShow, IsLookOf, about_of, file_app, lexlook_app, name_of};
-ghost use Rattle.lex_command.specs.LookLine.{needed_rule};
+ghost use Rattle.lex_command.specs.LookLine.{needed_rule, needed_words_rule, some_files};
 
 use crate::error::ArgsError;
 use crate::flags::{PatternFlags, patterns_of, value_of, with_flags};
+use crate::job::files_of;
 use clap::{Arg, ArgAction, ArgMatches, Command};
 use std::alloc::{AllocError, Global};
 
@@ -51,11 +52,17 @@ pub enum Look {
         /// How patterns are read.
         patterns: PatternFlags,
     },
+    /// Every fault of the specification that these files are together.
+    Check {
+        files: Vec<String>,
+        /// How patterns are read.
+        patterns: PatternFlags,
+    },
 }
 
-/// Reads the words after the program's name: `picture FILE`, `same FILE FILE`, `lines FILE`, `words FILE` or `trace
-/// FILE`, with `-i` or `-X` or without, or any words with `--help`, `-h` or `--version`. Flags may be repeated. Words that it
-/// refuses by `Usage` ask for nothing.
+/// Reads the words after the program's name: `picture FILE`, `same FILE FILE`, `lines FILE`, `words FILE`, `trace FILE`
+/// or `check FILE..`, with `-i` or `-X` or without, or any words with `--help`, `-h` or `--version`. Flags may be repeated.
+/// Words that it refuses by `Usage` ask for nothing.
 pub fn read_args(alloc: Global, words: &[String]) -> Result<Look, ArgsError>
     ensures asked { IfOk result (AsksToShow (map string_bytes words.now)) }
     ensures refused { IfErr result (λ e. e ≡ ArgsError.Usage
@@ -140,6 +147,35 @@ fn with_look<'a>(
     top.subcommand(file_command(alloc, name, files)?)
 }
 
+/// The words that name the files of `check`, one at least.
+fn needed_words<'a>(alloc: Global) -> Arg<'a>
+    ensures rule { rule_of result ≡ needed_words_rule (codes "file") }
+    ensures global { result.global ≡ false }
+{
+    Arg::new(alloc, "file")
+        .num_args(1..)
+        .required(true)
+        .action(ArgAction::Append)
+}
+
+/// The words of `check`: how patterns are read, and its files.
+fn check_command<'a>(alloc: Global) -> Result<Command<'a>, AllocError>
+    ensures { IfOk result (λ c. app_of c ≡ file_app (codes "check") some_files) }
+{
+    let flags = &[("fold", 'i'), ("posix", 'X')];
+    let command = Command::new(alloc, "check").disable_help_flag(true);
+    let command = with_flags(alloc, command, flags)?;
+    command.arg(needed_words(alloc))
+}
+
+/// The words with `check`.
+fn with_check<'a>(alloc: Global, top: Command<'a>) -> Result<Command<'a>, AllocError>
+    ensures { IfOk result (λ c. app_of c
+        ≡ with_subcommand (app_of top.entry) (file_app (codes "check") some_files).top) }
+{
+    top.subcommand(check_command(alloc)?)
+}
+
 /// The words that the program knows.
 fn command<'a>(alloc: Global) -> Result<Command<'a>, AllocError>
     ensures { IfOk result (λ c. app_of c ≡ lexlook_app) }
@@ -155,7 +191,8 @@ fn command<'a>(alloc: Global) -> Result<Command<'a>, AllocError>
     let top = with_look(alloc, top, "same", two)?;
     let top = with_look(alloc, top, "lines", one)?;
     let top = with_look(alloc, top, "words", one)?;
-    with_look(alloc, top, "trace", one)
+    let top = with_look(alloc, top, "trace", one)?;
+    with_check(alloc, top)
 }
 
 /// What the matches ask for.
@@ -166,6 +203,7 @@ fn look_of(alloc: Global, matches: &ArgMatches<'_>) -> Result<Look, ArgsError>
 {
     match matches.subcommand() {
         Some((name, found)) if name == "same" => same_look(alloc, found),
+        Some((name, found)) if name == "check" => check_look(alloc, found),
         Some((name, found)) => one_look(alloc, name, found),
         None => Err(ArgsError::Usage),
     }
@@ -189,10 +227,10 @@ fn named(name: &str) -> Option<Subcommand>
     }
 }
 
-/// What the matches behind the name of a subcommand ask for that is none of two files.
+/// What the matches behind the name of a subcommand ask for that is one of one file.
 fn one_look(alloc: Global, name: &str, found: &ArgMatches<'_>) -> Result<Look, ArgsError>
     ensures asked { IfOk result (IsLookOf (Some (name.now, rows_of (found_of found.now)))) }
-    ensures refused { IfErr result (λ e. e ≡ ArgsError.Usage → name.now ≢ codes "same"
+    ensures refused { IfErr result (λ e. e ≡ ArgsError.Usage → name.now ≢ codes "same" → name.now ≢ codes "check"
         → (look : Look) → IsLookOf (Some (name.now, rows_of (found_of found.now))) look → ⊥) }
 {
     let what = match named(name) {
@@ -227,6 +265,17 @@ fn same_look(alloc: Global, found: &ArgMatches<'_>) -> Result<Look, ArgsError>
     Ok(Look::Same {
         left: String::from_str(alloc, left)?,
         right: String::from_str(alloc, right)?,
+        patterns: patterns_of(found),
+    })
+}
+
+/// The faults that the matches behind their name ask for.
+fn check_look(alloc: Global, found: &ArgMatches<'_>) -> Result<Look, ArgsError>
+    ensures asked { IfOk result (IsLookOf (Some (codes "check", rows_of (found_of found.now)))) }
+    ensures memory { IfErr result (λ e. e ≡ ArgsError.OutOfMemory) }
+{
+    Ok(Look::Check {
+        files: files_of(alloc, found)?,
         patterns: patterns_of(found),
     })
 }

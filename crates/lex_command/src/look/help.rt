@@ -15,7 +15,9 @@ const HELP: &str = "lexlook shows what a specification of lex does.\n\n\
     lexlook words FILE [-i] [-X]\n    \
     for each rule the shortest text that it takes, or by which rules its texts are taken\n\
     lexlook trace FILE [-i] [-X]\n    \
-    a line for each match of a scan of standard input by a specification, and the scan's status\n\n\
+    a line for each match of a scan of standard input by a specification, and the scan's status\n\
+    lexlook check FILE.. [-i] [-X]\n    \
+    every fault of the specification that the files are together, with status 1 where there is one\n\n\
     FILE may be - for standard input. With -i letters stand for both cases. With -X an interval\n\
     applies to the whole series to its left.\n";
 

@@ -1,7 +1,7 @@
 use Rattle.std.proofs.Common.{◌≡◌, ◌∙◌, ap, codes, rules}
 use Rattle.std.proofs.lemmas.Result.{IfOk-weaker}
 use Rattle.clap.specs.Words.{App, app_of, with_subcommand}
-use Rattle.lex_command.specs.LookLine.{file_app, no_subcommand, one_file, two_files}
+use Rattle.lex_command.specs.LookLine.{file_app, no_subcommand, one_file, some_files, two_files}
 use Rattle.lex_command.proofs.look.args.command.Goals as goal
 
 pub returns : goal.returns
@@ -11,4 +11,5 @@ returns c =
     let two = c.in_ok-top-2.ensures ∙ ap (λ (a : App). with_subcommand a (file_app (codes "same") two_files).top) one in
     let three = c.in_ok-top-3.ensures ∙ ap (λ (a : App). with_subcommand a (file_app (codes "lines") one_file).top) two in
     let four = c.in_ok-top-4.ensures ∙ ap (λ (a : App). with_subcommand a (file_app (codes "words") one_file).top) three in
-    IfOk-weaker c.with_look-5.result _ _ (λ new h. h ∙ ap (λ (a : App). with_subcommand a (file_app (codes "trace") one_file).top) four) c.with_look-5.ensures
+    let five = c.in_ok-top-5.ensures ∙ ap (λ (a : App). with_subcommand a (file_app (codes "trace") one_file).top) four in
+    IfOk-weaker c.with_check.result _ _ (λ new h. h ∙ ap (λ (a : App). with_subcommand a (file_app (codes "check") some_files).top) five) c.with_check.ensures
