@@ -146,9 +146,9 @@ def after(text, words):
 def examples_of_lexlook(text):
     """The text of manual_looks.txt: what lexlook writes in the chapters on it."""
     small = after(text, "Say that `small.l` is this specification:")
-    pictures, comparing, cutting, taken, traced = (
+    pictures, comparing, cutting, taken, traced, every = (
         chapter(text, title)
-        for title in ("Pictures", "Comparing", "Cutting at newlines", "Texts that rules take", "Lines of matches")
+        for title in ("Pictures", "Comparing", "Cutting at newlines", "Texts that rules take", "Lines of matches", "Every fault")
     )
     words = after(comparing, "Say that `words.l` is this:")
     compared = after(comparing, "Then `lexlook same small.l words.l`")
@@ -161,6 +161,13 @@ def examples_of_lexlook(text):
         *(row("lines", ("spec", lines_of(cut["As in"])), ("written", code(cut["What is written"]) + "\n")) for cut in cuts),
         row("words", ("spec", after(taken, "Of this one")), ("written", after(taken, "it writes\n"))),
         row("trace", ("spec", after(traced, "Say that `a.l` is this:")), ("input", given), ("written", after(traced, "Then `printf"))),
+        row(
+            "check",
+            ("names", "draft.l b.l"),
+            ("spec", after(every, "`draft.l` is this:")),
+            ("written", after(every, "Then `lexlook check draft.l`")),
+            ("told", "status 1\n"),
+        ),
     )
 
 

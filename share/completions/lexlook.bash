@@ -3,7 +3,7 @@
 _lexlook() {
     COMPREPLY=()
     if ((COMP_CWORD == 1)); then
-        mapfile -t COMPREPLY < <(compgen -W 'picture same lines words trace --help --version' -- "$2")
+        mapfile -t COMPREPLY < <(compgen -W 'picture same lines words trace check --help --version' -- "$2")
     elif [[ $2 == -* ]]; then
         mapfile -t COMPREPLY < <(compgen -W '-i -X' -- "$2")
     fi

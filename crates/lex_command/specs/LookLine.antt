@@ -4,12 +4,12 @@ use Rattle.std.specs.Str.{bytes_eq}
 use Rattle.clap.specs.Words.{App, Row, Rule, Text, all_of, fault_of, first_of, new_app, new_rule, subcommand_of, with_rule, with_subcommand}
 use Rattle.clap.specs.Simple.{on_top}
 use Rattle.clap.specs.declared.builder.action.ArgAction.TheVariants.{Set}
-use Rattle.lex_command.specs.CommandLine.{words_rule}
+use Rattle.lex_command.specs.CommandLine.{files_of, words_rule}
 use Rattle.lex_command.specs.Flags.{is_separator, pattern_rules, patterns_of}
 use Rattle.lex_command.specs.declared.look.args.About.{About}
 use Rattle.lex_command.specs.declared.look.args.About.TheVariants.{Help, Version}
 use Rattle.lex_command.specs.declared.look.args.Look.{Look}
-use Rattle.lex_command.specs.declared.look.args.Look.TheVariants.{About as OfItself, Letters, One, Same}
+use Rattle.lex_command.specs.declared.look.args.Look.TheVariants.{About as OfItself, Check, Letters, One, Same}
 use Rattle.lex_command.specs.declared.look.args.Subcommand.{Subcommand}
 use Rattle.lex_command.specs.declared.look.args.Subcommand.TheVariants.{Picture, Lines, Words, Trace}
 
@@ -37,6 +37,14 @@ two_files = needed_rule (codes "left") ∷ needed_rule (codes "right") ∷ []
 abbrev pub sets_app : App
 sets_app = with_rule (without_help (new_app (codes "utf8"))) (words_rule (codes "set"))
 
+-- one word or more, which have to stand there
+abbrev pub needed_words_rule : Text → Rule
+needed_words_rule name = record (words_rule name) { required = true }
+
+-- the files of `check`
+abbrev pub some_files : List Rule
+some_files = needed_words_rule (codes "file") ∷ []
+
 -- the words begin after the program's name, and name a subcommand; clap knows no help
 abbrev pub no_subcommand : App
 no_subcommand =
@@ -52,6 +60,7 @@ lexlook_app = fold with_subcommand no_subcommand (
     ∷ (file_app (codes "words") one_file).top
     ∷ (file_app (codes "trace") one_file).top
     ∷ sets_app.top
+    ∷ (file_app (codes "check") some_files).top
     ∷ [])
 
 -- ---- what is asked for
@@ -82,6 +91,9 @@ IsLookOf (Some p) (Same left right patterns) = (p.0 ≡ codes "same")
     × (Some (string_bytes right) ≡ first_of (codes "right") p.1)
     × (patterns ≡ patterns_of p.1)
 IsLookOf (Some p) (Letters sets) = (p.0 ≡ codes "utf8") × (Some (map string_bytes sets.items) ≡ all_of (codes "set") p.1)
+IsLookOf (Some p) (Check files patterns) = (p.0 ≡ codes "check")
+    × (map string_bytes files.items ≡ files_of p.1)
+    × (patterns ≡ patterns_of p.1)
 IsLookOf p look = ⊥
 
 -- The words ask for something of the program itself if one of them does, before any `--`. Else they are a line of the program's, and

@@ -1,21 +1,21 @@
 //! The program lexlook: it shows what a specification of lex does.
 //!
 //! - `main`: which subcommand the command line asks for (`run`), and for each one where it reads and writes.
-//! - `reading`: the files that are compared or cut, which may be table files.
+//! - `reading`: the files that are compared or cut, which may be table files, and those of one specification.
 //!
-//! What is asked for is read by lex_command. What is written and answered is that of lexlook_calls, and proved there. A read,
-//! a fault and a status are as those of the program lex, by lexkit.
+//! What is asked for is read by lex_command. What is written and answered is that of lexlook_calls and lexlook_check, and
+//! proved there. A read, a fault and a status are as those of the program lex, by lexkit.
 //!
-//! A subcommand has its words in lex_command, its call in lexlook_calls, and here its function `show_..`, which writes to
-//! standard output, flushes, and answers the status: 1 for an answer no, and of a trace that of the scan. The call of `utf8` is
-//! that of lexlook_unicode.
+//! A subcommand has its words in lex_command, its call in lexlook_calls or a room of its own, and here its function
+//! `show_..`, which writes to standard output, flushes, and answers the status: 1 for an answer no, and of a trace that of
+//! the scan. The call of `utf8` is that of lexlook_unicode.
 #![tactic(auto)]
 
 ghost use Rattle.std.specs.Prelude.{◌≡◌, ◌≤◌};
 
 mod reading;
 
-use crate::reading::read_compared_file;
+use crate::reading::{read_compared_file, read_files, source_files};
 use lex_command::{
     About, ArgsError, Look, PatternFlags, Subcommand, read_look_args, write_help, write_version,
 };
@@ -24,6 +24,7 @@ use lexkit::{
     ToWrite, command_words, read_spec_file, report_failure,
 };
 use lexlook_calls::{Given, draw, tell_lines, tell_same, tell_words, trace};
+use lexlook_check::tell_check;
 use lexlook_unicode::{DefinitionError, definition_of};
 use std::alloc::AllocError;
 use std::io;
@@ -152,6 +153,19 @@ fn show_letters(rt: &HostRuntime, sets: &[String]) -> Result<ExitCode, Failure> 
     Ok(ExitCode::SUCCESS)
 }
 
+/// Writes to standard output every fault of the specification that the files are together.
+fn show_check(rt: &HostRuntime, names: &[String], options: Options) -> Result<ExitCode, Failure>
+    requires few_positions { options.limits.positions ≤ MAX_POSITIONS }
+    requires few_states { options.limits.states ≤ MAX_STATES }
+{
+    let texts = read_files(rt, names)?;
+    let files = source_files(rt.alloc(), names, texts.as_slice())?;
+    let mut sink = ToBytes::new(ByteWriter::new(rt.alloc(), io::writer(rt))?);
+    let well = tell_check(rt.alloc(), files.as_slice(), options, &mut sink)?;
+    sink.flush()?;
+    Ok(status_of(well))
+}
+
 /// The status of an answer: 0 for yes, 1 for no.
 fn status_of(yes: bool) -> ExitCode {
     if yes {
@@ -194,6 +208,7 @@ fn run(rt: &HostRuntime) -> Result<ExitCode, Failure> {
             patterns,
         } => show_same(rt, left.as_str(), right.as_str(), options_of(patterns)),
         Look::Letters { sets } => show_letters(rt, sets.as_slice()),
+        Look::Check { files, patterns } => show_check(rt, files.as_slice(), options_of(patterns)),
     }
 }
 

@@ -1,8 +1,9 @@
-//! What lexlook leaves where its output fails, and table files that it compares.
+//! What lexlook leaves where its output fails, table files that it compares, and how many faults it tells.
 ghost use Rattle.std.specs.Prelude.{◌≡◌};
 
 use lexkit::{MemorySink, Options, Sink, generate, write_tables};
 use lexlook_calls::{Given, LookError, draw, tell_same, tell_words};
+use lexlook_check::{CheckError, MAX_FAULTS, SourceFile, check, tell_check};
 use std::alloc::Global;
 
 const WORDS: &[u8] = b"%%\nif ;\n[a-z]+ ;\n";
@@ -125,4 +126,53 @@ fn compares_table_files(rt: HostRuntime) {
             "in condition 1 after \"b\": a.l rule 1, b.l rule 1\n"
         )
     );
+}
+
+/// A specification in which nothing is right, and its lines, worked by hand.
+const DRAFT: &[u8] = b"%x INITIAL\n%%\na b();\n<C>c ;\nd |\n";
+
+const FAULTS: &[u8] =
+    b"a.l:1: error: DuplicateCondition\na.l:3: error: UnknownStatement\na.l:4: error: UnknownCondition\na.l:5: error: DanglingBar\n";
+
+/// What is answered of the faults of a text, and what is written of them.
+fn checked(alloc: Global, text: &[u8], mut sink: MemorySink) -> (Result<bool, CheckError>, Vec<u8>)
+    requires { ⟦<MemorySink as Sink>⟧.failures sink ≡ 0 }
+{
+    let file = SourceFile {
+        name: "a.l",
+        bytes: text,
+    };
+    let answer = tell_check(alloc, &[file], Options::new(), &mut sink);
+    (answer, sink.into_bytes())
+}
+
+#[test]
+fn a_fault_leaves_a_front_of_the_faults(rt: HostRuntime) {
+    let (answer, whole) = checked(rt.alloc(), DRAFT, MemorySink::new(rt.alloc()));
+    assert!(rt; answer == Ok(false));
+    assert!(rt; whole.as_slice() == FAULTS);
+    for room in 0..FAULTS.len() {
+        let sink = MemorySink::failing_after(rt.alloc(), room);
+        let (answer, bytes) = checked(rt.alloc(), DRAFT, sink);
+        assert!(rt; answer == Err(CheckError::Write));
+        assert!(rt; FAULTS.starts_with(bytes.as_slice()));
+    }
+}
+
+/// How many faults are found in so many rules at fault.
+fn faults_of(alloc: Global, rules: usize) -> Option<usize> {
+    let mut text = Vec::new(alloc);
+    text.extend_from_slice(b"%%\n").ok()?;
+    for _ in 0..rules {
+        text.extend_from_slice(b"a b();\n").ok()?;
+    }
+    let found = check(alloc, text.as_slice(), Options::new()).ok()?;
+    Some(found.faults.len())
+}
+
+#[test]
+fn a_hundred_faults_are_the_most(rt: HostRuntime) {
+    assert!(rt; faults_of(rt.alloc(), 99) == Some(99));
+    assert!(rt; faults_of(rt.alloc(), 100) == Some(100));
+    assert!(rt; faults_of(rt.alloc(), 101) == Some(MAX_FAULTS));
 }

@@ -68,6 +68,7 @@ pub(crate) fn answered(alloc: Global, row: &Row<'_>) -> Result<Answer, AllocErro
         Kind::Action => actions::action(alloc, row),
         Kind::Arguments => arguments::arguments(alloc, row),
         Kind::Change => tables::change(alloc, row),
+        Kind::Check => looks::check(alloc, row),
         Kind::Compare => looks::compare(alloc, row),
         Kind::Count => reports::count(alloc, row),
         Kind::Cut => patterns::cut(alloc, row),

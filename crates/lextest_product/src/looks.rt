@@ -5,6 +5,7 @@ use crate::row::Row;
 use crate::scans::{answer_of, options_of, refused};
 use lexkit::{MemorySink, MemorySource, Tables, generate};
 use lexlook_calls::{Given, LookError, draw, tell_lines, tell_same, tell_words, trace as trace_of};
+use lexlook_check::{SourceFile, tell_check};
 use lexlook_tables::{Comparison, Difference, compare as compared, find_obstacle_in};
 use std::alloc::{AllocError, Global};
 
@@ -84,6 +85,32 @@ pub(crate) fn words(alloc: Global, row: &Row<'_>) -> Result<Answer, AllocError> 
     let mut sink = MemorySink::new(alloc);
     let answer = tell_words(alloc, row.value("spec"), options_of(row), &mut sink);
     shown(alloc, answer, sink)
+}
+
+/// Writes every fault of the specification that one file is, or two are together, and tells that there is one.
+pub(crate) fn check(alloc: Global, row: &Row<'_>) -> Result<Answer, AllocError> {
+    let (first, second) = names_of(row);
+    let files = [
+        SourceFile {
+            name: first,
+            bytes: row.value("spec"),
+        },
+        SourceFile {
+            name: second,
+            bytes: row.value("again"),
+        },
+    ];
+    let count = if row.value("again").is_empty() { 1 } else { 2 };
+    let mut sink = MemorySink::new(alloc);
+    let told = match tell_check(alloc, &files[..count], options_of(row), &mut sink) {
+        Ok(true) => String::from_str(alloc, "")?,
+        Ok(false) => String::from_str(alloc, "status 1\n")?,
+        Err(error) => format!(in alloc; "{error}\n")?,
+    };
+    Ok(Answer {
+        written: sink.into_bytes(),
+        told: Vec::from_slice(alloc, told.as_bytes())?,
+    })
 }
 
 /// Writes the lines of the matches of a scan.

@@ -1,7 +1,7 @@
 //! Goes over the rows of data/: each asks something of the product, and says what is answered. This tells each row that is
 //! answered otherwise, and how many rows of each kind there are. data/README says how rows are written. What is called is
-//! called by the names of the crates that a caller names, but for what lex_command, lexspec_actions, lexlook_calls and
-//! lexlook_tables do.
+//! called by the names of the crates that a caller names, but for what lex_command, lexspec_actions, lexlook_calls,
+//! lexlook_check and lexlook_tables do.
 #![tactic(auto)]
 
 mod actions;
@@ -34,6 +34,7 @@ use std::{env, fs, io};
 const FILES: &[&str] = &[
     "actions.txt",
     "arguments.txt",
+    "checks.txt",
     "cuttings.txt",
     "examples.txt",
     "limits.txt",

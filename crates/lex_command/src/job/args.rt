@@ -237,7 +237,7 @@ fn generating(alloc: Global, matches: &ArgMatches<'_>) -> Result<Job, ArgsError>
 }
 
 /// The files that were met.
-fn files_of(alloc: Global, matches: &ArgMatches<'_>) -> Result<Vec<String>, AllocError>
+pub(crate) fn files_of(alloc: Global, matches: &ArgMatches<'_>) -> Result<Vec<String>, AllocError>
     ensures { IfOk result (λ v. map string_bytes v.items ≡ files_of (rows_of (found_of matches.now))) }
 {
     match values_of(matches, "file") {

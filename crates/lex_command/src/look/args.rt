@@ -4,10 +4,11 @@ ghost use Rattle.std.specs.Prelude.{string_bytes};
 ghost use Rattle.clap.specs.Words.{app_of, found_of, rows_of, rule_of, subcommand_rows_of, with_rule, with_subcommand};
 ghost use Rattle.lex_command.specs.LookLine.{AsksToShow, IsLookOf, about_of, file_app, lexlook_app, name_of};
 ghost use Rattle.lex_command.specs.CommandLine.{words_rule};
-ghost use Rattle.lex_command.specs.LookLine.{needed_rule, sets_app};
+ghost use Rattle.lex_command.specs.LookLine.{needed_rule, needed_words_rule, sets_app, some_files};
 
 use crate::error::ArgsError;
 use crate::flags::{PatternFlags, copied, patterns_of, value_of, values_of, with_flags};
+use crate::job::files_of;
 use clap::{Arg, ArgAction, ArgMatches, Command};
 use std::alloc::{AllocError, Global};
 
@@ -56,11 +57,17 @@ pub enum Look {
     Letters {
         sets: Vec<String>,
     },
+    /// Every fault of the specification that these files are together.
+    Check {
+        files: Vec<String>,
+        /// How patterns are read.
+        patterns: PatternFlags,
+    },
 }
 
-/// Reads the words after the program's name: `picture FILE`, `same FILE FILE`, `lines FILE`, `words FILE` or `trace
-/// FILE`, with `-i` or `-X` or without, `utf8 SET..`, or any words with `--help`, `-h` or `--version`. Flags may be repeated. Words that it
-/// refuses by `Usage` ask for nothing.
+/// Reads the words after the program's name: `picture FILE`, `same FILE FILE`, `lines FILE`, `words FILE`, `trace FILE`
+/// or `check FILE..`, with `-i` or `-X` or without, `utf8 SET..`, or any words with `--help`, `-h` or `--version`. Flags
+/// may be repeated. Words that it refuses by `Usage` ask for nothing.
 pub fn read_args(alloc: Global, words: &[String]) -> Result<Look, ArgsError>
     ensures asked { IfOk result (AsksToShow (map string_bytes words.now)) }
     ensures refused { IfErr result (λ e. e ≡ ArgsError.Usage
@@ -170,6 +177,35 @@ fn with_letters<'a>(alloc: Global, top: Command<'a>) -> Result<Command<'a>, Allo
     top.subcommand(sets_command(alloc)?)
 }
 
+/// The words that name the files of `check`, one at least.
+fn needed_words<'a>(alloc: Global) -> Arg<'a>
+    ensures rule { rule_of result ≡ needed_words_rule (codes "file") }
+    ensures global { result.global ≡ false }
+{
+    Arg::new(alloc, "file")
+        .num_args(1..)
+        .required(true)
+        .action(ArgAction::Append)
+}
+
+/// The words of `check`: how patterns are read, and its files.
+fn check_command<'a>(alloc: Global) -> Result<Command<'a>, AllocError>
+    ensures { IfOk result (λ c. app_of c ≡ file_app (codes "check") some_files) }
+{
+    let flags = &[("fold", 'i'), ("posix", 'X')];
+    let command = Command::new(alloc, "check").disable_help_flag(true);
+    let command = with_flags(alloc, command, flags)?;
+    command.arg(needed_words(alloc))
+}
+
+/// The words with `check`.
+fn with_check<'a>(alloc: Global, top: Command<'a>) -> Result<Command<'a>, AllocError>
+    ensures { IfOk result (λ c. app_of c
+        ≡ with_subcommand (app_of top.entry) (file_app (codes "check") some_files).top) }
+{
+    top.subcommand(check_command(alloc)?)
+}
+
 /// The words that the program knows.
 fn command<'a>(alloc: Global) -> Result<Command<'a>, AllocError>
     ensures { IfOk result (λ c. app_of c ≡ lexlook_app) }
@@ -186,7 +222,8 @@ fn command<'a>(alloc: Global) -> Result<Command<'a>, AllocError>
     let top = with_look(alloc, top, "lines", one)?;
     let top = with_look(alloc, top, "words", one)?;
     let top = with_look(alloc, top, "trace", one)?;
-    with_letters(alloc, top)
+    let top = with_letters(alloc, top)?;
+    with_check(alloc, top)
 }
 
 /// What the matches ask for.
@@ -198,6 +235,7 @@ fn look_of(alloc: Global, matches: &ArgMatches<'_>) -> Result<Look, ArgsError>
     match matches.subcommand() {
         Some((name, found)) if name == "same" => same_look(alloc, found),
         Some((name, found)) if name == "utf8" => letters_look(alloc, found),
+        Some((name, found)) if name == "check" => check_look(alloc, found),
         Some((name, found)) => one_look(alloc, name, found),
         None => Err(ArgsError::Usage),
     }
@@ -225,6 +263,7 @@ fn named(name: &str) -> Option<Subcommand>
 fn one_look(alloc: Global, name: &str, found: &ArgMatches<'_>) -> Result<Look, ArgsError>
     ensures asked { IfOk result (IsLookOf (Some (name.now, rows_of (found_of found.now)))) }
     ensures refused { IfErr result (λ e. e ≡ ArgsError.Usage → name.now ≢ codes "same" → name.now ≢ codes "utf8"
+        → name.now ≢ codes "check"
         → (look : Look) → IsLookOf (Some (name.now, rows_of (found_of found.now))) look → ⊥) }
 {
     let what = match named(name) {
@@ -275,4 +314,15 @@ fn letters_look(alloc: Global, found: &ArgMatches<'_>) -> Result<Look, ArgsError
             sets: copied(alloc, sets)?,
         }),
     }
+}
+
+/// The faults that the matches behind their name ask for.
+fn check_look(alloc: Global, found: &ArgMatches<'_>) -> Result<Look, ArgsError>
+    ensures asked { IfOk result (IsLookOf (Some (codes "check", rows_of (found_of found.now)))) }
+    ensures memory { IfErr result (λ e. e ≡ ArgsError.OutOfMemory) }
+{
+    Ok(Look::Check {
+        files: files_of(alloc, found)?,
+        patterns: patterns_of(found),
+    })
 }

@@ -1,0 +1,13 @@
+use Rattle.std.proofs.Common.{◌≡◌, ◌∙◌, ap, codes, fold, rules}
+use Rattle.std.proofs.lemmas.Result.{IfOk-weaker}
+use Rattle.clap.specs.Words.{App, app_of, new_app, with_rule}
+use Rattle.lex_command.specs.Flags.{pattern_rules}
+use Rattle.lex_command.specs.LookLine.{without_help}
+use Rattle.lex_command.proofs.CommandLine.{adds_rule}
+use Rattle.lex_command.proofs.look.args.check_command.Goals as goal
+
+pub returns : goal.returns
+returns c =
+    let none : app_of c.disable_help_flag-command.result ≡ without_help (new_app (codes "check")) = search rules in
+    let flags = c.in_ok-command.ensures ∙ ap (λ (a : App). fold with_rule a pattern_rules) none in
+    IfOk-weaker c.arg.result _ _ (λ new h. adds_rule _ _ _ _ _ h c.needed_words.ensures.global flags c.needed_words.ensures.rule) c.arg.ensures

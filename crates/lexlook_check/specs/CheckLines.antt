@@ -1,0 +1,36 @@
+-- The lines that tell what was found. (This project's: POSIX leaves messages to the implementation. `FILE:LINE:` is what compilers of C
+-- write, and what editors read.)
+use Rattle.std.specs.Prelude.{ℕ, ◌==◌, if◌then◌else◌, List, [], ◌∷◌, ◌++◌, flat_map, Option, Some, None, codes, decimal}
+use Rattle.std.specs.List.{concat}
+use Rattle.lexre_bytes.specs.RefusalNames.{kind_name}
+use Rattle.lexre_bytes.specs.declared.refusals.SpecError.{SpecError}
+use Rattle.lexauto.specs.declared.error.BuildError.{BuildError}
+use Rattle.lexauto_reports.specs.ReportLines.{warning_words}
+use Rattle.lexauto_reports.specs.declared.warned.Warning.{Warning}
+use Rattle.lexkit.specs.Faults.{build_words, place_words}
+use Rattle.lexlook_check.specs.Places.{line_place}
+use Rattle.lexlook_check.specs.declared.checking.Checked.{Checked}
+use Rattle.lexlook_check.specs.declared.places.SourceFile.{SourceFile}
+
+-- the file and the line there; of line 0, which is the whole, the file alone
+abbrev pub file_line_words : List SourceFile → ℕ → List ℕ
+file_line_words files n =
+    let place = line_place files n in
+    place.0 ++ (if place.1 == 0 then [] else codes ":" ++ decimal place.1)
+
+-- the line of a fault: what lex tells of it, at the file and the line there
+abbrev pub fault_line : List SourceFile → SpecError → List ℕ
+fault_line files e = concat (file_line_words files e.line ∷ codes ": error: " ∷ kind_name e.kind ∷ place_words e.kind ∷ codes "\n" ∷ [])
+
+-- that of a limit, which the whole passes
+abbrev pub limit_line : List SourceFile → Option BuildError → List ℕ
+limit_line files None = []
+limit_line files (Some e) = concat (file_line_words files 0 ∷ codes ": error: " ∷ build_words e ∷ codes "\n" ∷ [])
+
+-- that of a warning
+abbrev pub warning_at : List SourceFile → Warning → List ℕ
+warning_at files w = concat (file_line_words files w.line ∷ codes ": warning: " ∷ warning_words w.code ∷ codes "\n" ∷ [])
+
+-- all lines: the faults, the limit, the warnings
+abbrev pub check_lines : List SourceFile → Checked → List ℕ
+check_lines files c = concat (flat_map (fault_line files) c.faults.items ∷ limit_line files c.limit ∷ flat_map (warning_at files) c.warnings.items ∷ [])

@@ -1,0 +1,17 @@
+//! What is told of a specification; worked examples.
+ghost use Rattle.lexlook_check.specs.Checks.{NothingToldJustOf};
+ghost use Rattle.lexlook_check.specs.LeavingExamples.{LeavingExamples};
+
+use lexspec::one_specification;
+
+/// Neither a fault nor a limit is found just of a text that spells a specification within the limits.
+pub fn nothing_told()
+    ensures { NothingToldJustOf }
+{
+    one_specification();
+}
+
+/// Texts without a rule, worked by hand.
+pub fn examples_of_leaving()
+    ensures { LeavingExamples }
+{}

@@ -1,0 +1,85 @@
+#!/usr/bin/env python3
+"""Changes the specifications of examples/ at random, and holds the first fault of `lexlook check` to that of lex.
+
+    scripts/campaigns/faults.py LEX LEXLOOK [COUNT [SEED]]
+
+LEX and LEXLOOK are the built programs. COUNT changes are made, 1,000 without it, by the seed SEED, 1 without it. Where lex takes the
+specification, `lexlook check` has to tell no error, with status 0. Where lex refuses it, the first error that is told has lex's kind and
+line, and the status is 1. No two faults may be told at one line, and 100 are the most. A line tells each specification where this is not
+so, which is kept in a folder, and then how many were refused and how many faults were told. The status is 1 where something differs."""
+import os
+import random
+import re
+import subprocess
+import sys
+import tempfile
+
+EXAMPLES = os.path.join(os.path.dirname(os.path.dirname(os.path.dirname(os.path.realpath(__file__)))), "examples")
+PIECES = [b"foo();", b"[z-a]", b"<NONE>", b"{", b"}", b'"', b"(", b")", b"|", b"%{\n", b"%}\n", b"\n", b" ", b"{NONE}", b"/", b"$", b"^", b"\\400",
+          b"REJECT;", b"yyless(0);", b"exit(64);", b"BEGIN(NONE);", b"<<EOF>> ;\n", b"/*", b"*/", b"\t", b"a |\n", b"%option none\n", b"%x INITIAL\n"]
+TOLD = re.compile(rb"(?:lex: line (\d+): |lex: )(.*)\n")
+ERROR = re.compile(rb"[^:]*(?::(\d+))?: error: (.*)\n")
+
+
+def changed(text, chance):
+    """The text with one to four pieces put in, left out or doubled."""
+    for _ in range(chance.randint(1, 4)):
+        at = chance.randrange(len(text) + 1)
+        end = min(len(text), at + chance.choice([1, 1, 2, 5, 20]))
+        how = chance.randrange(4)
+        if how == 0:
+            text = text[:at] + text[end:]
+        elif how == 1:
+            text = text[:end] + text[at:]
+        else:
+            text = text[:at] + chance.choice(PIECES) + text[at:]
+    return text
+
+
+def first_of(pattern, text):
+    """The line, or 0, and the kind that a line tells."""
+    found = pattern.match(text)
+    return (int(found[1] or 0), found[2]) if found else None
+
+
+def wrong_with(lex, lexlook, name):
+    """What differs of a specification, if something does, and how many faults were told."""
+    made = subprocess.run([lex, "-w", "-t", name], capture_output=True)
+    checked = subprocess.run([lexlook, "check", name], capture_output=True)
+    errors = [line for line in checked.stdout.splitlines(keepends=True) if b": error: " in line]
+    places = [ERROR.match(line)[1] for line in errors]
+    wanted = first_of(TOLD, made.stderr) if made.returncode == 65 else None
+    if made.returncode not in (0, 65) or checked.stderr:
+        return f"status {made.returncode}, {checked.stderr}", len(errors)
+    if checked.returncode != (1 if wanted else 0) or (first_of(ERROR, errors[0]) if errors else None) != wanted:
+        return f"lex tells {wanted}, status {checked.returncode}, first {errors[:1]}", len(errors)
+    if len(set(places)) != len(places) or len(places) > 100:
+        return f"{len(places)} faults at {len(set(places))} lines", len(errors)
+    return None, len(errors)
+
+
+def main():
+    lex, lexlook = sys.argv[1:3]
+    count, seed = (int(word) for word in (sys.argv[3:] + ["1000", "1"][len(sys.argv) - 3:])[:2])
+    chance = random.Random(seed)
+    texts = [open(os.path.join(EXAMPLES, it), "rb").read() for it in sorted(os.listdir(EXAMPLES)) if it.endswith(".l")]
+    folder = tempfile.mkdtemp()
+    refused = told = wrong = 0
+    for number in range(count):
+        name = os.path.join(folder, f"{number}.l")
+        with open(name, "wb") as file:
+            file.write(changed(chance.choice(texts), chance))
+        what, faults = wrong_with(lex, lexlook, name)
+        refused += faults > 0
+        told += faults
+        if what:
+            print(f"{name}: {what}")
+            wrong += 1
+        else:
+            os.remove(name)
+    print(f"{count} changes, {refused} refused, {told} faults told, {wrong} told otherwise")
+    return 1 if wrong else 0
+
+
+if __name__ == "__main__":
+    sys.exit(main())
