@@ -2,7 +2,7 @@
 use Rattle.std.proofs.Common.{◌≡◌, ◌↔◌, ℕ, ◌+◌, ◌-◌, ◌<◌, ◌≤◌, min, max, List, [], ◌∷◌, ◌++◌, length, get_or, take, ◌⊎◌, inl, inr, sym, subst, arith}
 use Rattle.std.proofs.lemmas.Bool.{cases_lt}
 use Rattle.std.proofs.lemmas.List.{take_more}
-use Rattle.lexlook_letters.specs.Encoding.{InNoneOf, InOneOf, IsInRange}
+use Rattle.lexlook_letters.specs.Encoding.{InNoneOf, InOneOf, LiesWithin}
 use Rattle.lexlook_letters.specs.declared.ranges.CodeRange.{CodeRange}
 use Rattle.lexlook_letters.proofs.Runs.{in_more, in_first, in_last}
 
@@ -30,10 +30,10 @@ no_more_ranges rs first end none c = (λ h. inl h, from)
 pub both_sides : (old mid new : List CodeRange) (piece taken : CodeRange)
     → ((c : ℕ) → InOneOf mid c ↔ (InOneOf old c ⊎ ((piece.first ≤ c) × (c < min (piece.last + 1) taken.first))))
     → ((c : ℕ) → InOneOf new c ↔ (InOneOf mid c ⊎ ((max piece.first (taken.last + 1) ≤ c) × (c < piece.last + 1))))
-    → (c : ℕ) → InOneOf new c ↔ (InOneOf old c ⊎ (IsInRange piece c × (IsInRange taken c → ⊥)))
+    → (c : ℕ) → InOneOf new c ↔ (InOneOf old c ⊎ (LiesWithin piece c × (LiesWithin taken c → ⊥)))
 both_sides old mid new piece taken below above c = (to, from)
   where
-    to : InOneOf new c → InOneOf old c ⊎ (IsInRange piece c × (IsInRange taken c → ⊥))
+    to : InOneOf new c → InOneOf old c ⊎ (LiesWithin piece c × (LiesWithin taken c → ⊥))
     to h = elim ((above c).0 h) [
       | inl k ↦ elim ((below c).0 k) [
         | inl o ↦ inl o
@@ -42,7 +42,7 @@ both_sides old mid new piece taken below above c = (to, from)
       | inr b ↦ (let l = b.0 in let m = b.1 in inr ((omega arith, omega arith), λ t. (let n = t.1 in absurd (omega arith))))
     ]
 
-    from : InOneOf old c ⊎ (IsInRange piece c × (IsInRange taken c → ⊥)) → InOneOf new c
+    from : InOneOf old c ⊎ (LiesWithin piece c × (LiesWithin taken c → ⊥)) → InOneOf new c
     from (inl h) = (above c).1 (inl ((below c).1 (inl h)))
     from (inr ((l, m), out)) = elim (cases_lt c taken.first) [
       | inl low ↦ (above c).1 (inl ((below c).1 (inr (l, omega arith))))
@@ -53,24 +53,24 @@ both_sides old mid new piece taken below above c = (to, from)
     ]
 
 abbrev pub IsLeft : List CodeRange → List CodeRange → CodeRange → Type 0
-IsLeft left pieces taken = (c : ℕ) → InOneOf left c ↔ (InOneOf pieces c × (IsInRange taken c → ⊥))
+IsLeft left pieces taken = (c : ℕ) → InOneOf left c ↔ (InOneOf pieces c × (LiesWithin taken c → ⊥))
 
 pub none_left : (taken : CodeRange) → IsLeft [] [] taken
 none_left taken c = (λ h. absurd h, λ h. h.0)
 
 -- a piece more is gone over
 pub piece_more : (left new pieces : List CodeRange) (piece taken : CodeRange) → IsLeft left pieces taken
-    → ((c : ℕ) → InOneOf new c ↔ (InOneOf left c ⊎ (IsInRange piece c × (IsInRange taken c → ⊥))))
+    → ((c : ℕ) → InOneOf new c ↔ (InOneOf left c ⊎ (LiesWithin piece c × (LiesWithin taken c → ⊥))))
     → IsLeft new (pieces ++ piece ∷ []) taken
 piece_more left new pieces piece taken so_far more c = (to, from)
   where
-    to : InOneOf new c → InOneOf (pieces ++ piece ∷ []) c × (IsInRange taken c → ⊥)
+    to : InOneOf new c → InOneOf (pieces ++ piece ∷ []) c × (LiesWithin taken c → ⊥)
     to h = elim ((more c).0 h) [
       | inl k ↦ (let both = (so_far c).0 k in (in_first pieces piece c both.0, both.1))
       | inr k ↦ (in_last pieces piece c k.0, k.1)
     ]
 
-    from : InOneOf (pieces ++ piece ∷ []) c × (IsInRange taken c → ⊥) → InOneOf new c
+    from : InOneOf (pieces ++ piece ∷ []) c × (LiesWithin taken c → ⊥) → InOneOf new c
     from (h, out) = elim (in_more pieces piece c h) [
       | inl k ↦ (more c).1 (inl ((so_far c).1 (k, out)))
       | inr k ↦ (more c).1 (inr (k, out))
@@ -105,7 +105,7 @@ range_more left new ranges range so_far more c = (to, from)
 -- the same by places in a list
 
 pub piece_step : (left new pieces : List CodeRange) (taken : CodeRange) (i : ℕ) (d : CodeRange) → i < length pieces → IsLeft left (take i pieces) taken
-    → ((c : ℕ) → InOneOf new c ↔ (InOneOf left c ⊎ (IsInRange (get_or pieces i d) c × (IsInRange taken c → ⊥))))
+    → ((c : ℕ) → InOneOf new c ↔ (InOneOf left c ⊎ (LiesWithin (get_or pieces i d) c × (LiesWithin taken c → ⊥))))
     → IsLeft new (take (i + 1) pieces) taken
 piece_step left new pieces taken i d h so_far more =
     subst (λ (x : List CodeRange). IsLeft new x taken) (sym (take_more pieces i d h)) (piece_more left new (take i pieces) (get_or pieces i d) taken so_far more)

@@ -4,7 +4,7 @@ use Rattle.std.specs.List.{AllByRecursion}
 use Rattle.std.proofs.lemmas.Bool.{cases_lt}
 use Rattle.std.proofs.lemmas.List.{take_more}
 use Rattle.lexlook_letters.specs.Cutting.{IsEncodingWithin}
-use Rattle.lexlook_letters.specs.Encoding.{InOneOf, IsEncodingOf, IsInRange, encoding}
+use Rattle.lexlook_letters.specs.Encoding.{InOneOf, IsEncodingOf, LiesWithin, encoding}
 use Rattle.lexlook_letters.specs.Sequences.{AddsWords, FollowsOne, HasByteOfEach, IsSoundSequence, byte_ranges}
 use Rattle.lexlook_letters.specs.declared.ranges.CodeRange.{CodeRange}
 use Rattle.lexlook_letters.specs.declared.sequence.Sequence.{Sequence}
@@ -118,14 +118,14 @@ added_twice before found after P Q R one two both = record { words = λ w. (to w
 
 -- the code points of a range that have an encoding stand before the surrogates or after them
 pub round_surrogates : (r : CodeRange) (w : List ℕ)
-    → IsEncodingOf (IsInRange r) w ↔ (IsEncodingWithin r.first (min r.last 0xD7FF) w ⊎ IsEncodingWithin (max r.first 0xE000) (min r.last 0x10FFFF) w)
+    → IsEncodingOf (LiesWithin r) w ↔ (IsEncodingWithin r.first (min r.last 0xD7FF) w ⊎ IsEncodingWithin (max r.first 0xE000) (min r.last 0x10FFFF) w)
 round_surrogates r w = (to, from)
   where
-    to : IsEncodingOf (IsInRange r) w → IsEncodingWithin r.first (min r.last 0xD7FF) w ⊎ IsEncodingWithin (max r.first 0xE000) (min r.last 0x10FFFF) w
+    to : IsEncodingOf (LiesWithin r) w → IsEncodingWithin r.first (min r.last 0xD7FF) w ⊎ IsEncodingWithin (max r.first 0xE000) (min r.last 0x10FFFF) w
     to (c, (l, m), (top, inl below), e) = inl (c, l, omega arith, e)
     to (c, (l, m), (top, inr above), e) = inr (c, omega arith, omega arith, e)
 
-    from : IsEncodingWithin r.first (min r.last 0xD7FF) w ⊎ IsEncodingWithin (max r.first 0xE000) (min r.last 0x10FFFF) w → IsEncodingOf (IsInRange r) w
+    from : IsEncodingWithin r.first (min r.last 0xD7FF) w ⊎ IsEncodingWithin (max r.first 0xE000) (min r.last 0x10FFFF) w → IsEncodingOf (LiesWithin r) w
     from (inl (c, l, m, e)) = (c, (l, omega arith), (omega arith, inl (omega arith)), e)
     from (inr (c, l, m, e)) = (c, (omega arith, omega arith), (omega arith, inr (omega arith)), e)
 
@@ -134,7 +134,7 @@ round_surrogates r w = (to, from)
 pub no_ranges : (w : List ℕ) → IsEncodingOf (InOneOf []) w → ⊥
 no_ranges w (c, inside, is, e) = inside
 
-pub in_more : (rs : List CodeRange) (r : CodeRange) (c : ℕ) → InOneOf (rs ++ r ∷ []) c → InOneOf rs c ⊎ IsInRange r c
+pub in_more : (rs : List CodeRange) (r : CodeRange) (c : ℕ) → InOneOf (rs ++ r ∷ []) c → InOneOf rs c ⊎ LiesWithin r c
 in_more [] r c (inl h) = inr h
 in_more [] r c (inr h) = absurd h
 in_more (s ∷ rs) r c (inl h) = inl (inl h)
@@ -145,17 +145,17 @@ in_first [] r c h = absurd h
 in_first (s ∷ rs) r c (inl h) = inl h
 in_first (s ∷ rs) r c (inr h) = inr (in_first rs r c h)
 
-pub in_last : (rs : List CodeRange) (r : CodeRange) (c : ℕ) → IsInRange r c → InOneOf (rs ++ r ∷ []) c
+pub in_last : (rs : List CodeRange) (r : CodeRange) (c : ℕ) → LiesWithin r c → InOneOf (rs ++ r ∷ []) c
 in_last [] r c h = inl h
 in_last (s ∷ rs) r c h = inr (in_last rs r c h)
 
-pub one_range_more : (rs : List CodeRange) (r : CodeRange) (w : List ℕ) → IsEncodingOf (InOneOf (rs ++ r ∷ [])) w ↔ (IsEncodingOf (InOneOf rs) w ⊎ IsEncodingOf (IsInRange r) w)
+pub one_range_more : (rs : List CodeRange) (r : CodeRange) (w : List ℕ) → IsEncodingOf (InOneOf (rs ++ r ∷ [])) w ↔ (IsEncodingOf (InOneOf rs) w ⊎ IsEncodingOf (LiesWithin r) w)
 one_range_more rs r w = (to, from)
   where
-    to : IsEncodingOf (InOneOf (rs ++ r ∷ [])) w → IsEncodingOf (InOneOf rs) w ⊎ IsEncodingOf (IsInRange r) w
+    to : IsEncodingOf (InOneOf (rs ++ r ∷ [])) w → IsEncodingOf (InOneOf rs) w ⊎ IsEncodingOf (LiesWithin r) w
     to (c, inside, is, e) = elim (in_more rs r c inside) [ inl h ↦ inl (c, h, is, e) | inr h ↦ inr (c, h, is, e) ]
 
-    from : IsEncodingOf (InOneOf rs) w ⊎ IsEncodingOf (IsInRange r) w → IsEncodingOf (InOneOf (rs ++ r ∷ [])) w
+    from : IsEncodingOf (InOneOf rs) w ⊎ IsEncodingOf (LiesWithin r) w → IsEncodingOf (InOneOf (rs ++ r ∷ [])) w
     from (inl (c, h, is, e)) = (c, in_first rs r c h, is, e)
     from (inr (c, h, is, e)) = (c, in_last rs r c h, is, e)
 
@@ -171,7 +171,7 @@ from_nothing after P adds w = (to, from)
 
 -- a range more of a list
 pub range_step : (found after : List Sequence) (rs : List CodeRange) (i : ℕ) (d : CodeRange) → i < length rs
-    → AddsWords [] found (IsEncodingOf (InOneOf (take i rs))) → AddsWords found after (IsEncodingOf (IsInRange (get_or rs i d)))
+    → AddsWords [] found (IsEncodingOf (InOneOf (take i rs))) → AddsWords found after (IsEncodingOf (LiesWithin (get_or rs i d)))
     → AddsWords [] after (IsEncodingOf (InOneOf (take (i + 1) rs)))
 range_step found after rs i d h so_far more =
     subst (λ (x : List CodeRange). AddsWords [] after (IsEncodingOf (InOneOf x))) (sym (take_more rs i d h))
@@ -179,6 +179,6 @@ range_step found after rs i d h so_far more =
 
 -- a range, before the surrogates and after them
 pub range_added : (before found after : List Sequence) (r : CodeRange) (a b c : ℕ) → a ≡ min r.last 0xD7FF → b ≡ max r.first 0xE000 → c ≡ min r.last 0x10FFFF
-    → AddsWords before found (IsEncodingWithin r.first a) → AddsWords found after (IsEncodingWithin b c) → AddsWords before after (IsEncodingOf (IsInRange r))
+    → AddsWords before found (IsEncodingWithin r.first a) → AddsWords found after (IsEncodingWithin b c) → AddsWords before after (IsEncodingOf (LiesWithin r))
 range_added before found after r a b c e f g one two =
     added_twice before found after _ _ _ one two (λ w. rw (e, f, g) (round_surrogates r w))

@@ -20,13 +20,13 @@ encoding c =
     else (0xF0 + c / 64 / 64 / 64) ∷ going_on (c / 64 / 64) ∷ going_on (c / 64) ∷ going_on c ∷ []
 
 -- from the first of the range to its last
-abbrev pub IsInRange : CodeRange → ℕ → Type 0
-IsInRange r c = (r.first ≤ c) × (c ≤ r.last)
+abbrev pub LiesWithin : CodeRange → ℕ → Type 0
+LiesWithin r c = (r.first ≤ c) × (c ≤ r.last)
 
 -- within one of the ranges
 abbrev pub InOneOf : List CodeRange → ℕ → Type 0
 InOneOf [] c = ⊥
-InOneOf (r ∷ rs) c = IsInRange r c ⊎ InOneOf rs c
+InOneOf (r ∷ rs) c = LiesWithin r c ⊎ InOneOf rs c
 
 -- a number up to U+10FFFF that is within none of them
 abbrev pub InNoneOf : List CodeRange → ℕ → Type 0

@@ -1,6 +1,6 @@
 //! The code points that ranges leave out.
 ghost use Rattle.std.specs.Prelude.{◌≡◌, ◌↔◌, ℕ, ◌^◌, ◌<◌, ◌≤◌, ◌⊎◌, IfOk, OnOk};
-ghost use Rattle.lexlook_letters.specs.Encoding.{InNoneOf, InOneOf, IsInRange};
+ghost use Rattle.lexlook_letters.specs.Encoding.{InNoneOf, InOneOf, LiesWithin};
 
 use crate::cutting::LAST;
 use crate::ranges::CodeRange;
@@ -28,7 +28,7 @@ fn push_left(
     taken: CodeRange,
 ) -> Result<(), AllocError>
     ensures { OnOk result ((c : ℕ) → InOneOf left.new.items c
-        ↔ (InOneOf left.old.items c ⊎ (IsInRange piece c × (IsInRange taken c → ⊥)))) }
+        ↔ (InOneOf left.old.items c ⊎ (LiesWithin piece c × (LiesWithin taken c → ⊥)))) }
 {
     let first = u64::from(piece.first);
     let end = u64::from(piece.last) + 1;
@@ -43,7 +43,7 @@ fn without(
     taken: CodeRange,
 ) -> Result<Vec<CodeRange>, AllocError>
     ensures { IfOk result (λ left. (c : ℕ) → InOneOf left.items c
-        ↔ (InOneOf pieces.now c × (IsInRange taken c → ⊥))) }
+        ↔ (InOneOf pieces.now c × (LiesWithin taken c → ⊥))) }
 {
     let mut left = Vec::new(alloc);
     for piece in pieces {

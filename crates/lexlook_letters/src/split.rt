@@ -2,7 +2,7 @@
 ghost use Rattle.std.specs.Prelude.{◌≡◌, ◌↔◌, ℕ, ◌≤◌, IfOk, List, OnOk};
 ghost use Rattle.std.specs.List.{AllByRecursion};
 ghost use Rattle.lexlook_letters.specs.Cutting.{IsEncodingWithin};
-ghost use Rattle.lexlook_letters.specs.Encoding.{InOneOf, IsEncodingOf, IsInRange};
+ghost use Rattle.lexlook_letters.specs.Encoding.{InOneOf, IsEncodingOf, LiesWithin};
 ghost use Rattle.lexlook_letters.specs.Sequences.{AddsWords, FollowsOne, IsSoundSequence};
 
 use crate::cutting::{LAST, piece_end};
@@ -31,7 +31,7 @@ fn add_run(found: &mut Vec<Sequence>, first: u32, last: u32) -> Result<(), Alloc
 
 /// Adds the sequences of the code points of a range that have an encoding.
 fn add_range(found: &mut Vec<Sequence>, range: CodeRange) -> Result<(), AllocError>
-    ensures { OnOk result (AddsWords found.old.items found.new.items (IsEncodingOf (IsInRange range))) }
+    ensures { OnOk result (AddsWords found.old.items found.new.items (IsEncodingOf (LiesWithin range))) }
 {
     add_run(found, range.first, range.last.min(BEFORE_SURROGATES))?;
     add_run(
