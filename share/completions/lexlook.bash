@@ -3,8 +3,8 @@
 _lexlook() {
     COMPREPLY=()
     if ((COMP_CWORD == 1)); then
-        mapfile -t COMPREPLY < <(compgen -W 'picture same lines words trace check --help --version' -- "$2")
-    elif [[ $2 == -* ]]; then
+        mapfile -t COMPREPLY < <(compgen -W 'picture same lines words trace utf8 check --help --version' -- "$2")
+    elif [[ $2 == -* && ${COMP_WORDS[1]} != utf8 ]]; then
         mapfile -t COMPREPLY < <(compgen -W '-i -X' -- "$2")
     fi
 }
