@@ -4,7 +4,8 @@
 #     scripts/flex/flex-output.sh SPEC INPUT [FLAGS]
 #
 # writes it to standard output and ends with the scanner's status; FLAGS are flex's own, such as -i. With no arguments it
-# writes examples/NAME.output for each examples/NAME.l and NAME.input, and the status to NAME.status where it is not 0.
+# writes examples/NAME.output for each examples/NAME.l and NAME.input, and the status to NAME.status where it is not 0. What flex
+# refuses stays as it is: identifiers.l, whose definitions are too long for it.
 #
 # It wants flex 2.6.4 and a C compiler (apt-get install flex gcc), and is no part of the gate.
 set -euo pipefail
@@ -30,6 +31,10 @@ fi
 cd "$(dirname "$0")/../../examples"
 for spec in *.l; do
     name=${spec%.l}
+    if ! flex -o /dev/null "$spec" 2> /dev/null; then
+        echo "$name: refused by flex"
+        continue
+    fi
     status=0
     flex_output "$folder" "$spec" "$name.input" > "$name.output" || status=$?
     rm -f "$name.status"

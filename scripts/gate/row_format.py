@@ -6,7 +6,7 @@ ESCAPES = {ord("\n"): "\\n", ord("\t"): "\\t", ord("\r"): "\\r", ord("\\"): "\\\
 
 def escaped(text):
     """The text in one line, byte by byte."""
-    return "".join(ESCAPES.get(it) or (chr(it) if 32 <= it < 127 else f"\\x{it:02x}") for it in text.encode())
+    return "".join(ESCAPES.get(it) or (chr(it) if 32 <= it < 127 else f"\\x{it:02x}") for it in text.encode(errors="surrogateescape"))
 
 
 def field(name, text):

@@ -105,10 +105,10 @@ def examples():
     groups = []
     for spec in sorted(ROOT.glob("examples/*.l")):
         status = spec.with_suffix(".status")
-        texts = [spec.with_suffix(end).read_bytes().decode() for end in (".l", ".input", ".output")]
+        texts = [spec.with_suffix(end).read_bytes().decode(errors="surrogateescape") for end in (".l", ".input", ".output")]
         scan = Scan(*texts, int(status.read_text()) if status.exists() else 0)
         groups.append(group(spec.stem, [scan_row(scan)]))
-    return file("# The specifications of examples/, with what flex 2.6.4 writes: written by scripts/gate/rows.py.\n", *groups)
+    return file("# The specifications of examples/, with what flex 2.6.4 writes, or Python where flex refuses one: written by scripts/gate/rows.py.\n", *groups)
 
 
 def examples_of_manual(text):
