@@ -4,8 +4,8 @@
     scripts/campaigns/faults.py LEX LEXLOOK [COUNT [SEED]]
 
 LEX and LEXLOOK are the built programs. COUNT changes are made, 1,000 without it, by the seed SEED, 1 without it. Where lex takes the
-specification, `lexlook check` has to tell no error, with status 0. Where lex refuses it, the first error that is told has lex's kind and
-line, and the status is 1. No two faults may be told at one line, and 100 are the most. A line tells each specification where this is not
+specification, `lexlook check` has to tell no error, with status 0. Where lex refuses it, the first error that is told has lex's kind, line
+and offset, and the status is 1. No two faults may be told at one line, and 100 are the most. A line tells each specification where this is not
 so, which is kept in a folder, and then how many were refused and how many faults were told. The status is 1 where something differs."""
 import os
 import random
@@ -17,8 +17,8 @@ import tempfile
 EXAMPLES = os.path.join(os.path.dirname(os.path.dirname(os.path.dirname(os.path.realpath(__file__)))), "examples")
 PIECES = [b"foo();", b"[z-a]", b"<NONE>", b"{", b"}", b'"', b"(", b")", b"|", b"%{\n", b"%}\n", b"\n", b" ", b"{NONE}", b"/", b"$", b"^", b"\\400",
           b"REJECT;", b"yyless(0);", b"exit(64);", b"BEGIN(NONE);", b"<<EOF>> ;\n", b"/*", b"*/", b"\t", b"a |\n", b"%option none\n", b"%x INITIAL\n"]
-TOLD = re.compile(rb"(?:lex: line (\d+): |lex: )(.*)\n")
-ERROR = re.compile(rb"[^:]*(?::(\d+))?: error: (.*)\n")
+TOLD = re.compile(rb"(?:lex: line (\d+): |lex: )(\w+)(?: at (\d+))?\n")
+ERROR = re.compile(rb"[^: ]*(?::(\d+))?(?::(\d+))?: error: (\w+)\n")
 
 
 def changed(text, chance):
@@ -36,22 +36,28 @@ def changed(text, chance):
     return text
 
 
-def first_of(pattern, text):
-    """The line, or 0, and the kind that a line tells."""
-    found = pattern.match(text)
-    return (int(found[1] or 0), found[2]) if found else None
+def refusal(text):
+    """The line, or 0, the column, or 0, and the kind that lex tells."""
+    found = TOLD.match(text)
+    return (int(found[1] or 0), int(found[3]) + 1 if found[3] else 0, found[2]) if found else None
+
+
+def fault(line):
+    """The same of a line of lexlook, where it is one of a fault."""
+    found = ERROR.fullmatch(line)
+    return (int(found[1] or 0), int(found[2] or 0), found[3]) if found else None
 
 
 def wrong_with(lex, lexlook, name):
     """What differs of a specification, if something does, and how many faults were told."""
     made = subprocess.run([lex, "-w", "-t", name], capture_output=True)
     checked = subprocess.run([lexlook, "check", name], capture_output=True)
-    errors = [line for line in checked.stdout.splitlines(keepends=True) if b": error: " in line]
-    places = [ERROR.match(line)[1] for line in errors]
-    wanted = first_of(TOLD, made.stderr) if made.returncode == 65 else None
+    errors = [it for it in map(fault, checked.stdout.splitlines(keepends=True)) if it]
+    places = [it[0] for it in errors]
+    wanted = refusal(made.stderr) if made.returncode == 65 else None
     if made.returncode not in (0, 65) or checked.stderr:
         return f"status {made.returncode}, {checked.stderr}", len(errors)
-    if checked.returncode != (1 if wanted else 0) or (first_of(ERROR, errors[0]) if errors else None) != wanted:
+    if checked.returncode != (1 if wanted else 0) or (errors[0] if errors else None) != wanted:
         return f"lex tells {wanted}, status {checked.returncode}, first {errors[:1]}", len(errors)
     if len(set(places)) != len(places) or len(places) > 100:
         return f"{len(places)} faults at {len(set(places))} lines", len(errors)

@@ -164,7 +164,7 @@ def examples_of_lexlook(text):
         row(
             "check",
             ("names", "draft.l b.l"),
-            ("spec", after(every, "`draft.l` is this:")),
+            ("spec", after(every, "Say that `draft.l` is")),
             ("written", after(every, "Then `lexlook check draft.l`")),
             ("told", "status 1\n"),
         ),

@@ -1,5 +1,5 @@
 -- The faults that are told so far, and those behind them.
-use Rattle.std.proofs.Common.{◌≡◌, ◌≢◌, ℕ, ◌+◌, ◌-◌, ◌<◌, ◌≤◌, false, List, [], ◌∷◌, ◌++◌, length, Option, Some, None, Result, Ok, Err, refl, sym, ap, subst, append_assoc, append-nil, length-append, arith, ◌∙◌}
+use Rattle.std.proofs.Common.{◌≡◌, ◌≢◌, ℕ, ◌+◌, ◌-◌, ◌<◌, ◌≤◌, false, List, [], ◌∷◌, ◌++◌, length, Option, Some, None, Result, Ok, Err, refl, sym, subst, append_assoc, append-nil, length-append, arith, ◌∙◌}
 use Rattle.lexre_bytes.specs.declared.refusals.SpecError.{SpecError}
 use Rattle.lexkit.specs.Faults.{lacks_memory}
 use Rattle.lexlook_check.specs.Leaving.{without_rule_at}

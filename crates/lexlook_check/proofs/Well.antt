@@ -1,5 +1,5 @@
 -- Nothing is told just of a specification within the limits.
-use Rattle.std.proofs.Common.{◌≡◌, ◌↔◌, ℕ, ◌==◌, ◌&&◌, ◌<◌, ◌≤◌, Bool, true, false, List, [], ◌∷◌, length, Option, Some, None, is_none, Err, refl, sym, subst, arith}
+use Rattle.std.proofs.Common.{◌≡◌, ℕ, ◌==◌, ◌&&◌, Bool, true, false, List, [], ◌∷◌, length, Option, Some, None, is_none, refl, sym, subst, arith}
 use Rattle.lex_semantics.specs.Spec.{Spec}
 use Rattle.lexre.specs.declared.options.ReadOptions.{ReadOptions}
 use Rattle.lexre_bytes.specs.Memory.{UnlessMemory}

@@ -1,5 +1,5 @@
 -- What is found of a text. (This project's.)
-use Rattle.std.specs.Prelude.{◌≡◌, ◌≢◌, ◌↔◌, ℕ, ◌==◌, ◌&&◌, ◌≤◌, Bool, true, List, [], length, Option, Some, None, is_none, Ok}
+use Rattle.std.specs.Prelude.{◌≡◌, ◌≢◌, ◌↔◌, ℕ, ◌==◌, ◌&&◌, Bool, true, List, [], length, Option, Some, None, is_none, Ok}
 use Rattle.lex_semantics.specs.Spec.{Spec}
 use Rattle.lexspec.specs.Files.{SpellsSpec}
 use Rattle.lexauto.specs.declared.error.BuildError.{BuildError}

@@ -3,5 +3,7 @@ pub mod LeavingExamples
 pub mod Finding
 pub mod Checks
 pub mod Places
+pub mod SourceLines
+pub mod Hints
 pub mod CheckLines
 pub mod Telling

@@ -1,6 +1,7 @@
 -- What is written of the files of a specification. (This project's.)
 use Rattle.std.specs.Prelude.{◌≡◌, ℕ, Bool, List, Result, Ok, Err}
 use Rattle.lex_io.specs.Sink.{Appended}
+use Rattle.lexspec_lines.specs.Lines.{without_returns}
 use Rattle.lexkit.specs.Failures.{out_of_memory}
 use Rattle.lexkit.specs.declared.failure.Failure.{Failure}
 use Rattle.lexkit.specs.declared.failure.Failure.TheVariants as failures
@@ -17,7 +18,14 @@ use Rattle.lexlook_check.specs.declared.places.SourceFile.{SourceFile}
 pub record CheckTold {K : Type 0} (wrote : K → List ℕ → K → Type 0) (options : Options) (files : List SourceFile) (s t : K) (answer : Result Bool CheckError) : Type 0 where
   pub checked : Checked
   pub is_checked : IsChecked options (joined_text files) checked
-  pub written : Appended (λ xs. wrote s xs t) (check_lines files checked) answer
+  pub written : Appended (λ xs. wrote s xs t) (check_lines files (without_returns (joined_text files)) checked) answer
+
+-- of files these lines are to be written, and nothing is wrong or something is
+pub record IsTellingOf (options : Options) (files : List SourceFile) (lines : List ℕ) (well : Bool) : Type 0 where
+  pub checked : Checked
+  pub is_checked : IsChecked options (joined_text files) checked
+  pub lines_are : lines ≡ check_lines files (without_returns (joined_text files)) checked
+  pub well_is : well ≡ is_well checked
 
 -- What was told of files: the answer says whether nothing is wrong. Where memory runs out the sink is as it was.
 abbrev pub TellsCheck : {K : Type 0} → (K → List ℕ → K → Type 0) → Options → List SourceFile → K → K → Result Bool CheckError → Type 0

@@ -6,13 +6,15 @@
 //! - `finding`: the faults that a reader answers of a text, each behind that of the text without the rules before.
 //! - `checking`: the faults, the limit that the automaton of what is left passes, and the warnings: `check`.
 //! - `places`: the files, as one text, and in which of them a line stands.
+//! - `source`: the line of a fault as it stands, with a mark under its place.
+//! - `hints`: what is expected where a fault is.
 //! - `lines`: the lines of what was found.
 //! - `telling`: what is written of files, `tell_check`.
 //! - `laws`: nothing is told just of a specification within the limits; worked examples.
 //!
 //! It promises that the first fault is the reader's own, kind and line, and that each other one is the reader's of what the
-//! definitions of `specs/Leaving` leave of the text. What a fault is, and at which line, lexspec says. Words of lines are in
-//! `specs/CheckLines`, and stand in docs/MANUAL.md too. It is for lexlook alone, and lex's own lines stay as they are.
+//! definitions of `specs/Leaving` leave of the text. What a fault is, at which line and where in it, lexspec says. Words of
+//! lines are in `specs/CheckLines` and `specs/Hints`. It is for lexlook alone, and lex's own lines stay as they are.
 //!
 //! - **The reader is one call.** It is asked again of each text that is left, so no second reader has to agree with it. That
 //!   takes a reading for each fault, and 100 faults are the most.
@@ -21,17 +23,21 @@
 //!   rule begins so, but one of `}`. An action in braces whose lines begin at the margin is not left out whole, and what
 //!   is left of it may be told too. Braces are not counted: one in a quoted pattern would leave out all that follows.
 //! - **Where nothing can be left out, the fault is the last**: that of a text without `%%`, and of one that is too long.
+//! - **A column is told of patterns alone**, since lexspec tells no other. It counts bytes, and a mark stands under a blank
+//!   for each byte before it, or a tab.
 //! - **What is left out may be missed elsewhere.** Without the line of a definition each rule that uses the name is at fault.
 #![tactic(auto)]
 
 mod checking;
 mod error;
 mod finding;
+mod hints;
 mod laws;
 mod leaving;
 mod lines;
 mod places;
 mod reader;
+mod source;
 mod telling;
 
 pub use checking::{Checked, check};

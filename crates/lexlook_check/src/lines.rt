@@ -1,16 +1,18 @@
 //! The lines of what was found.
-ghost use Rattle.std.specs.Prelude.{◌≡◌, ◌++◌, IfOk, OnOk, flat_map};
+ghost use Rattle.std.specs.Prelude.{◌≡◌, ◌++◌, ◌<◌, ◌-◌, ◌^◌, IfOk, IfSome, OnOk, flat_map};
 ghost use Rattle.lexauto_reports.specs.ReportLines.{warning_words};
-ghost use Rattle.lexkit.specs.Faults.{build_words, place_words};
-ghost use Rattle.lexlook_check.specs.CheckLines.{check_lines, fault_line, file_line_words, limit_line, warning_at};
+ghost use Rattle.lexkit.specs.Faults.{build_words};
+ghost use Rattle.lexlook_check.specs.CheckLines.{check_lines, column_words, fault_lines, file_line_words, limit_line, warning_at};
 
 use crate::checking::Checked;
+use crate::hints::add_hint;
 use crate::places::{SourceFile, line_place};
+use crate::source::{add_source, fault_offset, text_line};
 use itoa::Buffer;
 use lexauto::BuildError;
 use lexauto_reports::Warning;
 use lexlook_specs::{add, add_number};
-use lexspec::{SpecError, SpecErrorKind};
+use lexspec::SpecError;
 use std::alloc::{AllocError, Global};
 
 /// Appends the file in which a line stands, and its number there. Line 0 is the whole of the first file.
@@ -26,45 +28,54 @@ fn add_place(text: &mut Vec<u8>, files: &[SourceFile<'_>], line: u32) -> Result<
     add_number(text, place.line)
 }
 
-/// Appends where in a rule's line the fault of a pattern is, from 0.
-fn add_offset(text: &mut Vec<u8>, kind: SpecErrorKind) -> Result<(), AllocError>
-    ensures { OnOk result (text.new.items ≡ text.old.items ++ place_words kind) }
+/// Appends the column of a fault, from 1, where it has one.
+fn add_column(text: &mut Vec<u8>, offset: Option<usize>) -> Result<(), AllocError>
+    requires { IfSome offset (λ at. at < 2 ^ 64 - 1) }
+    ensures { OnOk result (text.new.items ≡ text.old.items ++ column_words offset) }
 {
-    match kind {
-        SpecErrorKind::Pattern(error) => {
+    match offset {
+        None => add(text, b""),
+        Some(at) => {
             let mut digits = Buffer::new();
-            add(text, b" at ")?;
-            add(text, digits.format(error.at).as_bytes())
+            add(text, b":")?;
+            add(text, digits.format(at + 1).as_bytes())
         }
-        _ => add(text, b""),
     }
 }
 
-/// Appends the line of a fault.
+/// Appends the lines of a fault of a text.
 fn add_fault(
     text: &mut Vec<u8>,
     files: &[SourceFile<'_>],
+    whole: &[u8],
     fault: SpecError,
 ) -> Result<(), AllocError>
-    ensures { OnOk result (text.new.items ≡ text.old.items ++ fault_line files.now fault) }
+    ensures { OnOk result (text.new.items ≡ text.old.items ++ fault_lines files.now whole.now fault) }
 {
+    let line = text_line(whole, fault.line);
+    let offset = fault_offset(fault.kind, line);
+    let number = line_place(files, fault.line).line;
     add_place(text, files, fault.line)?;
+    add_column(text, offset)?;
     add(text, b": error: ")?;
     add(text, fault.kind.name().as_bytes())?;
-    add_offset(text, fault.kind)?;
-    add(text, b"\n")
+    add(text, b"\n")?;
+    add_source(text, number, line, offset)?;
+    add_hint(text, number, fault.kind)
 }
 
-/// Appends the lines of faults.
+/// Appends the lines of faults of a text.
 fn add_faults(
     text: &mut Vec<u8>,
     files: &[SourceFile<'_>],
+    whole: &[u8],
     faults: &[SpecError],
 ) -> Result<(), AllocError>
-    ensures { OnOk result (text.new.items ≡ text.old.items ++ flat_map (fault_line files.now) faults.now) }
+    ensures { OnOk result (text.new.items
+        ≡ text.old.items ++ flat_map (fault_lines files.now whole.now) faults.now) }
 {
     for fault in faults {
-        add_fault(text, files, *fault)?;
+        add_fault(text, files, whole, *fault)?;
     }
     Ok(())
 }
@@ -138,16 +149,17 @@ fn add_warnings(
     Ok(())
 }
 
-/// The lines of what was found: the faults, the limit, and the warnings.
+/// The lines of what was found of a text: the faults, the limit, and the warnings.
 pub(crate) fn check_lines(
     alloc: Global,
     files: &[SourceFile<'_>],
+    whole: &[u8],
     checked: &Checked,
 ) -> Result<Vec<u8>, AllocError>
-    ensures { IfOk result (λ text. text.items ≡ check_lines files.now checked.now) }
+    ensures { IfOk result (λ text. text.items ≡ check_lines files.now whole.now checked.now) }
 {
     let mut text = Vec::new(alloc);
-    add_faults(&mut text, files, checked.faults.as_slice())?;
+    add_faults(&mut text, files, whole, checked.faults.as_slice())?;
     add_limit(&mut text, files, checked.limit)?;
     add_warnings(&mut text, files, checked.warnings.as_slice())?;
     Ok(text)

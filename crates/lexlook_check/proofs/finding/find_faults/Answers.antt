@@ -1,4 +1,4 @@
-use Rattle.std.proofs.Common.{◌≡◌, ◌≢◌, ◌<◌, ◌≤◌, ◌∙◌, ℕ, List, length, false, Result, Ok, Err, sym, ap, subst, arith}
+use Rattle.std.proofs.Common.{◌≡◌, ◌≢◌, ◌<◌, ◌≤◌, ◌∙◌, ℕ, List, length, false, Ok, Err, sym, ap, subst, arith}
 use Rattle.std.specs.Cmp.Lexicographic.{other_text}
 use Rattle.lexkit.specs.Faults.{lacks_memory}
 use Rattle.lexlook_check.specs.Leaving.{without_rule_at}

@@ -1,4 +1,4 @@
-use Rattle.std.proofs.Common.{List, ℕ, Result, sym, subst}
+use Rattle.std.proofs.Common.{Result, sym, subst}
 use Rattle.lexre_bytes.specs.declared.refusals.SpecError.{SpecError}
 use Rattle.lexlook_check.specs.Finding.{ReadsSpec}
 use Rattle.lexlook_check.proofs.Reading.{all_unless}

@@ -1,0 +1,134 @@
+//! What is expected where a fault is.
+ghost use Rattle.std.specs.Prelude.{◌≡◌, ◌++◌, OnOk};
+ghost use Rattle.lexlook_check.specs.Hints.{action_hint, definition_hint, hint_words, pattern_hint, rule_hint};
+
+use crate::source::add_under;
+use itoa::Buffer;
+use lexlook_specs::add;
+use lexspec::{PatternErrorKind, SpecErrorKind};
+use std::alloc::AllocError;
+
+/// What is expected in a pattern.
+fn pattern_hint(kind: PatternErrorKind) -> &'static str
+    ensures { result.now ≡ pattern_hint kind }
+{
+    match kind {
+        PatternErrorKind::UnclosedQuote => "a quote ends on its line",
+        PatternErrorKind::UnclosedClass => {
+            "a class ends with `]` on its line; a `]` of its bytes stands first"
+        }
+        PatternErrorKind::BadRange => "a range goes from a byte to the same or a greater one",
+        PatternErrorKind::EmptyClass => "a class has a byte",
+        PatternErrorKind::UnknownClassName => {
+            "classes are alpha, digit, alnum, upper, lower, space, blank, cntrl, graph, print, punct and xdigit"
+        }
+        PatternErrorKind::UnsupportedBracket => "[=a=], [.a.] and [:^alpha:] are not read",
+        PatternErrorKind::BadEscape => {
+            "octal digits are 377 at most, and no backslash stands at the end of a line"
+        }
+        PatternErrorKind::BadInterval => {
+            "an interval has numbers up to 255, the lesser first; a `{` that is a byte stands in quotes or behind a backslash"
+        }
+        PatternErrorKind::UnbalancedParen => {
+            "a parenthesis has its other; one that is a byte stands in quotes or behind a backslash"
+        }
+        PatternErrorKind::MissingOperand => {
+            "something to repeat or to choose stands there; a sign that is a byte stands in quotes or behind a backslash"
+        }
+        PatternErrorKind::UndefinedName => "a name is defined before the first `%%`",
+        PatternErrorKind::DefinitionCycle => "no definition leads back to its name",
+        PatternErrorKind::TooDeep => {
+            "64 parentheses and names are open at most, and 64 signs stand on an item"
+        }
+        PatternErrorKind::TooBig => "a pattern has 65536 nodes at most",
+        PatternErrorKind::MisplacedSlash => {
+            "a `/` stands outside of parentheses and definitions; one that is a byte stands in quotes or behind a backslash"
+        }
+        PatternErrorKind::OutOfMemory => "memory ran out",
+    }
+}
+
+/// What is expected in an action.
+fn action_hint(kind: SpecErrorKind) -> &'static str
+    ensures { result.now ≡ action_hint kind }
+{
+    match kind {
+        SpecErrorKind::UnknownStatement => {
+            "statements are ECHO, BEGIN, printf, fputs, puts, yymore, yyless, REJECT, exit, yyterminate and more, each with its `;`: see lex(1)"
+        }
+        SpecErrorKind::LessAndMore => "yyless stands once in an action, and without yymore",
+        SpecErrorKind::RejectCombination => "REJECT stands without yymore and yyless",
+        SpecErrorKind::NotLast => "REJECT, yyterminate and exit stand last",
+        SpecErrorKind::BadEofAction => "an action of <<EOF>> prints, ends the scan, or both",
+        SpecErrorKind::BadCount => "yyless keeps 1 to 65535 bytes",
+        SpecErrorKind::BadStatus => "the status of exit is 0 to 63",
+        SpecErrorKind::Pattern(error) => pattern_hint(error.kind),
+        _ => "memory ran out",
+    }
+}
+
+/// What is expected of a rule.
+fn rule_hint(kind: SpecErrorKind) -> &'static str
+    ensures { result.now ≡ rule_hint kind }
+{
+    match kind {
+        SpecErrorKind::UnknownCondition => {
+            "%s and %x declare conditions, and a list of them ends with `>` on its line"
+        }
+        SpecErrorKind::VariableTrailing => {
+            "one side of a trailing context has texts of one length, of 65535 bytes at most"
+        }
+        SpecErrorKind::TwoTrailing => {
+            "a rule has one trailing context, by `/` or by a `$` at its end"
+        }
+        SpecErrorKind::BadEofRule => "<<EOF>> stands alone before its action",
+        SpecErrorKind::DuplicateEof => "a condition has one <<EOF>> rule",
+        SpecErrorKind::DanglingBar => {
+            "`|` is the action of the next rule that has a pattern, and there is none"
+        }
+        SpecErrorKind::Unclosed => "a string, a comment, a brace or a `%{` has no end",
+        SpecErrorKind::TooManyRules => "there are 4096 rules at most",
+        SpecErrorKind::TooLong => {
+            "a file has 1048576 bytes at most, and an action 256 statements and 4096 bytes to print"
+        }
+        _ => action_hint(kind),
+    }
+}
+
+/// What is expected of the definitions section, and of a file.
+fn definition_hint(kind: SpecErrorKind) -> &'static str
+    ensures { result.now ≡ definition_hint kind }
+{
+    match kind {
+        SpecErrorKind::NoRulesSection => "a line `%%` stands between definitions and rules",
+        SpecErrorKind::BadDefinitionLine => {
+            "a definition is a name, blanks and a pattern; %s, %x and %option declare"
+        }
+        SpecErrorKind::DuplicateName => "each name is defined once",
+        SpecErrorKind::DuplicateCondition => {
+            "each condition is declared once, and INITIAL always is"
+        }
+        SpecErrorKind::AnchoredDefinition => "`^` and `$` stand in rules, and in no definition",
+        SpecErrorKind::UnsupportedOption => {
+            "options are case-insensitive, stack, and some that do nothing: see lex(1)"
+        }
+        SpecErrorKind::TooManyConditions => "there are 255 conditions at most, INITIAL among them",
+        _ => rule_hint(kind),
+    }
+}
+
+/// Appends the line of what is expected, below a line with this number.
+pub(crate) fn add_hint(
+    text: &mut Vec<u8>,
+    number: u32,
+    kind: SpecErrorKind,
+) -> Result<(), AllocError>
+    ensures { OnOk result (text.new.items ≡ text.old.items ++ hint_words number kind) }
+{
+    let mut digits = Buffer::new();
+    add(text, b"    ")?;
+    add_under(text, digits.format(number).as_bytes())?;
+    add(text, b" = ")?;
+    add(text, definition_hint(kind).as_bytes())?;
+    add(text, b"\n")
+}
