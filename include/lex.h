@@ -6,6 +6,8 @@
    A specification is the text of a lex file (docs/MANUAL.md). Its table file is what a scan is made of. Both are bytes, and none
    is kept after a call.
 
+   A program that makes many scans by one table file reads it once, by lex_load. Its scans then go by that table, side by side.
+
    lex_scan_table scans an input that is there as a whole. A program with a loop of its own, over a socket or in an editor, feeds
    its input to lex_feed as it comes.
 
@@ -13,8 +15,8 @@
 
    - A pointer and the length after it are one buffer, with so many bytes, or items. They may be read, and those of `out`, `tokens`
      and `lines` written, for the whole call. Where the length is 0 the pointer must still not be null.
-   - No other pointer of the call leads to what `out`, `tokens`, `lines`, `count`, `fault`, `status` or `scan` points to: buffers that
-     are written do not overlap another.
+   - No other pointer of the call leads to what `out`, `tokens`, `lines`, `count`, `fault`, `status`, `scan`, `tables` or `other`
+     points to: buffers that are written do not overlap another.
    - Nothing is global, so calls in several threads do not meet, as long as none writes what another uses.
    - No call is made from a signal handler, or in the child of a fork of a process with threads.
    - No call ends the process. Memory that is refused is told by LEX_OUT_OF_MEMORY.
@@ -162,9 +164,48 @@ int32_t lex_tokens(const uint8_t *file, size_t file_len, const uint8_t *input, s
    LEX_REFUSED, LEX_OUT_OF_MEMORY: *count is 0, and `lines` is as it was. lex_generate tells why a text is refused. */
 int32_t lex_rule_lines(const uint8_t *text, size_t text_len, uint32_t flags, uint32_t *lines, size_t lines_len, size_t *count);
 
+/* A loaded table. Begin with LEX_TABLES_INIT, and leave its fields to the calls. What holds for it:
+
+   - It is given to one call at a time. These may be made by one thread and then by another. For calls at the same time each thread
+     has one of its own, by lex_share: all that share a table read the same memory, and none writes it.
+   - It is not copied while it is loaded: of two copies only one could be unloaded.
+   - lex_unload gives its memory back, once the last that shares the table is unloaded and the last scan by it is closed. */
+struct lex_tables {
+    uint8_t is_loaded;
+    void *place;
+};
+
+#define LEX_TABLES_INIT {0, NULL}
+
+/* Reads a table file, once for all scans by it. If `tables` was loaded, it is unloaded first. Nothing of `file` is kept.
+
+   LEX_OK: it is loaded.
+   LEX_REFUSED, LEX_OUT_OF_MEMORY: it is not. */
+int32_t lex_load(struct lex_tables *tables, const uint8_t *file, size_t file_len);
+
+/* Has `other` hold the same table, which is neither read nor copied. If `other` was loaded, it is unloaded first.
+
+   LEX_OK: it is loaded.
+   LEX_OUT_OF_MEMORY: it is not.
+   LEX_CLOSED: neither is, since `tables` is not. */
+int32_t lex_share(struct lex_tables *tables, struct lex_tables *other);
+
+/* Unloads a table. One that is not loaded stays so. */
+void lex_unload(struct lex_tables *tables);
+
+/* What lex_scan_table does, by a table that is loaded. In place of LEX_REFUSED it answers LEX_CLOSED, where none is: then *count and *status
+   are 0, and `out` is as it was. */
+int32_t lex_scan_loaded(struct lex_tables *tables, const uint8_t *input, size_t input_len, uint8_t *out, size_t out_len,
+                        size_t *count, uint8_t *status);
+
+/* What lex_tokens does, by a table that is loaded. In place of LEX_REFUSED it answers LEX_CLOSED, where none is: then *count and *status are
+   0, and `tokens` is as it was. */
+int32_t lex_tokens_loaded(struct lex_tables *tables, const uint8_t *input, size_t input_len, struct lex_token *tokens,
+                          size_t tokens_len, size_t *count, uint8_t *status);
+
 /* A scan by pieces. Begin with LEX_SCAN_INIT, and leave its fields to the calls. What holds for it:
 
-   - It is written by these four calls alone, one at a time. They may be made by one thread and then by another.
+   - It is written by these five calls alone, one at a time. They may be made by one thread and then by another.
    - It is not copied while it is open: of two copies only one could be closed.
    - lex_close gives its memory back. A scan that is not closed keeps it. */
 struct lex_scan {
@@ -179,6 +220,10 @@ struct lex_scan {
    LEX_OK: it is open, and was fed nothing.
    LEX_REFUSED, LEX_OUT_OF_MEMORY: it is closed. */
 int32_t lex_open(struct lex_scan *scan, const uint8_t *file, size_t file_len);
+
+/* What lex_open does, by a table that is loaded. In place of LEX_REFUSED it answers LEX_CLOSED, where none is. The scan keeps what it needs
+   of the table, which may be unloaded before it. */
+int32_t lex_open_loaded(struct lex_scan *scan, struct lex_tables *tables);
 
 /* Scans on with a piece more of the input, of any length, and puts what the rules have written, and what was not handed out yet, into
    `out`. *count is how many bytes these are.

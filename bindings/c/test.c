@@ -254,6 +254,54 @@ static int tokens(void)
     return 0;
 }
 
+/* The same example, by a table that was loaded once: as a whole, its tokens, and by a scan that outlives the table. */
+static int loaded(struct bytes table, struct bytes input, struct bytes wanted, int status)
+{
+    struct lex_tables tables = LEX_TABLES_INIT, mine = LEX_TABLES_INIT;
+    struct lex_scan scan = LEX_SCAN_INIT;
+    struct output output = {{malloc(wanted.len + 1), 0}, wanted.len + 1};
+    size_t count, other, room = wanted.len + 1;
+    uint8_t ended, *out = malloc(room);
+    struct lex_token token, same_token;
+    int answer = lex_load(&tables, input.at, 0);
+    if (output.all.at == NULL || out == NULL)
+        exit(2);
+    if (answer != LEX_REFUSED || lex_share(&tables, &mine) != LEX_CLOSED)
+        return fail("a table of no bytes", answer);
+    if (lex_scan_loaded(&mine, input.at, input.len, out, room, &count, &ended) != LEX_CLOSED || count != 0 || ended != 0)
+        return fail("whole input by no table", answer);
+    if (lex_tokens_loaded(&mine, input.at, input.len, &token, 1, &count, &ended) != LEX_CLOSED || count != 0)
+        return fail("tokens by no table", answer);
+    answer = lex_load(&tables, table.at, table.len);
+    if (answer == LEX_OK)
+        answer = lex_share(&tables, &mine);
+    if (answer != LEX_OK)
+        return fail("load", answer);
+    lex_unload(&tables);
+    answer = lex_scan_loaded(&mine, input.at, input.len, out, room, &count, &ended);
+    if (answer != LEX_OK || ended != status || !same(wanted, out, count))
+        return fail("whole input by a loaded table", answer);
+    answer = lex_tokens_loaded(&mine, input.at, input.len, &token, 1, &count, &ended);
+    if (answer == LEX_OUT_OF_MEMORY)
+        return fail("tokens by a loaded table", answer);
+    answer = lex_tokens(table.at, table.len, input.at, input.len, &same_token, 1, &other, &ended);
+    if (count != other || (count > 0 && (token.end != same_token.end || token.rule != same_token.rule)))
+        return fail("tokens by a loaded table", answer);
+    answer = lex_open_loaded(&scan, &mine);
+    lex_unload(&mine);
+    lex_unload(&mine);
+    if (answer == LEX_OK)
+        answer = feed(&scan, input.at, input.len, out, room, &output);
+    if (answer == LEX_OK || answer == LEX_ENDED)
+        answer = finish(&scan, out, room, &output, &ended);
+    lex_close(&scan);
+    if (answer != LEX_OK || ended != status || !same(wanted, output.all.at, output.all.len))
+        return fail("by pieces by a loaded table", answer);
+    free(output.all.at);
+    free(out);
+    return 0;
+}
+
 int main(int argc, char **argv)
 {
     struct bytes text, input, wanted, table = {NULL, 0};
@@ -271,7 +319,8 @@ int main(int argc, char **argv)
         return LEX_OUT_OF_MEMORY;
     if (answer != LEX_OK)
         return fail(argv[1], answer);
-    answer = scan(table, input, wanted, status) || scan_all_pieces(table, input, wanted, status) || refusals() || tokens() || handles();
+    answer = scan(table, input, wanted, status) || scan_all_pieces(table, input, wanted, status) ||
+             loaded(table, input, wanted, status) || refusals() || tokens() || handles();
     free(text.at);
     free(input.at);
     free(wanted.at);

@@ -16,6 +16,7 @@ struct Page;
 
 use std::error::Error;
 use std::fmt;
+use std::sync::{Mutex, PoisonError};
 
 /// What is declared in include/lex.h.
 mod ffi {
@@ -34,6 +35,12 @@ mod ffi {
         pub line: u32,
         pub kind: u32,
         pub place: usize,
+    }
+
+    #[repr(C)]
+    pub struct Tables {
+        pub is_loaded: u8,
+        pub place: *mut core::ffi::c_void,
     }
 
     #[repr(C)]
@@ -74,6 +81,34 @@ mod ffi {
             lines_len: usize,
             count: *mut usize,
         ) -> i32;
+
+        pub fn lex_load(tables: *mut Tables, file: *const u8, file_len: usize) -> i32;
+
+        pub fn lex_share(tables: *mut Tables, other: *mut Tables) -> i32;
+
+        pub fn lex_unload(tables: *mut Tables);
+
+        pub fn lex_scan_loaded(
+            tables: *mut Tables,
+            input: *const u8,
+            input_len: usize,
+            out: *mut u8,
+            out_len: usize,
+            count: *mut usize,
+            status: *mut u8,
+        ) -> i32;
+
+        pub fn lex_tokens_loaded(
+            tables: *mut Tables,
+            input: *const u8,
+            input_len: usize,
+            tokens: *mut Token,
+            tokens_len: usize,
+            count: *mut usize,
+            status: *mut u8,
+        ) -> i32;
+
+        pub fn lex_open_loaded(scan: *mut Scan, tables: *mut Tables) -> i32;
 
         pub fn lex_open(scan: *mut Scan, file: *const u8, file_len: usize) -> i32;
 
@@ -274,6 +309,11 @@ pub fn scan(file: &[u8], input: &[u8]) -> Result<Scanned, LexError> {
             )
         }
     });
+    scanned(handed, status)
+}
+
+/// What a scan of a whole input has come to.
+fn scanned(handed: Handed<u8>, status: u8) -> Result<Scanned, LexError> {
     match handed.answer {
         OK | TOO_SMALL => Ok(Scanned {
             output: handed.items,
@@ -315,6 +355,11 @@ pub fn tokens(file: &[u8], input: &[u8]) -> Result<Listed, LexError> {
             )
         }
     });
+    listed(handed, status)
+}
+
+/// What listing tokens has come to.
+fn listed(handed: Handed<ffi::Token>, status: u8) -> Result<Listed, LexError> {
     let tokens = handed.items.iter().map(Token::from).collect();
     match handed.answer {
         OK | TOO_SMALL => Ok(Listed { tokens, status }),
@@ -349,6 +394,117 @@ pub fn rule_lines(text: &[u8], options: Options) -> Result<Vec<u32>, LexError> {
     }
 }
 
+/// A share of a loaded table, for one call at a time.
+struct Share {
+    inner: ffi::Tables,
+}
+
+// Safety: what `inner.place` leads to is the share's alone, but for the table, which all that share it read only, and for the count of those,
+// which is changed in atomic steps (`Arc` of the toolkit). Memory is taken by malloc, and free takes it in any thread. A share is no `Clone`,
+// and each call takes it by `&mut`. This is an argument, and no theorem.
+unsafe impl Send for Share {}
+
+impl Share {
+    /// One that holds no table.
+    fn none() -> Share {
+        Share {
+            inner: ffi::Tables {
+                is_loaded: 0,
+                place: std::ptr::null_mut(),
+            },
+        }
+    }
+}
+
+impl Drop for Share {
+    fn drop(&mut self) {
+        // Safety: the share is this one's alone.
+        unsafe { ffi::lex_unload(&mut self.inner) }
+    }
+}
+
+/// A table file that was read once. Any number of scans go by it, side by side, in any threads.
+pub struct Tables {
+    held: Mutex<Share>,
+}
+
+impl Tables {
+    /// Reads a table file.
+    pub fn load(file: &[u8]) -> Result<Tables, LexError> {
+        let mut share = Share::none();
+        // Safety: the slice and the share do not overlap, and live through the call.
+        match unsafe { ffi::lex_load(&mut share.inner, file.as_ptr(), file.len()) } {
+            OK => Ok(Tables { held: Mutex::new(share) }),
+            REFUSED => Err(LexError::Table),
+            _ => Err(LexError::OutOfMemory),
+        }
+    }
+
+    /// A share for one call, so that calls in several threads do not wait for each other.
+    fn share(&self) -> Result<Share, LexError> {
+        let mut held = self.held.lock().unwrap_or_else(PoisonError::into_inner);
+        let mut share = Share::none();
+        // Safety: the two shares do not overlap, and live through the call.
+        match unsafe { ffi::lex_share(&mut held.inner, &mut share.inner) } {
+            OK => Ok(share),
+            _ => Err(LexError::OutOfMemory),
+        }
+    }
+
+    /// What the rules write for a whole input, as `scan` answers it.
+    pub fn scan(&self, input: &[u8]) -> Result<Scanned, LexError> {
+        let mut share = self.share()?;
+        let mut status = 0;
+        let handed = with_buffer(input.len(), |out, count| {
+            // Safety: the slices and references do not overlap, and live through the call.
+            unsafe {
+                ffi::lex_scan_loaded(
+                    &mut share.inner,
+                    input.as_ptr(),
+                    input.len(),
+                    out.as_mut_ptr(),
+                    out.len(),
+                    count,
+                    &mut status,
+                )
+            }
+        });
+        scanned(handed, status)
+    }
+
+    /// The tokens of a whole input, as `tokens` answers them.
+    pub fn tokens(&self, input: &[u8]) -> Result<Listed, LexError> {
+        let mut share = self.share()?;
+        let mut status = 0;
+        let handed = with_buffer(input.len() / 4, |out, count| {
+            // Safety: the slices and references do not overlap, and live through the call.
+            unsafe {
+                ffi::lex_tokens_loaded(
+                    &mut share.inner,
+                    input.as_ptr(),
+                    input.len(),
+                    out.as_mut_ptr(),
+                    out.len(),
+                    count,
+                    &mut status,
+                )
+            }
+        });
+        listed(handed, status)
+    }
+
+    /// Begins a scan by pieces, which keeps the rules as long as it needs them.
+    pub fn open(&self) -> Result<Scan, LexError> {
+        let mut share = self.share()?;
+        let mut scan = Scan::closed();
+        // Safety: the scan and the share do not overlap, and live through the call. The scan is closed.
+        match unsafe { ffi::lex_open_loaded(&mut scan.inner, &mut share.inner) } {
+            OK => Ok(scan),
+            _ => Err(LexError::OutOfMemory),
+        }
+    }
+}
+
 /// Whether a scan by pieces goes on.
 #[derive(Clone, Copy, Debug, PartialEq, Eq)]
 pub enum Progress {
@@ -365,21 +521,26 @@ pub struct Scan {
 }
 
 // Safety: an open scan is one block of memory, which `inner.place` leads to (`PieceScan` of crates/liblex_calls). That block and those
-// that it leads to are the scan's alone: the rules, the text that is held, and what was not handed out yet. They are taken by malloc,
-// and free takes them in any thread. The library has no variable of a thread, and none that it writes. A scan is no `Clone`, and each
-// call takes it by value or by `&mut`. So its calls come one after another, and what moves it between threads puts them in order. This is
-// an argument, and no theorem.
+// that it leads to are the scan's alone: the text that is held, and what was not handed out yet. The table is shared, as `Share` says.
+// They are taken by malloc, and free takes them in any thread. The library has no variable of a thread, and none that it writes. A scan
+// is no `Clone`, and each call takes it by value or by `&mut`. So its calls come one after another, and what moves it between threads
+// puts them in order. This is an argument, and no theorem.
 unsafe impl Send for Scan {}
 
 impl Scan {
-    /// Begins a scan by the rules of a table file.
-    pub fn open(file: &[u8]) -> Result<Scan, LexError> {
-        let mut scan = Scan {
+    /// One that is not open yet.
+    fn closed() -> Scan {
+        Scan {
             inner: ffi::Scan {
                 is_open: 0,
                 place: std::ptr::null_mut(),
             },
-        };
+        }
+    }
+
+    /// Begins a scan by the rules of a table file.
+    pub fn open(file: &[u8]) -> Result<Scan, LexError> {
+        let mut scan = Scan::closed();
         // Safety: the slice and the scan do not overlap, and live through the call. The scan is closed.
         match unsafe { ffi::lex_open(&mut scan.inner, file.as_ptr(), file.len()) } {
             OK => Ok(scan),

@@ -1,6 +1,6 @@
 //! Each file of examples/, and refusals.
 
-use liblex::{generate, rule_lines, scan, tokens, version, LexError, Options, Progress, Scan, Token};
+use liblex::{generate, rule_lines, scan, tokens, version, LexError, Options, Progress, Scan, Tables, Token};
 use std::fs;
 use std::path::Path;
 use std::thread;
@@ -60,6 +60,28 @@ fn tokens_that_were_worked_by_hand() {
     assert_eq!(tokens(b"nothing", b"a"), Err(LexError::Table));
     assert_eq!(rule_lines(text, Options::default()), Ok(vec![2, 4]));
     assert!(matches!(rule_lines(b"%%\n[z-a] ;\n", Options::default()), Err(LexError::Specification { line: 2, .. })));
+}
+
+#[test]
+fn one_loaded_table_serves_many_threads() {
+    let table = generate(b"%%\n[0-9]+ printf(\"N\");\n", Options::default()).unwrap();
+    let tables = Tables::load(&table).unwrap();
+    thread::scope(|scope| {
+        for _ in 0..4 {
+            scope.spawn(|| {
+                for _ in 0..100 {
+                    assert_eq!(tables.scan(b"a12 b").unwrap().output, b"aN b");
+                    assert_eq!(tables.tokens(b"a12 b").unwrap(), tokens(&table, b"a12 b").unwrap());
+                }
+            });
+        }
+    });
+    let mut scan = tables.open().unwrap();
+    drop(tables);
+    let mut output = Vec::new();
+    scan.feed(b"a1", &mut output).unwrap();
+    assert_eq!((scan.finish(&mut output), output), (Ok(0), b"aN".to_vec()));
+    assert!(matches!(Tables::load(b"nothing"), Err(LexError::Table)));
 }
 
 /// What a scan by pieces of a size writes, and the status.

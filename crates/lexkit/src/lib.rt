@@ -63,5 +63,5 @@ pub use options::Options;
 pub use program::{
     MAX_TABLE_BYTES, SPEC_READ_BYTES, command_words, read_more, read_spec_file, report_failure,
 };
-pub use scan::{scan_by, scan_made, scan_spec, scan_table};
+pub use scan::{MAX_READS, scan_by, scan_made, scan_spec, scan_table};
 pub use stats::{Stats, write_stats};

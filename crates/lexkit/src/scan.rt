@@ -23,7 +23,7 @@ use lextab::{Flat, Sink, Tables, pack_flat, read_flat};
 use std::alloc::Global;
 
 /// How many reads a scan makes at most: 2^40.
-const MAX_READS: u64 = 1_099_511_627_776;
+pub const MAX_READS: u64 = 1_099_511_627_776;
 
 /// Scans the source by the specification that a text spells, and writes to the sink. It answers the status that the
 /// specification ends with, 0 to 63, and takes no byte of the source that no rule asks for. A text that spells no

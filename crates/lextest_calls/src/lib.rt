@@ -7,6 +7,8 @@ mod automata;
 #[cfg(test)]
 mod building;
 #[cfg(test)]
+mod c_loaded;
+#[cfg(test)]
 mod c_pieces;
 #[cfg(test)]
 mod c_refusals;

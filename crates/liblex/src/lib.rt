@@ -1,7 +1,7 @@
 //! The scanner generator for C: a static library, whose header is include/lex.h.
 //!
 //! Each function has a name of C (`lex_..`) and makes one call of liblex_calls: table files (`lex_generate`), scans of whole
-//! inputs (`lex_scan_table`), tokens and the lines of rules, and scans by pieces, from opening to closing.
+//! inputs (`lex_scan_table`), tokens and the lines of rules, loaded tables, and scans by pieces, from opening to closing.
 //!
 //! It promises what liblex_calls does, and its contracts repeat those. A slice is passed as a pointer and a length: that
 //! these are right is up to the caller in C. A function here, its line in include/lex.h and its call in bindings/rust
@@ -12,7 +12,10 @@
 #![tactic(auto)]
 
 ghost use Rattle.std.specs.Prelude.{◌≡◌, ℕ, Bool, List, None};
-ghost use Rattle.liblex_calls.specs.Handles.{open_in};
+ghost use Rattle.liblex_calls.specs.Handles.{open_in, loaded_in};
+ghost use Rattle.liblex_calls.specs.Loading.{HoldsTable, LoadsTable};
+ghost use Rattle.liblex_calls.specs.Buffers.{NothingOut};
+ghost use Rattle.liblex_calls.specs.declared.answer.Answer.TheVariants as answers;
 ghost use Rattle.liblex_calls.specs.declared.answer.Answer.{Answer};
 ghost use Rattle.liblex_calls.specs.Numbers.{number_of};
 ghost use Rattle.liblex_calls.specs.Generating.{Generates};
@@ -23,8 +26,9 @@ ghost use Rattle.liblex_calls.specs.Progress.{fed_with};
 ghost use Rattle.liblex_calls.specs.Pieces.{Scanning, OpensScan, FeedsInto, FinishesInto, StaysOpen, StaysClosed};
 
 use liblex_calls::{
-    Scan, TextFault, TextToken, close_scan, feed_into, finish_into, generate_into, open_scan,
-    options_of, rule_lines_into, scan_into, tokens_into,
+    LoadedTables, Scan, TextFault, TextToken, close_scan, feed_into, finish_into, generate_into,
+    load_tables, open_loaded, open_scan, options_of, rule_lines_into, scan_into, scan_loaded,
+    share_tables, tokens_into, tokens_loaded, unload_tables,
 };
 use std::alloc::Global;
 
@@ -100,6 +104,88 @@ pub extern "C" fn lex_rule_lines(
         × TellsLines (options_of flags) text.now buffer.old buffer.new count.new answer }
 {
     rule_lines_into(alloc, text, options_of(flags), buffer, count).number()
+}
+
+/// Reads a table file once, for any number of scans.
+#[unsafe(no_mangle)]
+pub extern "C" fn lex_load(alloc: Global, tables: &mut LoadedTables, file: &[u8]) -> i32
+    ensures { (answer : Answer) × (result ≡ number_of answer) × LoadsTable file.now tables.new answer }
+{
+    load_tables(alloc, tables, file).number()
+}
+
+/// Has another one hold the same table.
+#[unsafe(no_mangle)]
+pub extern "C" fn lex_share(
+    alloc: Global,
+    tables: &mut LoadedTables,
+    other: &mut LoadedTables,
+) -> i32
+    ensures { (answer : Answer) × (result ≡ number_of answer)
+        × ((file : List ℕ) → HoldsTable file tables.old → LoadsTable file other.new answer)
+        × (loaded_in tables.new ≡ loaded_in tables.old)
+        × (loaded_in tables.old ≡ None → (answer ≡ answers.Closed) × (loaded_in other.new ≡ None)) }
+{
+    share_tables(alloc, tables, other).number()
+}
+
+/// Unloads a table.
+#[unsafe(no_mangle)]
+pub extern "C" fn lex_unload(alloc: Global, tables: &mut LoadedTables)
+    ensures { loaded_in tables.new ≡ None }
+{
+    unload_tables(alloc, tables);
+}
+
+/// Scans a whole input by a table that is loaded.
+#[unsafe(no_mangle)]
+pub extern "C" fn lex_scan_loaded(
+    alloc: Global,
+    tables: &mut LoadedTables,
+    input: &[u8],
+    buffer: &mut [u8],
+    count: &mut usize,
+    status: &mut u8,
+) -> i32
+    ensures { (answer : Answer) × (result ≡ number_of answer)
+        × ((file : List ℕ) → HoldsTable file tables.old
+        → ScansInto file input.now buffer.old buffer.new count.new status.new answer)
+        × (loaded_in tables.new ≡ loaded_in tables.old)
+        × (loaded_in tables.old ≡ None → (answer ≡ answers.Closed) × NothingOut buffer.old buffer.new count.new
+        × (status.new ≡ 0)) }
+{
+    scan_loaded(alloc, tables, input, buffer, count, status).number()
+}
+
+/// Lists the tokens of a whole input by a table that is loaded.
+#[unsafe(no_mangle)]
+pub extern "C" fn lex_tokens_loaded(
+    alloc: Global,
+    tables: &mut LoadedTables,
+    input: &[u8],
+    buffer: &mut [TextToken],
+    count: &mut usize,
+    status: &mut u8,
+) -> i32
+    ensures { (answer : Answer) × (result ≡ number_of answer)
+        × ((file : List ℕ) → HoldsTable file tables.old
+        → ListsInto file input.now buffer.old buffer.new count.new status.new answer)
+        × (loaded_in tables.new ≡ loaded_in tables.old)
+        × (loaded_in tables.old ≡ None → (answer ≡ answers.Closed) × NothingOut buffer.old buffer.new count.new
+        × (status.new ≡ 0)) }
+{
+    tokens_loaded(alloc, tables, input, buffer, count, status).number()
+}
+
+/// Begins a scan by pieces by a table that is loaded.
+#[unsafe(no_mangle)]
+pub extern "C" fn lex_open_loaded(alloc: Global, scan: &mut Scan, tables: &mut LoadedTables) -> i32
+    ensures { (answer : Answer) × (result ≡ number_of answer)
+        × ((file : List ℕ) → HoldsTable file tables.old → OpensScan file scan.new answer)
+        × (loaded_in tables.new ≡ loaded_in tables.old)
+        × (loaded_in tables.old ≡ None → (answer ≡ answers.Closed) × (open_in scan.new ≡ None)) }
+{
+    open_loaded(alloc, scan, tables).number()
 }
 
 /// Begins a scan by pieces by a table file.

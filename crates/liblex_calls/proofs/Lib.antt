@@ -3,6 +3,7 @@ mod Refused
 mod Listed
 mod Loosened
 mod Held
+mod HeldRules
 mod Opened
 mod Piecing
 mod Handing

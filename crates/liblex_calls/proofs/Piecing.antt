@@ -9,7 +9,7 @@ use Rattle.lex_semantics.specs.Run as Scan
 use Rattle.lex_semantics.specs.Run.{first_state}
 use Rattle.lex_semantics.specs.Demand.{Consistent, EndAsked}
 use Rattle.lex_semantics.specs.Machine.{Machine, rules_of_machine}
-use Rattle.lextab_packed.specs.Machines.{table_machine}
+use Rattle.liblex_calls.specs.Rules.{rules_machine}
 use Rattle.lexscan_window.specs.declared.state.State.{State}
 use Rattle.lexscan.specs.declared.turn.Turn.{Turn}
 use Rattle.lexscan_window.specs.declared.error.RunError.{RunError}
@@ -17,7 +17,8 @@ use Rattle.lexscan_window.specs.declared.error.RunError.TheVariants as runs
 use Rattle.lexscan.specs.Pushes.{Fed, AsksForMore, AfterFeed, AfterFinish}
 use Rattle.liblex_calls.specs.Backlogs.{rest}
 use Rattle.liblex_calls.specs.Stages.{stage_of, end_of, fault_of}
-use Rattle.liblex_calls.specs.Progress.{IsMachineOf, scan_machine, StandsAt, Progress, fed_with}
+use Rattle.liblex_calls.specs.Files.{IsMachineOf}
+use Rattle.liblex_calls.specs.Progress.{scan_machine, StandsAt, Progress, fed_with}
 use Rattle.liblex_calls.specs.declared.stage.Stage.{Stage}
 use Rattle.liblex_calls.specs.declared.stage.Stage.TheVariants as stages
 use Rattle.liblex_calls.specs.declared.piece_scan.PieceScan.{PieceScan}
@@ -117,7 +118,7 @@ module _ (file : List ℕ) (told : Bool) (fed out : List ℕ) (p p' : PieceScan)
   M = scan_machine p
 
   same_machine : scan_machine p' ≡ scan_machine p
-  same_machine = ap (λ f. table_machine f.tables) same
+  same_machine = ap rules_machine same
 
   written : (out ++ rest p.backlog) ++ put ≡ out ++ rest p'.backlog
   written = append_assoc out (rest p.backlog) put ∙ ap (λ l. out ++ l) (sym wrote)

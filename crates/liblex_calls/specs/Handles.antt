@@ -1,8 +1,14 @@
--- What a program in C holds of a scan by pieces. (Own.)
+-- What a program in C holds of a scan by pieces, and of a loaded table. (Own.)
 use Rattle.std.specs.Prelude.{Option}
 use Rattle.liblex_calls.specs.declared.handle.Scan.{Scan}
 use Rattle.liblex_calls.specs.declared.piece_scan.PieceScan.{PieceScan}
+use Rattle.liblex_calls.specs.declared.tables.LoadedTables.{LoadedTables}
+use Rattle.liblex_calls.specs.declared.rules.Rules.{Rules}
 
 -- the scan that is open there, if one is
 abbrev pub open_in : Scan → Option PieceScan
 open_in scan = scan.place.value
+
+-- the rules that are loaded there, if any are
+abbrev pub loaded_in : LoadedTables → Option Rules
+loaded_in tables = tables.place.value

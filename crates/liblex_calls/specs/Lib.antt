@@ -10,6 +10,8 @@ pub mod Ends
 pub mod Backlogs
 pub mod Stages
 pub mod Owned
+pub mod Rules
 pub mod Progress
 pub mod Handles
+pub mod Loading
 pub mod Pieces

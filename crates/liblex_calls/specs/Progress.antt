@@ -1,17 +1,13 @@
 -- How a scan by pieces stands. (What is written is that of POSIX and flex; the rest is own.)
 use Rattle.std.specs.Prelude.{◌≡◌, ℕ, ◌-◌, ◌^◌, ◌≤◌, min, Bool, true, false, List, ◌++◌, length, drop, None}
-use Rattle.lex_semantics.specs.Text.{IsText, BeginsWith, flag}
+use Rattle.lex_semantics.specs.Text.{IsText, BeginsWith}
 use Rattle.lex_semantics.specs.Rules.{Rules}
 use Rattle.lex_semantics.specs.Acting.{Ending, Status, StackFault}
 use Rattle.lex_semantics.specs.Run.{Run}
 use Rattle.lex_semantics.specs.Demand.{Consistent}
 use Rattle.lex_semantics.specs.Machine.{Machine, rules_of_machine}
-use Rattle.lextab_packed.specs.Table.{Table}
-use Rattle.lextab_packed.specs.Steps.{machine_of_table}
-use Rattle.lextab_packed.specs.Invariant.{GoesOn}
-use Rattle.lextab_packed.specs.Machines.{table_machine}
-use Rattle.lextab_packed.specs.FlatViews.{tables_of}
-use Rattle.lextab_file.specs.File.{IsFileOf}
+use Rattle.liblex_calls.specs.Files.{IsMachineOf}
+use Rattle.liblex_calls.specs.Rules.{rules_machine}
 use Rattle.lexscan_window.specs.declared.state.State.{State}
 use Rattle.lexscan.specs.Pushes.{Fed, AsksForMore}
 use Rattle.lexscan.specs.Scanners.{push_machine, push_state, push_waiting}
@@ -20,17 +16,9 @@ use Rattle.liblex_calls.specs.declared.stage.Stage.{Stage}
 use Rattle.liblex_calls.specs.declared.stage.Stage.TheVariants as stages
 use Rattle.liblex_calls.specs.declared.piece_scan.PieceScan.{PieceScan}
 
--- the machine of the table whose file this is
-pub record IsMachineOf (file : List ℕ) (M : Machine) : Type 0 where
-  pub table : Table
-  pub is_file : IsFileOf table file
-  pub goes_on : List Bool
-  pub leads : GoesOn table goes_on
-  pub is : M ≡ machine_of_table table (λ state. flag goes_on state)
-
 -- the machine of a scan
 abbrev pub scan_machine : PieceScan → Machine
-scan_machine p = table_machine (tables_of (push_machine p.scanner))
+scan_machine p = rules_machine (push_machine p.scanner)
 
 -- Over every input that this may be the beginning of, or all of if its end was told, the run writes this and ends so.
 abbrev pub RunsAll : Rules → Bool → List ℕ → List ℕ → Ending → Type 0

@@ -1,13 +1,16 @@
 //! Scans by pieces, each piece into a buffer of the caller.
 ghost use Rattle.std.specs.Prelude.{◌≡◌, ℕ, Bool, List, None};
-ghost use Rattle.liblex_calls.specs.Handles.{open_in};
+ghost use Rattle.liblex_calls.specs.Handles.{open_in, loaded_in};
 ghost use Rattle.liblex_calls.specs.Progress.{fed_with};
+ghost use Rattle.liblex_calls.specs.Loading.{AreRulesOf, HoldsTable};
 ghost use Rattle.liblex_calls.specs.Pieces.{Scanning, OpensScan, FeedsInto, FinishesInto, StaysOpen, StaysClosed};
 
 use crate::answer::Answer;
 use crate::handle::{Scan, put, take};
-use crate::machines::flat_of;
+use crate::loading::rules_of;
 use crate::piece_scan::PieceScan;
+use crate::rules::Rules;
+use crate::tables::LoadedTables;
 use lexkit::TableError;
 use std::alloc::Global;
 
@@ -16,12 +19,32 @@ pub fn open_scan(alloc: Global, scan: &mut Scan, file: &[u8]) -> Answer
     ensures { OpensScan file.now scan.new result }
 {
     close_scan(alloc, scan);
-    let flat = match flat_of(alloc, file) {
-        Err(TableError::OutOfMemory) => return Answer::OutOfMemory,
-        Err(_) => return Answer::Refused,
-        Ok(flat) => flat,
-    };
-    match Box::new(alloc, PieceScan::new(alloc, flat)) {
+    match Rules::read(alloc, file) {
+        Err(TableError::OutOfMemory) => Answer::OutOfMemory,
+        Err(_) => Answer::Refused,
+        Ok(rules) => open_with(alloc, scan, rules),
+    }
+}
+
+/// Begins a scan by pieces by a table that is loaded, as `open_scan` does by its file. The scan keeps what it needs of it.
+pub fn open_loaded(alloc: Global, scan: &mut Scan, tables: &mut LoadedTables) -> Answer
+    ensures opened { (file : List ℕ) → HoldsTable file tables.old → OpensScan file scan.new result }
+    ensures same { loaded_in tables.new ≡ loaded_in tables.old }
+    ensures unloaded { loaded_in tables.old ≡ None → (result ≡ Answer.Closed) × (open_in scan.new ≡ None) }
+{
+    close_scan(alloc, scan);
+    match rules_of(alloc, tables) {
+        Err(answer) => answer,
+        Ok(rules) => open_with(alloc, scan, rules),
+    }
+}
+
+/// Begins a scan by these rules in one that is closed.
+fn open_with(alloc: Global, scan: &mut Scan, rules: Rules) -> Answer
+    requires { open_in scan.old ≡ None }
+    ensures { (file : List ℕ) → AreRulesOf file rules → OpensScan file scan.new result }
+{
+    match Box::new(alloc, PieceScan::new(alloc, rules)) {
         Err(_) => Answer::OutOfMemory,
         Ok(held) => {
             put(scan, held);

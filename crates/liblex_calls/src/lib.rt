@@ -6,9 +6,11 @@
 //! - `buffers` and `memory`: buffers of a caller, and the sink that keeps what a scan writes.
 //! - `generating`: table files, made into a buffer.
 //! - `machines`: the machine of a table file, laid flat.
+//! - `rules`: the same, read once for any number of scans.
 //! - `scanning`: scans of whole inputs.
 //! - `listing`: the tokens of an input, and the lines of rules.
 //! - `stage`, `backlog` and `piece_scan`: a scan by pieces, how far it has come, and what was not handed out yet.
+//! - `tables`: the struct that C holds of a loaded table, with `rules_holder`, the owning pointer in it. `loading` has its calls.
 //! - `handle`: the struct that C holds of a scan by pieces. `holder` and `loose` are the owning pointer in it, and
 //!   `by_pieces` has its calls.
 //!
@@ -20,6 +22,8 @@
 //!   buffer is too small, the count says how large it has to be, and the call is made again.
 //! - **A scan by pieces is what the caller holds, with a pointer in it that owns the scan.** An open scan and a closed one are
 //!   told apart by a flag and not by the pointer. So a closed scan may be closed again, and feeding it has an answer.
+//! - **A loaded table is a handle of its owner, given to one call at a time.** All handles and scans that share a table own it
+//!   together (`Arc`), so none outlives it. To read through a `&` to a struct with a pointer would take a law of its own.
 //! - **Output that does not fit the caller's buffer is kept and handed out first**; only then is the end or the fault
 //!   answered. A feed takes each piece whole. After out of memory a scan by pieces has stopped.
 //! - **Answers are the exit statuses of the program lex**, so that a number has one meaning in a log. The default rule has the
@@ -37,17 +41,23 @@ mod handle;
 mod holder;
 mod kinds;
 mod listing;
+mod loading;
 mod loose;
 mod machines;
 mod memory;
 mod piece_scan;
+mod rules;
+mod rules_holder;
 mod scanning;
 mod stage;
+mod tables;
 
 pub use answer::Answer;
-pub use by_pieces::{close_scan, feed_into, finish_into, open_scan};
+pub use by_pieces::{close_scan, feed_into, finish_into, open_loaded, open_scan};
 pub use flags::options_of;
 pub use generating::{TextFault, generate_into};
 pub use handle::Scan;
-pub use listing::{TextToken, rule_lines_into, tokens_into};
-pub use scanning::scan_into;
+pub use listing::{TextToken, rule_lines_into, tokens_into, tokens_loaded};
+pub use loading::{load_tables, share_tables, unload_tables};
+pub use scanning::{scan_into, scan_loaded};
+pub use tables::LoadedTables;

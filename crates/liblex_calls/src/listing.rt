@@ -1,11 +1,16 @@
 //! The tokens of whole inputs and the lines of rules, into a buffer of the caller.
-ghost use Rattle.std.specs.Prelude.{◌≡◌, map, IfOk};
+ghost use Rattle.std.specs.Prelude.{◌≡◌, ℕ, List, None, map, IfOk};
+ghost use Rattle.liblex_calls.specs.Loading.{AreRulesOf, HoldsTable};
+ghost use Rattle.liblex_calls.specs.Handles.{loaded_in};
+ghost use Rattle.liblex_calls.specs.Buffers.{NothingOut};
 ghost use Rattle.liblex_calls.specs.Listing.{ListsInto, TellsLines, rule_number, text_token};
 
 use crate::answer::Answer;
 use crate::buffers::hand_out;
 use crate::kinds::kind_number;
-use crate::machines::flat_of;
+use crate::loading::rules_of;
+use crate::rules::Rules;
+use crate::tables::LoadedTables;
 use lexkit::{
     GenError, MatchedRule, Options, RunError, TableError, Token, lines_of, read_text, tokens,
 };
@@ -62,13 +67,52 @@ pub fn tokens_into(
 {
     *count = 0;
     *status = 0;
-    let flat = match flat_of(alloc, file) {
-        Err(TableError::OutOfMemory) => return Answer::OutOfMemory,
-        Err(_) => return Answer::Refused,
-        Ok(flat) => flat,
-    };
+    match Rules::read(alloc, file) {
+        Err(TableError::OutOfMemory) => Answer::OutOfMemory,
+        Err(_) => Answer::Refused,
+        Ok(rules) => tokens_by_rules(alloc, &rules, input, buffer, count, status),
+    }
+}
+
+/// Lists the tokens of an input by a table that is loaded, as `tokens_into` does by its file.
+pub fn tokens_loaded(
+    alloc: Global,
+    tables: &mut LoadedTables,
+    input: &[u8],
+    buffer: &mut [TextToken],
+    count: &mut usize,
+    status: &mut u8,
+) -> Answer
+    ensures listed { (file : List ℕ) → HoldsTable file tables.old
+        → ListsInto file input.now buffer.old buffer.new count.new status.new result }
+    ensures same { loaded_in tables.new ≡ loaded_in tables.old }
+    ensures unloaded { loaded_in tables.old ≡ None → (result ≡ Answer.Closed) × NothingOut buffer.old buffer.new count.new
+        × (status.new ≡ 0) }
+{
+    *count = 0;
+    *status = 0;
+    match rules_of(alloc, tables) {
+        Err(answer) => answer,
+        Ok(rules) => tokens_by_rules(alloc, &rules, input, buffer, count, status),
+    }
+}
+
+/// Lists the tokens of an input by rules.
+fn tokens_by_rules(
+    alloc: Global,
+    rules: &Rules,
+    input: &[u8],
+    buffer: &mut [TextToken],
+    count: &mut usize,
+    status: &mut u8,
+) -> Answer
+    ensures { (file : List ℕ) → AreRulesOf file rules.now
+        → ListsInto file input.now buffer.old buffer.new count.new status.new result }
+{
+    *count = 0;
+    *status = 0;
     let mut list = Vec::new(alloc);
-    let ended = tokens(alloc, &flat, input, &mut list);
+    let ended = tokens(alloc, rules, input, &mut list);
     let shown = match shown_of(alloc, &list) {
         Err(_) => return Answer::OutOfMemory,
         Ok(shown) => shown,

@@ -3,7 +3,7 @@ ghost use Rattle.std.specs.Prelude.{IfOk, IfErr};
 ghost use Rattle.lextab_packed.specs.FlatViews.{tables_of};
 ghost use Rattle.lextab_packed.specs.Machines.{table_machine};
 ghost use Rattle.lexkit.specs.Headline.{TableRefusal};
-ghost use Rattle.liblex_calls.specs.Progress.{IsMachineOf};
+ghost use Rattle.liblex_calls.specs.Files.{IsMachineOf};
 
 use lexkit::{Flat, TableError, read_flat};
 use std::alloc::Global;

@@ -1,19 +1,18 @@
 //! A scan by pieces, with what it wrote and was not handed out yet.
 ghost use Rattle.std.specs.Prelude.{◌≡◌, ℕ, Bool, List, [], ◌++◌, true, false, length, take};
-ghost use Rattle.lextab_packed.specs.FlatViews.{tables_of};
-ghost use Rattle.lextab_packed.specs.Machines.{table_machine};
+ghost use Rattle.liblex_calls.specs.Rules.{rules_machine};
 
 use crate::answer::Answer;
 use crate::backlog::Backlog;
+use crate::rules::Rules;
 use crate::stage::Stage;
-use lexkit::Flat;
 use lexscan::PushScanner;
 use std::alloc::Global;
 
 /// A scan by pieces, with what it wrote and was not handed out yet.
 #[derive(Drop)]
 pub struct PieceScan {
-    scanner: PushScanner<Flat>,
+    scanner: PushScanner<Rules>,
     backlog: Backlog,
     stage: Stage,
     /// Whether the end of the input was told.
@@ -23,16 +22,17 @@ pub struct PieceScan {
 impl PieceScan {
     ghost use Rattle.liblex_calls.specs.Backlogs.{rest};
     ghost use Rattle.liblex_calls.specs.Stages.{feed_answer, finish_answer, status_in};
-    ghost use Rattle.liblex_calls.specs.Progress.{IsMachineOf, Progress, HandsOn, Follows, fed_with};
+    ghost use Rattle.liblex_calls.specs.Files.{IsMachineOf};
+    ghost use Rattle.liblex_calls.specs.Progress.{Progress, HandsOn, Follows, fed_with};
 
     /// One that was fed nothing.
-    pub(crate) fn new(alloc: Global, flat: Flat) -> PieceScan
+    pub(crate) fn new(alloc: Global, rules: Rules) -> PieceScan
         ensures going { result.stage ≡ Stage.Going }
-        ensures progress { (file : List ℕ) → IsMachineOf file (table_machine (tables_of flat))
+        ensures progress { (file : List ℕ) → IsMachineOf file (rules_machine rules)
             → Progress file false [] [] result }
     {
         PieceScan {
-            scanner: PushScanner::new(alloc, flat),
+            scanner: PushScanner::new(alloc, rules),
             backlog: Backlog::new(alloc),
             stage: Stage::Going,
             finished: false,

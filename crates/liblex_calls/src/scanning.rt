@@ -1,12 +1,18 @@
 //! Scans of whole inputs, into a buffer of the caller.
-ghost use Rattle.std.specs.Prelude.{◌≡◌};
+ghost use Rattle.std.specs.Prelude.{◌≡◌, ℕ, List, None};
+ghost use Rattle.liblex_calls.specs.Buffers.{NothingOut};
+ghost use Rattle.liblex_calls.specs.Handles.{loaded_in};
+ghost use Rattle.liblex_calls.specs.Loading.{AreRulesOf, HoldsTable};
 ghost use Rattle.liblex_calls.specs.Scanning.{ScansInto, TellsScan};
 
 use crate::answer::Answer;
 use crate::buffers::hand_out;
+use crate::loading::rules_of;
 use crate::memory::Kept;
+use crate::rules::Rules;
+use crate::tables::LoadedTables;
 use lex_io::SliceSource;
-use lexkit::{RunError, ScanError, TableError, scan_table};
+use lexkit::{MAX_READS, RunError, ScanError, TableError, run, scan_table};
 use std::alloc::Global;
 
 /// Tells a scan that was refused or stopped. What was written up to a fault of the stack is handed out. A sink over
@@ -48,5 +54,53 @@ pub fn scan_into(
             hand_out(sink.bytes.as_slice(), buffer, count)
         }
         Err(error) => tell(error, sink.bytes.as_slice(), buffer, count),
+    }
+}
+
+/// Scans an input by a table that is loaded, as `scan_into` does by its file.
+pub fn scan_loaded(
+    alloc: Global,
+    tables: &mut LoadedTables,
+    input: &[u8],
+    buffer: &mut [u8],
+    count: &mut usize,
+    status: &mut u8,
+) -> Answer
+    ensures scanned { (file : List ℕ) → HoldsTable file tables.old
+        → ScansInto file input.now buffer.old buffer.new count.new status.new result }
+    ensures same { loaded_in tables.new ≡ loaded_in tables.old }
+    ensures unloaded { loaded_in tables.old ≡ None → (result ≡ Answer.Closed) × NothingOut buffer.old buffer.new count.new
+        × (status.new ≡ 0) }
+{
+    *count = 0;
+    *status = 0;
+    match rules_of(alloc, tables) {
+        Err(answer) => answer,
+        Ok(rules) => scan_by_rules(alloc, &rules, input, buffer, count, status),
+    }
+}
+
+/// Scans an input by rules.
+fn scan_by_rules(
+    alloc: Global,
+    rules: &Rules,
+    input: &[u8],
+    buffer: &mut [u8],
+    count: &mut usize,
+    status: &mut u8,
+) -> Answer
+    ensures { (file : List ℕ) → AreRulesOf file rules.now
+        → ScansInto file input.now buffer.old buffer.new count.new status.new result }
+{
+    *count = 0;
+    *status = 0;
+    let mut source = SliceSource::new(input);
+    let mut sink = Kept::new(alloc);
+    match run(alloc, rules, &mut source, &mut sink, MAX_READS) {
+        Ok(end) => {
+            *status = end;
+            hand_out(sink.bytes.as_slice(), buffer, count)
+        }
+        Err(error) => tell(ScanError::Run(error), sink.bytes.as_slice(), buffer, count),
     }
 }
