@@ -32,7 +32,7 @@ ways=(
     "one scan|\"\$LEX\" --scan-table log.tab < big.txt > output"
 )
 if [[ -n $library ]]; then
-    cc -O2 -pthread -I"$here/../../include" "$here/threads.c" "$library" -o threads
+    cc -O2 -pthread -D_GNU_SOURCE -I"$here/../../include" "$here/threads.c" "$library" -o threads
 fi
 for jobs in 1 2 4; do
     ways+=("pieces.sh, $jobs|\"$here/../../scripts/pieces.sh\" log.tab big.txt output $jobs")

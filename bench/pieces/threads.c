@@ -3,8 +3,8 @@
 
        threads TABLE INPUT THREADS > OUTPUT
 
-   The input is mapped and cut behind newlines into blocks of some 4 MiB. Each thread takes the next block, scans it into a buffer of its
-   own, and writes when the blocks before it are written. The status is 0, or 1 where something failed. */
+   The table is loaded once. The input is mapped and cut behind newlines into blocks of some 4 MiB. Each thread takes the next block, scans
+   it into a buffer of its own, and writes when the blocks before it are written. The status is 0, or 1 where something failed. */
 #include <fcntl.h>
 #include <lex.h>
 #include <pthread.h>
@@ -22,7 +22,7 @@ struct bytes {
     size_t len;
 };
 
-static struct bytes table, input;
+static struct bytes input;
 static pthread_mutex_t lock = PTHREAD_MUTEX_INITIALIZER;
 static pthread_cond_t written = PTHREAD_COND_INITIALIZER;
 /* Where the next block begins, its number, and how many are written. */
@@ -60,10 +60,10 @@ static struct bytes take_block(size_t *number)
 }
 
 /* Scans a block into the buffer, which grows where it has no room. Tells how many bytes are written, and whether all went well. */
-static int scan_block(struct bytes block, uint8_t **out, size_t *room, size_t *count)
+static int scan_block(struct lex_tables *tables, struct bytes block, uint8_t **out, size_t *room, size_t *count)
 {
     uint8_t status;
-    int answer = lex_scan_table(table.at, table.len, block.at, block.len, *out, *room, count, &status);
+    int answer = lex_scan_loaded(tables, block.at, block.len, *out, *room, count, &status);
     if (answer != LEX_TOO_SMALL)
         return answer == LEX_OK;
     uint8_t *larger = realloc(*out, *count);
@@ -71,7 +71,7 @@ static int scan_block(struct bytes block, uint8_t **out, size_t *room, size_t *c
         return 0;
     *out = larger;
     *room = *count;
-    return lex_scan_table(table.at, table.len, block.at, block.len, *out, *room, count, &status) == LEX_OK;
+    return lex_scan_loaded(tables, block.at, block.len, *out, *room, count, &status) == LEX_OK;
 }
 
 static int write_all(const uint8_t *from, size_t count)
@@ -86,12 +86,12 @@ static int write_all(const uint8_t *from, size_t count)
     return 1;
 }
 
-static void *scan_blocks(void *unused)
+static void *scan_blocks(void *tables)
 {
     size_t room = BLOCK, count, number;
     uint8_t *out = malloc(room);
     for (struct bytes block = take_block(&number); block.len > 0; block = take_block(&number)) {
-        int went = out && scan_block(block, &out, &room, &count);
+        int went = out && scan_block(tables, block, &out, &room, &count);
         pthread_mutex_lock(&lock);
         while (done < number && !failed)
             pthread_cond_wait(&written, &lock);
@@ -102,7 +102,7 @@ static void *scan_blocks(void *unused)
         pthread_mutex_unlock(&lock);
     }
     free(out);
-    return unused;
+    return NULL;
 }
 
 int main(int count, char **words)
@@ -112,13 +112,21 @@ int main(int count, char **words)
         fprintf(stderr, "usage: threads TABLE INPUT THREADS\n");
         return 1;
     }
+    static struct lex_tables tables[MOST];
     pthread_t made[MOST];
-    table = map_file(words[1]);
+    struct bytes table = map_file(words[1]);
     input = map_file(words[2]);
+    if (lex_load(&tables[0], table.at, table.len) != LEX_OK)
+        return 1;
+    for (int i = 1; i < threads; i++)
+        if (lex_share(&tables[0], &tables[i]) != LEX_OK)
+            return 1;
     for (int i = 0; i < threads; i++)
-        if (pthread_create(&made[i], NULL, scan_blocks, NULL) != 0)
+        if (pthread_create(&made[i], NULL, scan_blocks, &tables[i]) != 0)
             return 1;
     for (int i = 0; i < threads; i++)
         pthread_join(made[i], NULL);
+    for (int i = 0; i < threads; i++)
+        lex_unload(&tables[i]);
     return failed;
 }
