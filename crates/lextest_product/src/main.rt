@@ -36,6 +36,7 @@ const FILES: &[&str] = &[
     "arguments.txt",
     "cuttings.txt",
     "examples.txt",
+    "letters.txt",
     "limits.txt",
     "long_names.txt",
     "long_patterns.txt",
