@@ -76,6 +76,7 @@ pub(crate) fn answered(alloc: Global, row: &Row<'_>) -> Result<Answer, AllocErro
         Kind::Equal => tables::equal(alloc, row),
         Kind::File => tables::file(alloc, row),
         Kind::Lengths => patterns::lengths(alloc, row),
+        Kind::Letters => arguments::letters(alloc, row),
         Kind::Limit => scans::limit(alloc, row),
         Kind::Lines => looks::lines(alloc, row),
         Kind::Look => arguments::look(alloc, row),

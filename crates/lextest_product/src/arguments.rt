@@ -2,6 +2,7 @@
 use crate::answer::Answer;
 use crate::row::Row;
 use lex_command::{ArgsError, read_args, read_look_args};
+use lexlook_unicode::definition_of;
 use std::alloc::{AllocError, Global};
 use std::fmt::Debug;
 
@@ -34,4 +35,19 @@ pub(crate) fn arguments(alloc: Global, row: &Row<'_>) -> Result<Answer, AllocErr
 pub(crate) fn look(alloc: Global, row: &Row<'_>) -> Result<Answer, AllocError> {
     let words = words_of(alloc, row)?;
     asked(alloc, &read_look_args(alloc, words.as_slice()))
+}
+
+/// Writes the definition of the sets of a row.
+pub(crate) fn letters(alloc: Global, row: &Row<'_>) -> Result<Answer, AllocError> {
+    let words = words_of(alloc, row)?;
+    match definition_of(alloc, words.as_slice()) {
+        Ok(written) => Ok(Answer {
+            written,
+            told: Vec::new(alloc),
+        }),
+        Err(error) => {
+            let line = format!(in alloc; "{error}\n")?;
+            Answer::telling(alloc, line.as_str())
+        }
+    }
 }

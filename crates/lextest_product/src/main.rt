@@ -37,6 +37,7 @@ const FILES: &[&str] = &[
     "checks.txt",
     "cuttings.txt",
     "examples.txt",
+    "letters.txt",
     "limits.txt",
     "long_names.txt",
     "long_patterns.txt",
