@@ -5,8 +5,8 @@
 
 LEX and LEXLOOK are the built programs. COUNT changes are made, 1,000 without it, by the seed SEED, 1 without it. Where lex takes the
 specification, `lexlook check` has to tell no error, with status 0. Where lex refuses it, the first error that is told has lex's kind, line
-and offset, and the status is 1. No two faults may be told at one line, and 100 are the most. A line tells each specification where this is not
-so, which is kept in a folder, and then how many were refused and how many faults were told. The status is 1 where something differs."""
+and offset, and the status is 1. No reason may be told twice of one line, and 100 faults are the most. A line tells each specification where
+this is not so, which is kept in a folder, and then how many were refused and how many faults were told. The status is 1 where something differs."""
 import os
 import random
 import re
@@ -53,14 +53,14 @@ def wrong_with(lex, lexlook, name):
     made = subprocess.run([lex, "-w", "-t", name], capture_output=True)
     checked = subprocess.run([lexlook, "check", name], capture_output=True)
     errors = [it for it in map(fault, checked.stdout.splitlines(keepends=True)) if it]
-    places = [it[0] for it in errors]
+    places = [(line, kind) for line, _, kind in errors]
     wanted = refusal(made.stderr) if made.returncode == 65 else None
     if made.returncode not in (0, 65) or checked.stderr:
         return f"status {made.returncode}, {checked.stderr}", len(errors)
     if checked.returncode != (1 if wanted else 0) or (errors[0] if errors else None) != wanted:
         return f"lex tells {wanted}, status {checked.returncode}, first {errors[:1]}", len(errors)
     if len(set(places)) != len(places) or len(places) > 100:
-        return f"{len(places)} faults at {len(set(places))} lines", len(errors)
+        return f"{len(places)} faults, {len(set(places))} of them apart", len(errors)
     return None, len(errors)
 
 
