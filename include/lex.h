@@ -45,7 +45,7 @@ enum lex_answer {
     LEX_OK = 0,              /* all is done */
     LEX_TOO_SMALL = 1,       /* the buffer has no room for all the bytes; *count says how many there are */
     LEX_ENDED = 2,           /* the rules have ended the scan: what is fed from now on counts for nothing */
-    LEX_CLOSED = 3,          /* the scan is closed */
+    LEX_CLOSED = 3,          /* the scan is closed, or no table is loaded */
     LEX_REFUSED = 65,        /* the text is no specification, its automaton is too large, or the bytes are no table file */
     LEX_STACK = 70,          /* the rules push more than 255 conditions, or pop where there is none: the scan ends so */
     LEX_OUT_OF_MEMORY = 71,  /* a request for memory was refused */
