@@ -1,6 +1,7 @@
 pub mod Faults
 pub mod Failures
 pub mod Headline
+pub mod HeadlineExamples
 pub mod ScanCounts
 pub mod Canonical
 pub mod CanonicalExamples

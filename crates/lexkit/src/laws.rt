@@ -5,10 +5,12 @@ ghost use Rattle.lex_semantics.specs.SameRules.{SameRules};
 ghost use Rattle.lexkit.specs.Canonical.{IsCanonical};
 ghost use Rattle.lexkit.specs.CanonicalExamples.{CanonicalOfTwo};
 ghost use Rattle.lexkit.specs.FileScans.{FileScans};
+ghost use Rattle.lexkit.specs.HeadlineExamples.{HeadlineOfKey};
 ghost use Rattle.lexkit.specs.TextTokens.{TextTokens};
 
 use lex_semantics::same_rules_answers;
 use lexscan::table_tokens;
+use lexspec::one_specification;
 use lextab::{examples_of_packings, one_packing, one_table, packing_of_same_moves};
 
 /// Specifications with the same rules, however their patterns are written, have the same canonical file, and each has
@@ -27,6 +29,13 @@ pub fn example_of_canonical_files()
 {
     examples_of_packings();
     packing_of_same_moves();
+}
+
+/// A worked example of the headline: what it says of one input, and where a write fails.
+pub fn example_of_the_headline()
+    ensures { HeadlineOfKey }
+{
+    one_specification();
 }
 
 /// A scan by the file of the tables that are made of a specification is a scan by the specification.

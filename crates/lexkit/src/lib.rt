@@ -40,7 +40,9 @@ mod stats;
 pub use errors::{GenError, ScanError};
 pub use failure::Failure;
 pub use faults::{Fault, write_fault};
-pub use laws::{example_of_canonical_files, file_scans, one_file, text_tokens};
+pub use laws::{
+    example_of_canonical_files, example_of_the_headline, file_scans, one_file, text_tokens,
+};
 pub use lex_semantics::{MAX_FILE_BYTES, MAX_POSITIONS, MAX_STATES};
 pub use lexauto::{BackUp, BuildError, Limits};
 pub use lexauto_reports::{Warning, write_backup, write_warnings};

@@ -16,7 +16,8 @@ use Rattle.lexscan_window.specs.declared.act.Finish.{Finish}
 use Rattle.lexscan_window.specs.Acts.{finish_of}
 use Rattle.lexscan_matching.specs.Descends.{conditions_at, matches_of, finished_of, CutAll, Faulted, Performed, Takes}
 use Rattle.lexscan_window.specs.Ends.{IsEarly}
-use Rattle.lexscan.specs.TurnSteps.{AtNextPlace, TellsEnd, EndLeft, EndsScan, EndsTurn, MatchLeft, TurnStep}
+use Rattle.lexscan.specs.TurnSteps.{TellsEnd, EndLeft, EndsScan, EndsTurn, MatchLeft, TurnStep}
+use Rattle.lexscan_window.specs.Places.{AtNextPlace}
 use Rattle.lexscan_matching.proofs.Descending.{performed_flushed, performed_cut}
 
 not_early : (e : RunError) → (e ≡ Write) ⊎ (e ≡ Stack) → IsEarly e → ⊥

@@ -23,7 +23,8 @@ use Rattle.lexscan_window.specs.declared.state.State.{State}
 use Rattle.lexscan_window.specs.declared.error.RunError.{RunError}
 use Rattle.lexscan_window.specs.declared.error.RunError.TheVariants.{Read, TooManyReads, Write, OutOfMemory, Stack, Failed}
 use Rattle.lexscan_matching.specs.Descends.{ending_of}
-use Rattle.lexscan.specs.Matches.{match_in, text_of, kept_before, MatchedBy, TellsMatch}
+use Rattle.lexscan.specs.Matches.{match_in, text_of, MatchedBy, TellsMatch}
+use Rattle.lexscan_window.specs.Places.{kept_before}
 use Rattle.lexscan.specs.Scans.{ScanInvariant}
 use Rattle.lexscan.specs.TurnInvariants.{TurnInvariant, AfterRefusal, RunCompleted, NoneAfterEnd, TurnPreserves, state_of}
 use Rattle.lexscan.specs.Pushes.{AsksForMore, IsReachable, StaysBefore, AttemptsTo, Fed, IsAsking, WalksOn}

@@ -13,7 +13,8 @@ use Rattle.lexscan.specs.declared.turn.Turn.{Turn}
 use Rattle.lexscan_window.specs.declared.error.RunError.{RunError}
 use Rattle.lexscan_matching.specs.Picks.{path_of, state_at}
 use Rattle.lexscan_matching.specs.Descends.{Conditions, conditions_at, matches_of, ending_of, Performed, CutAll, Faulted, Takes}
-use Rattle.lexscan.specs.TurnSteps.{MatchLeft, Acted, TurnStep, next_bytes, stays, is_over}
+use Rattle.lexscan.specs.TurnSteps.{MatchLeft, Acted, TurnStep, is_over}
+use Rattle.lexscan_window.specs.Places.{next_bytes, stays}
 use Rattle.lexscan_window.specs.Memos.{Barren, IsTrueMark, AreTrue}
 use Rattle.lexscan_matching.specs.Backs.{IsSettled}
 use Rattle.lexscan_matching.specs.Looks.{Wants}

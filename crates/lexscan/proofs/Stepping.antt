@@ -18,7 +18,8 @@ use Rattle.lexscan_window.specs.declared.state.State.{State}
 use Rattle.lexscan.specs.declared.turn.Turn.{Turn}
 use Rattle.lexscan_window.specs.Acts.{acting_of}
 use Rattle.lexscan_matching.specs.Descends.{conditions_at, ending_of, matches_of, Faulted}
-use Rattle.lexscan.specs.TurnSteps.{is_over, stays, next_at, next_bytes, TellsEnd, MatchStep, EndStep}
+use Rattle.lexscan.specs.TurnSteps.{is_over, TellsEnd, MatchStep, EndStep}
+use Rattle.lexscan_window.specs.Places.{stays, next_at, next_bytes}
 use Rattle.lexscan_window.specs.Reads.{Took}
 use Rattle.lexscan_matching.specs.Looks.{Looked}
 use Rattle.lexscan.specs.TurnInvariants.{state_of, TurnInvariant, RunCompleted}

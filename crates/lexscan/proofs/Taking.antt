@@ -23,8 +23,9 @@ use Rattle.lexscan_window.specs.declared.state.TextPlace.{TextPlace}
 use Rattle.lexscan.specs.declared.turn.Turn.{Turn}
 use Rattle.lexscan_window.specs.Acts.{acting_of}
 use Rattle.lexscan_matching.specs.Descends.{conditions_at, outcome, matches_of, ending_of, IsRule, Takes}
-use Rattle.lexscan.specs.Matches.{text_start, match_by, match_in, text_of, kept_before, CarriesOut, TellsMatch}
-use Rattle.lexscan.specs.TurnSteps.{stays, next_bytes, next_at, is_over, MatchStep, EndStep}
+use Rattle.lexscan.specs.Matches.{text_start, match_by, match_in, text_of, CarriesOut, TellsMatch}
+use Rattle.lexscan_window.specs.Places.{kept_before, stays, next_bytes, next_at}
+use Rattle.lexscan.specs.TurnSteps.{is_over, MatchStep, EndStep}
 use Rattle.lexscan.specs.TurnInvariants.{TurnInvariant, state_of}
 use Rattle.lexscan_window.specs.Window.{last_of}
 use Rattle.lexscan.proofs.Outcomes.{seen_matches, matches_are, all_seen}

@@ -1,5 +1,5 @@
 -- What a turn tells of its match. (POSIX, lex, Actions in lex: the longest match, then the earliest rule, REJECT goes on to the next.)
-use Rattle.std.specs.Prelude.{◌≡◌, ℕ, ◌+◌, ◌-◌, ◌<◌, ◌≤◌, Bool, List, [], ◌∷◌, ◌++◌, length, take, drop, Option, Some, None, if◌then◌else◌}
+use Rattle.std.specs.Prelude.{◌≡◌, ℕ, ◌+◌, ◌-◌, ◌<◌, ◌≤◌, Bool, List, [], ◌∷◌, ◌++◌, length, drop, Option, Some, None, if◌then◌else◌}
 use Rattle.lex_semantics.specs.Text.{part, at_line_start}
 use Rattle.lex_semantics.specs.Rules.{Rules}
 use Rattle.lex_semantics.specs.Candidates.{Candidate, Candidates}
@@ -10,6 +10,7 @@ use Rattle.lexscan_window.specs.declared.matched.Match.{Match}
 use Rattle.lexscan_window.specs.declared.matched.MatchedRule.{MatchedRule}
 use Rattle.lexscan_window.specs.declared.state.State.{State}
 use Rattle.lexscan_matching.specs.Descends.{IsRule}
+use Rattle.lexscan_window.specs.Places.{kept_before}
 use Rattle.lexscan_window.specs.Window.{last_of}
 
 -- The match m is carried out at a place, with this outcome: those before it go on to the next one, and it does not.
@@ -33,10 +34,6 @@ match_by (Some rule) s = Some (record { rule = rule; start = text_start s; lengt
 -- after a refusal, nothing
 abbrev pub match_in : State → Option Match
 match_in s = if s.failed then None else match_by s.matched s
-
--- the bytes that are kept before the place of the next match
-abbrev pub kept_before : State → List ℕ
-kept_before s = s.reading.window.behind ++ take s.place.at s.reading.window.bytes
 
 -- The text of a match that is told: it ends at the place of the next one. (POSIX, lex, Actions in lex: yytext.)
 abbrev pub text_of : Option Match → State → List ℕ

@@ -8,7 +8,7 @@ use Rattle.lexscan.specs.declared.pull.PullScanner.{PullScanner}
 use Rattle.lexscan_window.specs.Intakes.{source_of, source_name, sink_of, sink_name}
 use Rattle.lexscan_window.specs.declared.state.State.{State}
 use Rattle.lexscan_window.specs.Window.{last_of}
-use Rattle.lexscan.specs.Matches.{kept_before}
+use Rattle.lexscan_window.specs.Places.{kept_before}
 use Rattle.std.specs.Prelude.{◌≡◌, ℕ, Bool, List, drop}
 
 module _ {M S K : Type 0} {of_machine : Machine.Ghosts M} {of_source : Source.Ghosts S} {of_sink : Sink.Ghosts K} where

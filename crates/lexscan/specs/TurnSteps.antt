@@ -1,5 +1,5 @@
 -- What a turn does to the plain state: one step by a match or by an end action, or one that is refused.
-use Rattle.std.specs.Prelude.{◌≡◌, ℕ, ◌+◌, ◌-◌, ◌≤◌, ◌<◌, Bool, true, false, List, [], length, take, drop, ◌⊎◌, Option, Some, None, Result, Ok, Err, OnOk, OnErr, IfOk, IfErr, IsErrOf, nat_eq, get_or}
+use Rattle.std.specs.Prelude.{◌≡◌, ℕ, ◌+◌, ◌≤◌, Bool, true, false, List, [], length, drop, ◌⊎◌, Option, Some, None, Result, Ok, Err, OnOk, OnErr, IfOk, IfErr, IsErrOf}
 use Rattle.lex_semantics.specs.Text.{BeginsWith}
 use Rattle.lex_semantics.specs.Machine.{Machine}
 use Rattle.lexscan_window.specs.declared.state.Reading.{Reading}
@@ -11,36 +11,10 @@ use Rattle.lexscan.specs.declared.turn.Turn.{Turn}
 use Rattle.lexscan_window.specs.declared.error.RunError.{RunError}
 use Rattle.lexscan_window.specs.Reads.{Took, write_fault_count}
 use Rattle.lexscan_window.specs.Ends.{IsEarly}
-use Rattle.lexscan_window.specs.Window.{last_of}
-use Rattle.lexscan.specs.Matches.{kept_before}
+use Rattle.lexscan_window.specs.Places.{AtNextPlace}
 use Rattle.lexscan_matching.specs.Looks.{Looked, LookedAtEnd, Unmet}
 use Rattle.lexscan_window.specs.declared.error.RunError.TheVariants.{Write, Stack}
 use Rattle.lexscan_matching.specs.Descends.{Conditions, conditions_at, matches_of, ending_of, Performed, CutAll, Faulted, Takes}
-
--- whether the next text starts where this one does
-abbrev pub stays : Bool → Bool → Bool
-stays true false = true
-stays true true = false
-stays false over = false
-
--- the bytes that are held at the next place, and how far into them it is
-abbrev pub next_bytes : Bool → ℕ → List ℕ → List ℕ
-next_bytes true end w = w
-next_bytes false end w = drop end w
-
-abbrev pub next_at : Bool → ℕ → ℕ
-next_at true end = end
-next_at false end = 0
-
--- The scan is at the place of the next match. The text of this one is kept before it.
-pub record AtNextPlace (w : List ℕ) (a : ActionState) (over : Bool) (new : State) : Type 0 where
-  pub held : new.reading.window.bytes ≡ next_bytes (stays a.more over) a.end w
-  pub at : new.place.at ≡ next_at (stays a.more over) a.end
-  pub line : 0 < a.end → new.place.line_start ≡ nat_eq (get_or w (a.end - 1) 0) 10
-  pub condition : new.place.condition ≡ a.condition
-  pub stack : new.acting.stack ≡ a.stack
-  pub end : new.acting.end ≡ a.end
-  pub text : last_of a.end (kept_before new) ≡ take a.end w
 
 abbrev pub is_over : Option ℕ → Bool
 is_over None = false

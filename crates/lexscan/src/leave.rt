@@ -1,7 +1,6 @@
 //! The end of a turn: the scan leaves the place of its match for that of the next one.
 ghost use Rattle.std.specs.Prelude.{◌≡◌, ◌≤◌, length, true, Some};
 ghost use Rattle.lexscan_window.specs.Intakes.{can_write};
-ghost use Rattle.lexscan.specs.TurnSteps.{stays, next_bytes, next_at, AtNextPlace};
 ghost use Rattle.lexscan.specs.Steps.{TurnFinished};
 
 use crate::turn::Turn;
@@ -23,7 +22,7 @@ pub fn leave_match<K: Sink>(
     match finish {
         Some(finish) => finish_turn(outlet, state, finish),
         None => {
-            leave(state, false);
+            state.leave_text(false);
             Ok(Turn::Went)
         }
     }
@@ -47,37 +46,10 @@ fn finish_turn<K: Sink>(
         Ok(()) => match finish {
             Finish::StackFault => Err(RunError::Stack),
             Finish::Status(status) => {
-                leave(state, true);
+                state.leave_text(true);
                 state.ended = Some(status);
                 Ok(Turn::Ended(status))
             }
         },
-    }
-}
-
-/// Goes to the place of the next match.
-#[tactic(auto, using(lexscan_window::proofs::Keeping::text_stays, lexscan_window::proofs::Keeping::text_dropped))]
-fn leave(state: &mut State, over: bool)
-    requires { state.old.acting.end ≤ length state.old.reading.window.bytes }
-    ensures left { AtNextPlace state.old.reading.window.bytes state.old.acting over state.new }
-    ensures taken { state.new.reading.taken ≡ state.old.reading.taken }
-    ensures at_end { state.new.reading.at_end ≡ state.old.reading.at_end }
-    ensures max_reads { state.new.reading.max_reads ≡ state.old.reading.max_reads }
-    ensures ended { state.new.ended ≡ state.old.ended }
-    ensures failed { state.new.failed ≡ state.old.failed }
-    ensures matched { state.new.matched ≡ state.old.matched }
-{
-    let end = state.acting.end;
-    // After an empty text a line starts where it did.
-    if 0 < end {
-        state.place.line_start = state.reading.window.byte(end - 1) == b'\n';
-    }
-    state.place.condition = state.acting.condition;
-    // With yymore the text stays, at the front of the next one.
-    if state.acting.more && !over {
-        state.place.at = end;
-    } else {
-        state.reading.window.drop_front(end);
-        state.place.at = 0;
     }
 }

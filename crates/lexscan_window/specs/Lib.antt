@@ -4,6 +4,7 @@ pub mod Answer
 pub mod Intakes
 pub mod Reads
 pub mod States
+pub mod Places
 pub mod Ends
 pub mod Takings
 pub mod Acts

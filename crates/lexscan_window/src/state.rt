@@ -1,5 +1,5 @@
 //! What a scanner keeps beside its two ends.
-ghost use Rattle.std.specs.Prelude.{◌≡◌, ◌+◌, ◌≤◌, false, None, []};
+ghost use Rattle.std.specs.Prelude.{◌≡◌, ◌+◌, ◌≤◌, length, false, None, []};
 ghost use Rattle.lex_semantics.specs.ByteSets.{bit_of};
 
 use crate::act::ActionState;
@@ -41,6 +41,7 @@ pub struct State {
 
 impl State {
     ghost use Rattle.lexscan_window.specs.States.{IsFirstReading, IsFirstPlace};
+    ghost use Rattle.lexscan_window.specs.Places.{AtNextPlace};
 
     /// What a scanner keeps before its first turn.
     pub fn new(alloc: Global, max_reads: u64) -> State
@@ -72,6 +73,34 @@ impl State {
             matched: None,
             ended: None,
             failed: false,
+        }
+    }
+
+    /// Goes from the text of a match to the place of the next one, or where the scan is over, behind it.
+    #[inline(always)]
+    #[tactic(auto, using(crate::proofs::Keeping::text_stays, crate::proofs::Keeping::text_dropped))]
+    pub fn leave_text(&mut self, over: bool)
+        requires { self.old.acting.end ≤ length self.old.reading.window.bytes }
+        ensures left { AtNextPlace self.old.reading.window.bytes self.old.acting over self.new }
+        ensures taken { self.new.reading.taken ≡ self.old.reading.taken }
+        ensures at_end { self.new.reading.at_end ≡ self.old.reading.at_end }
+        ensures max_reads { self.new.reading.max_reads ≡ self.old.reading.max_reads }
+        ensures ended { self.new.ended ≡ self.old.ended }
+        ensures failed { self.new.failed ≡ self.old.failed }
+        ensures matched { self.new.matched ≡ self.old.matched }
+    {
+        let end = self.acting.end;
+        // After an empty text a line starts where it did.
+        if 0 < end {
+            self.place.line_start = self.reading.window.byte(end - 1) == b'\n';
+        }
+        self.place.condition = self.acting.condition;
+        // With yymore the text stays, at the front of the next one.
+        if self.acting.more && !over {
+            self.place.at = end;
+        } else {
+            self.reading.window.drop_front(end);
+            self.place.at = 0;
         }
     }
 }

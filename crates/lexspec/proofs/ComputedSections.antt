@@ -15,7 +15,7 @@ use Rattle.lexspec.specs.ItemRuns.{Item, skipped, skipped_line, skipped_block, r
 use Rattle.lexspec.proofs.ItemRunLaws.{all_as, numbered_items, numbered_lines}
 use Rattle.lexspec_lines.specs.Lines.{after_block, without_returns}
 use Rattle.lexspec.specs.Items.{AreItems, unlisted, every, only, conditions_at, after_string, after_piece, action_end, action_at}
-use Rattle.lexspec.specs.SpecExamples.{rules_section, user_code, whole_file, WholeSkips, short_file}
+use Rattle.lexspec.specs.SpecExamples.{rules_section, user_code, whole_file, WholeSkips, short_file, key_file}
 use Rattle.lexspec.proofs.FileSections.{cut_by}
 
 -- the cutting of a pattern without a slash outside parentheses, by its pieces
@@ -330,6 +330,42 @@ short_second = (
     codes "ECHO;",
     refl,
     (refl, refl, a_here (codes "ECHO;")),
+    refl,
+    refl,
+  ),
+  (refl, inl refl),
+)
+
+-- ---- the file of one rule
+
+abbrev pub key_items : List (ℕ × Item)
+key_items = (2, rule unlisted (matching false (codes "if") no_trail) (Some (codes "printf(\"K\");"))) ∷ []
+
+pub key_first : IsUpTo definition_at (without_returns key_file) [] key_file
+key_first = refl
+
+key_sides : IsSides (codes "if printf(\"K\");\n") (codes "if") no_trail (codes " printf(\"K\");\n")
+unfolding kind_at piece_at slashes ends_with_dollar is_blank
+key_sides =
+    let after = codes " printf(\"K\");\n" in (
+      2,
+      without_slash (codes "if" ++ after) ((other, 0) ∷ (other, 1) ∷ []) 2 false (codes "f" ++ after, refl, refl, (after, refl, refl, (refl, refl))) refl refl,
+      refl,
+      refl,
+    )
+
+pub key_second : AreItems 2 (codes "if printf(\"K\");\n") (all_as key_items) []
+unfolding conditions_at take_up_to is_blank action_at action_end after_piece after_string until_quote
+key_second = (
+  [],
+  refl,
+  (
+    refl,
+    codes "if printf(\"K\");\n",
+    codes " printf(\"K\");\n",
+    codes "printf(\"K\");",
+    refl,
+    (refl, refl, key_sides),
     refl,
     refl,
   ),

@@ -39,9 +39,9 @@ use Rattle.lexspec.specs.Files.{AreSingle}
 use Rattle.lexspec.specs.Items.{unlisted, every, only}
 use Rattle.lexspec.specs.WaitingRules.{IsRule, RulesFrom}
 use Rattle.lexspec.specs.RuleItems.{EndRule}
-use Rattle.lexspec.specs.SpecExamples.{whole_file, ended, open_at_end, number, letters, opening, closing, any_other, whole_spec, WholeFile, short_file, both_cases, ShortFile}
+use Rattle.lexspec.specs.SpecExamples.{whole_file, ended, open_at_end, number, letters, opening, closing, any_other, whole_spec, WholeFile, short_file, both_cases, ShortFile, key_file, key_rule, KeyFile}
 use Rattle.lexspec.specs.Tests.{any_below, sound_tree, sound_trail, cut_fits}
-use Rattle.lexspec.proofs.ComputedSections.{whole_definitions, from_separator, from_user, other_item, letters_item, end_items, last_items, later_items, whole_items, whole_first, whole_second, short_items, short_first, short_second}
+use Rattle.lexspec.proofs.ComputedSections.{whole_definitions, from_separator, from_user, other_item, letters_item, end_items, last_items, later_items, whole_items, whole_first, whole_second, short_items, short_first, short_second, key_items, key_first, key_second}
 use Rattle.lexspec.proofs.ItemRunLaws.{all_as}
 use Rattle.lexspec.proofs.RuleRunLaws.{rules_first}
 use Rattle.lexspec.proofs.CutLaws.{cut_is_fit}
@@ -313,6 +313,53 @@ short = record {
   options = refl;
   ends = [];
   rules = rules_first (codes "INITIAL" ∷ []) folding false (from_entries []) short_items (both_cases ∷ []) [] short_ruled;
+  one_end = short_single;
+  conditions = refl;
+  few_conditions = leb-true 1 max_conditions refl;
+  few_rules = leb-true 1 max_rules refl;
+}
+
+-- ---- the file of one rule
+
+key_ruled : RulesFrom (codes "INITIAL" ∷ []) plain false (from_entries []) key_items (key_rule ∷ []) []
+unfolding symbol_at has set_of single simple_escape until_quote take_up_to is_alpha is_upper is_lower is_alnum is_blank is_digit after_word A.next_piece A.statement_at A.parts_of A.in_parentheses A.number_within A.second_word A.format_at A.after_statement A.condition_at run_at number_at name_at B.after_space B.after_spaces B.expect B.string_escape_at escape_at B.literal_at
+key_ruled = (
+  key_rule,
+  [],
+  refl,
+  (
+    record {
+      line_is = refl;
+      listed = refl;
+      anchor = refl;
+      head_is = is_tree plain 20 (codes "if") key_rule.head refl refl (from_entries []);
+      trail_is = refl;
+      cut_is = refl;
+    },
+    refl,
+    ((([], Print (codes "K") ∷ []) ∷ [], ([], refl, refl), one_balanced (prints (codes "K")), refl), refl),
+  ),
+  (refl, refl),
+)
+
+pub key_read : KeyFile
+unfolding is_blank
+key_read = record {
+  short = leb-true (length key_file) max_file_bytes refl;
+  definitions = [];
+  items = all_as key_items;
+  sections = from_sections key_file [] (all_as key_items) (record {
+    after = key_file;
+    first = key_first;
+    separator = refl;
+    rest = [];
+    second = key_second;
+  });
+  names = test_distinct (codes "INITIAL" ∷ []) refl;
+  defined_once = tt;
+  options = refl;
+  ends = [];
+  rules = rules_first (codes "INITIAL" ∷ []) plain false (from_entries []) key_items (key_rule ∷ []) [] key_ruled;
   one_end = short_single;
   conditions = refl;
   few_conditions = leb-true 1 max_conditions refl;

@@ -3,7 +3,7 @@
 -- Scanner Options.)
 use Rattle.std.specs.Prelude.{ℕ, ◌^◌, ◌+◌, true, false, List, [], ◌∷◌, ◌++◌, Some, None, codes}
 use Rattle.lex_semantics.specs.ByteSets.{single, range_set, complement}
-use Rattle.lex_semantics.specs.Spec.{Spec, Rule, Condition, EndAction, Statement, Echo, More, Push, Pop, Whole, Head, Trail}
+use Rattle.lex_semantics.specs.Spec.{Spec, Rule, Condition, EndAction, Statement, Echo, Print, More, Push, Pop, Whole, Head, Trail}
 use Rattle.lex_semantics.specs.Tree.{Set, Cat, Alt, Star, Repeat, trees}
 use Rattle.lexre.specs.PatternExamples.{plain, one_letter}
 use Rattle.lexspec.specs.Files.{SpellsSpec}
@@ -157,6 +157,27 @@ initial_only = record { name = codes "INITIAL"; exclusive = false; end = record 
 
 abbrev pub ShortFile : Type 0
 ShortFile = IsSpec short_file (record { conditions = initial_only ∷ []; rules = both_cases ∷ [] })
+
+-- One rule, which writes `K` for `if`.
+abbrev pub key_file : List ℕ
+key_file = codes "%%\nif printf(\"K\");\n"
+
+abbrev pub key_rule : Rule
+key_rule = record {
+  line = 2;
+  conditions = None;
+  anchored = false;
+  head = Cat (trees (one_letter 105 ∷ one_letter 102 ∷ []));
+  trail = None;
+  cut = Whole;
+  statements = Print (codes "K") ∷ [];
+}
+
+abbrev pub key_spec : Spec
+key_spec = record { conditions = initial_only ∷ []; rules = key_rule ∷ [] }
+
+abbrev pub KeyFile : Type 0
+KeyFile = IsSpec key_file key_spec
 
 -- no `%%`; an unknown option; a condition that is declared twice; a name that is defined twice; a condition that is not
 -- declared; a `|` at the last rule; two ends of the conditions without a list

@@ -12,7 +12,7 @@ ghost use Rattle.lexspec.specs.Endings.{conditions_with};
 ghost use Rattle.lexre.specs.declared.options.ReadOptions.{ReadOptions};
 ghost use Rattle.lexspec.specs.Tests.{is_sound, sound_tree};
 ghost use Rattle.lexspec.specs.RuleExamples.{ConditionLists, Actions, Sides};
-ghost use Rattle.lexspec.specs.SpecExamples.{WholeFile, WholeSkips, ShortFile, NoFiles, NoRules};
+ghost use Rattle.lexspec.specs.SpecExamples.{WholeFile, WholeSkips, ShortFile, KeyFile, NoFiles, NoRules};
 ghost use Rattle.lex_semantics.specs.Limits.{max_conditions, max_rules};
 
 /// A tree passes the test exactly if it is sound.
@@ -47,12 +47,13 @@ pub fn examples_of_rules()
     ensures sides { Sides }
 {}
 
-/// Worked examples of files: one with each kind of line, and where it has code; a short one with an option; and files
-/// that spell no specification.
+/// Worked examples of files: one with each kind of line, and where it has code; a short one with an option; one of a
+/// rule; and files that spell no specification.
 pub fn examples_of_specs()
     ensures whole { WholeFile }
     ensures skipped { WholeSkips }
     ensures short { ShortFile }
+    ensures key { KeyFile }
     ensures none { NoFiles }
 {}
 

@@ -12,5 +12,8 @@ returns-clause-skipped c = Section.whole_skips
 pub returns-clause-short : goal.returns-clause-short
 returns-clause-short c = File.short
 
+pub returns-clause-key : goal.returns-clause-key
+returns-clause-key c = File.key_read
+
 pub returns-clause-none : goal.returns-clause-none
 returns-clause-none c = Refused.none

@@ -1,7 +1,7 @@
 use Rattle.std.proofs.Common.{[], refl, sym}
 use Rattle.lexscan.proofs.Stepping.{stands_first}
 use Rattle.lexscan.proofs.Pulling.{nothing_shown, not_ended}
-use Rattle.lexscan.specs.Matches.{kept_before}
+use Rattle.lexscan_window.specs.Places.{kept_before}
 use Rattle.lexscan.proofs.pull.PullScanner.new.Goals as goal
 
 pub invariant_of-result-clause-reachable : goal.invariant_of-result-clause-reachable

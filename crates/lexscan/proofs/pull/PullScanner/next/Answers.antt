@@ -1,5 +1,5 @@
 use Rattle.std.proofs.Common.{drop, Ok, Err, Some, None, sym, ap, subst, ◌∙◌}
-use Rattle.lexscan.specs.Matches.{kept_before}
+use Rattle.lexscan_window.specs.Places.{kept_before}
 use Rattle.lexscan.specs.Pushes.{IsAsking}
 use Rattle.lexscan.specs.Pulls.{TurnedOver}
 use Rattle.lexscan.proofs.Pulling as Pull
