@@ -45,10 +45,12 @@ fn mark_sources(
     ensures { OnOk result (Spreads (GoesTo sources.now.next.now target) accepting.now live.old.items waiting.old.items
         live.new.items waiting.new.items) }
 {
-    let mut entry = sources.chains.last[target as usize];
-    'chain: while entry > 0 {
-        mark_live(accepting, live, waiting, (entry - 1) / 256)?;
-        entry = sources.chains.before[(entry - 1) as usize];
+    let chains = &sources.chains;
+    let mut link = chains.last[target as usize];
+    'chain: while link > 0 {
+        let at = (link - 1) as usize;
+        mark_live(accepting, live, waiting, chains.entries[at] / 256)?;
+        link = chains.before[at];
     }
     Ok(())
 }
