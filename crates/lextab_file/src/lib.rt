@@ -24,7 +24,7 @@
 //! Decided here:
 //! - Which states are live is not in the file. It follows from the steps, and a flag that could be wrong would be one
 //!   more thing to check. The reader finds it backwards: from the states that accept to those that lead to them, each
-//!   taken once.
+//!   taken once. Of neighbouring bytes that lead from a state to one target the first alone has a link.
 //! - Of two faults the one at the first field from the left is reported, as `specs/Reading` defines. Each field is
 //!   judged when it was read, by what stands before it: each byte of the class map, a tag before its arguments, a
 //!   length before its bytes, a count before what it counts, a check before its next. A field that is cut short is
