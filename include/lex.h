@@ -9,14 +9,14 @@
    A program that makes many scans by one table file reads it once, by lex_load. Its scans then go by that table, side by side.
 
    lex_scan_table scans an input that is there as a whole. A program with a loop of its own, over a socket or in an editor, feeds
-   its input to lex_feed as it comes.
+   its input to lex_feed as it comes. A parser feeds it to lex_feed_stream, and asks for one token after another by lex_next.
 
    What holds for each call:
 
    - A pointer and the length after it are one buffer, with so many bytes, or items. They may be read, and those of `out`, `tokens`
      and `lines` written, for the whole call. Where the length is 0 the pointer must still not be null.
-   - No other pointer of the call leads to what `out`, `tokens`, `lines`, `count`, `fault`, `status`, `scan`, `tables` or `other`
-     points to: buffers that are written do not overlap another.
+   - No other pointer of the call leads to what `out`, `tokens`, `lines`, `count`, `fault`, `status`, `scan`, `stream`, `token`,
+     `tables` or `other` points to: buffers that are written do not overlap another.
    - Nothing is global, so calls in several threads do not meet, as long as none writes what another uses.
    - No call is made from a signal handler, or in the child of a fork of a process with threads.
    - No call ends the process. Memory that is refused is told by LEX_OUT_OF_MEMORY.
@@ -45,7 +45,8 @@ enum lex_answer {
     LEX_OK = 0,              /* all is done */
     LEX_TOO_SMALL = 1,       /* the buffer has no room for all the bytes; *count says how many there are */
     LEX_ENDED = 2,           /* the rules have ended the scan: what is fed from now on counts for nothing */
-    LEX_CLOSED = 3,          /* the scan is closed, or no table is loaded */
+    LEX_CLOSED = 3,          /* the scan or the stream is closed, or no table is loaded */
+    LEX_MORE = 4,            /* the next token asks for more than was fed */
     LEX_REFUSED = 65,        /* the text is no specification, its automaton is too large, or the bytes are no table file */
     LEX_STACK = 70,          /* the rules push more than 255 conditions, or pop where there is none: the scan ends so */
     LEX_OUT_OF_MEMORY = 71,  /* a request for memory was refused */
@@ -252,6 +253,71 @@ int32_t lex_finish(struct lex_scan *scan, uint8_t *out, size_t out_len, size_t *
 
 /* Closes a scan, and gives its memory back. One that is closed stays so. */
 void lex_close(struct lex_scan *scan);
+
+/* A stream of tokens: a scan by pieces that is asked for one token after another. What its rules print, copy or put is written nowhere.
+   Begin with LEX_STREAM_INIT, and leave its fields to the calls. What holds for it is what holds for a scan by pieces. Its memory does not
+   grow with the tokens: it keeps the bytes fed that no token has taken, and the text of the token told last. */
+struct lex_stream {
+    uint8_t is_open;
+    void *place;
+};
+
+#define LEX_STREAM_INIT {0, NULL}
+
+/* A token that was asked for. */
+struct lex_next_token {
+    uint64_t start;      /* where its text begins, in bytes from the beginning of the input, with what yymore kept before it */
+    size_t length;       /* how long its text is, up to trailing context or where yyless ends it */
+    uint32_t rule;       /* its rule, from 0 on in the order of the file, or LEX_DEFAULT_RULE */
+    uint32_t condition;  /* the start condition in which it was made, 0 for INITIAL, then in the order of the file */
+};
+
+/* Opens a stream by the rules of a table file. If `stream` was open, it is closed first. Nothing of `file` is kept.
+
+   LEX_OK: it is open, and was fed nothing.
+   LEX_REFUSED, LEX_OUT_OF_MEMORY: it is closed. */
+int32_t lex_open_stream(struct lex_stream *stream, const uint8_t *file, size_t file_len);
+
+/* What lex_open_stream does, by a table that is loaded. In place of LEX_REFUSED it answers LEX_CLOSED, where none is. The stream keeps what
+   it needs of the table, which may be unloaded before it. */
+int32_t lex_open_stream_loaded(struct lex_stream *stream, struct lex_tables *tables);
+
+/* Feeds a piece more of the input, of any length. No token is looked for.
+
+   LEX_OK: it was fed.
+   LEX_ENDED: it counts for nothing, since lex_end_stream told the end, or lex_next has answered LEX_ENDED.
+   LEX_OUT_OF_MEMORY, LEX_TOO_MANY_READS: nothing of it was fed, and the stream is as it was. It may be fed again.
+   LEX_STACK: it counts for nothing, since lex_next has answered so. After LEX_OUT_OF_MEMORY from lex_next it is the same.
+   LEX_CLOSED: the stream is closed. */
+int32_t lex_feed_stream(struct lex_stream *stream, const uint8_t *piece, size_t piece_len);
+
+/* Tells that the input has ended: LEX_OK, or LEX_CLOSED. Pieces count for nothing after it. */
+int32_t lex_end_stream(struct lex_stream *stream);
+
+/* Tells the next token, as soon as the bytes fed decide it.
+
+   LEX_OK: *token is it. lex_text has its text.
+   LEX_MORE: the next token asks for more than was fed. Feed a piece, or tell the end; after lex_end_stream this never comes.
+   LEX_ENDED: there are no more tokens, and *status is what the rules end with, 0 to 63.
+   LEX_STACK: a fault of the stack of conditions ended the scan.
+   LEX_OUT_OF_MEMORY: the scan has stopped. The tokens so far are the first ones.
+   LEX_CLOSED: the stream is closed.
+
+   The tokens told, one after another, are those of lex_tokens for all the bytes fed, however they are cut into pieces. Each is told once.
+   From LEX_ENDED, LEX_STACK and LEX_OUT_OF_MEMORY on, the answer is the same again. But after LEX_OK *token is as it was, and but after
+   LEX_ENDED *status is 0. */
+int32_t lex_next(struct lex_stream *stream, struct lex_next_token *token, uint8_t *status);
+
+/* Puts the text of the token that was told last into `out`, as often as it is asked for, until lex_next is called again. *count is how long
+   it is.
+
+   LEX_OK: out[0] to out[*count - 1] are it. It is empty after each other answer of lex_next, and before the first.
+   LEX_TOO_SMALL: `out` has the first out_len bytes of it. Call again with *count bytes of room.
+   LEX_CLOSED: *count is 0, and `out` is as it was. */
+int32_t lex_text(struct lex_stream *stream, uint8_t *out, size_t out_len, size_t *count);
+
+/* Closes a stream, and gives its memory back. One that is closed stays so. */
+void lex_close_stream(struct lex_stream *stream);
 
 #ifdef __cplusplus
 }

@@ -1,7 +1,7 @@
 #!/bin/sh
 # Builds liblex.a, with the toolkit's small C part in it, and tries it from C and, where cargo is there, from Rust, over examples/: whole
 # inputs, buffers that are too small, memory that is refused, and, where valgrind is there, no bad access and no leak. The examples of
-# docs/C.md are run too. Needs gcc or CC.
+# docs/C.md are run too, and the calculator of examples/calc, from C where bison is there. Needs gcc or CC.
 #
 #     scripts/liblex.sh [FOLDER]      the folder for what is built: out/liblex by default
 #
@@ -102,14 +102,14 @@ done
 [ "$told" -gt 0 ] || { echo "liblex.sh: no limit refused memory"; exit 1; }
 echo "liblex.sh: memory that is refused is told"
 
-# The examples of docs/C.md in C, as they stand there: two programs, and two functions that bindings/c/pages.c calls.
+# The examples of docs/C.md in C, as they stand there: two programs, and three functions that bindings/c/pages.c calls.
 awk -v page="$out/page" '/^```c$/ { count++; inside = 1; next } /^```$/ { inside = 0 } inside { print > (page count ".c") }' \
     "$top/docs/C.md"
 for number in 1 2; do
     "$compiler" -Wall -Wextra -Werror -I"$top/include" "$out/page$number.c" "$out/liblex.a" -o "$out/page$number"
 done
 "$compiler" -Wall -Wextra -Werror -g -I"$top/include" -pthread \
-    "$top/bindings/c/pages.c" "$out/page3.c" "$out/page4.c" "$out/liblex.a" -o "$out/pages"
+    "$top/bindings/c/pages.c" "$out/page3.c" "$out/page4.c" "$out/page5.c" "$out/liblex.a" -o "$out/pages"
 
 # Fails with what the page $1 should write and does not.
 page_failed() {
@@ -125,6 +125,8 @@ for text in "$top"/examples/*.l; do
     "$out/pages" input "$text" < "$name.input" > "$out/written" || status=$?
     [ "$status" = "$wanted" ] && cmp -s "$out/written" "$name.output" || page_failed "as it comes, $text"
 done
+printf '%%%%\n[0-9]+ ;\n[a-z]+ ;\n' > "$out/names.l"
+[ "$(printf 'a12 b' | "$out/pages" tokens "$out/names.l")" = "$(printf '1: a\n0: 12\n4294967295:  \n1: b')" ] || page_failed "token by token"
 printf '%%%%\n[0-9]+   printf("N");\n^a.*\\n  ;\n' > "$out/lines.l"
 for lines in 0 1 2 3 5 100000; do
     awk -v lines="$lines" 'BEGIN { for (; lines > 0; lines--) print substr("a line of b", 1 + lines % 12), lines }' > "$out/lines"
@@ -137,6 +139,33 @@ for lines in 0 1 2 3 5 100000; do
 done
 echo "liblex.sh: the examples of docs/C.md pass"
 
+# The calculator of examples/calc by the program that the words begin with: its answers to a whole input, and to line after line, where each is
+# answered before the next is written.
+calc=$top/examples/calc
+calc_answers() {
+    "$@" "$calc/calc.l" < "$calc/calc.input" > "$out/written"
+    cmp -s "$out/written" "$calc/calc.output" || { echo "liblex.sh: $1 answers otherwise"; exit 1; }
+    rm -f "$out/asked" "$out/answered"
+    mkfifo "$out/asked" "$out/answered"
+    timeout 60 "$@" "$calc/calc.l" < "$out/asked" > "$out/answered" &
+    exec 3> "$out/asked" 4< "$out/answered"
+    while IFS= read -r line || [ -n "$line" ]; do
+        printf '%s\n' "$line" >&3
+        [ -z "$line" ] || { IFS= read -r answer <&4 && printf '%s\n' "$answer"; } || break
+    done < "$calc/calc.input" > "$out/written"
+    exec 3>&- 4<&-
+    wait
+    cmp -s "$out/written" "$calc/calc.output" || { echo "liblex.sh: $1 does not answer each line at once"; exit 1; }
+}
+
+if command -v bison > /dev/null; then
+    bison -Wall -Werror -o "$out/calc.c" "$calc/calc.y"
+    "$compiler" -Wall -Wextra -Werror -g -I"$top/include" "$out/calc.c" "$out/liblex.a" -o "$out/calc"
+    calc_answers "$out/calc"
+    ! command -v valgrind > /dev/null || calc_answers valgrind -q --error-exitcode=9 --leak-check=full "$out/calc"
+    echo "liblex.sh: the calculator answers each line"
+fi
+
 if command -v valgrind > /dev/null; then
     examples valgrind -q --error-exitcode=9 --leak-check=full
     echo "liblex.sh: valgrind finds nothing"
@@ -146,5 +175,7 @@ if command -v cargo > /dev/null; then
     (cd "$top/bindings/rust" && LIBLEX_DIR="$out" CARGO_TARGET_DIR="$out/rust" cargo test --offline --quiet)
     (cd "$top/bindings/rust" && LIBLEX_DIR="$out" CARGO_TARGET_DIR="$out/rust" RUSTDOCFLAGS="-D warnings" \
         cargo doc --offline --quiet --no-deps)
-    echo "liblex.sh: the bindings for Rust pass, and their pages are built"
+    (cd "$top/bindings/rust" && LIBLEX_DIR="$out" CARGO_TARGET_DIR="$out/rust" cargo build --offline --quiet --example calc)
+    calc_answers "$out/rust/debug/examples/calc"
+    echo "liblex.sh: the bindings for Rust pass, their pages are built, and their calculator answers each line"
 fi

@@ -254,6 +254,128 @@ static int tokens(void)
     return 0;
 }
 
+/* Whether the stream tells the next of some tokens, with its text, into a buffer that is too small first. */
+static int is_next(struct lex_stream *stream, struct bytes input, const struct lex_token *wanted)
+{
+    struct lex_next_token token = {0, 0, 0, 0};
+    uint8_t status = 9, few[1], *text;
+    size_t count = 9;
+    int answer = lex_next(stream, &token, &status), same_text;
+    if (answer != LEX_OK)
+        return answer;
+    if (token.start != wanted->start || token.start + token.length != wanted->end || token.rule != wanted->rule ||
+        token.condition != wanted->condition || status != 0)
+        return fail("a token told otherwise", (int)token.start);
+    answer = lex_text(stream, few, 1, &count);
+    if (count != token.length || answer != (count > 1 ? LEX_TOO_SMALL : LEX_OK))
+        return fail("a text that has no room", answer);
+    text = malloc(token.length + 1);
+    if (text == NULL)
+        exit(2);
+    answer = lex_text(stream, text, token.length + 1, &count);
+    same_text = count == token.length && memcmp(text, input.at + token.start, count) == 0;
+    free(text);
+    return answer == LEX_OK && same_text ? LEX_OK : fail("a text", answer);
+}
+
+/* The tokens of the input in pieces of a size, one by one: those that are listed for the whole. */
+static int pull_pieces(struct lex_stream *stream, struct bytes input, const struct lex_token *wanted, size_t all, int status, size_t piece)
+{
+    struct lex_next_token token;
+    uint8_t ended = 9;
+    size_t at = 0, told = 0;
+    int answer;
+    for (;;) {
+        answer = told < all ? is_next(stream, input, &wanted[told]) : lex_next(stream, &token, &ended);
+        if (answer == LEX_OK && told < all) {
+            told++;
+        } else if (answer != LEX_MORE) {
+            break;
+        } else if (at < input.len) {
+            size_t len = input.len - at < piece ? input.len - at : piece;
+            answer = lex_feed_stream(stream, input.at + at, len);
+            if (answer != LEX_OK)
+                return fail("a piece for tokens", answer);
+            at += len;
+        } else if (lex_end_stream(stream) != LEX_OK) {
+            return fail("the end for tokens", answer);
+        }
+    }
+    if (answer != LEX_ENDED || told != all || ended != status || lex_next(stream, &token, &ended) != LEX_ENDED || ended != status)
+        return fail("tokens one by one", answer);
+    return lex_feed_stream(stream, input.at, 0) == LEX_ENDED ? 0 : fail("a piece after the last token", answer);
+}
+
+static int pull(struct bytes table, struct bytes input, int status)
+{
+    static const size_t sizes[] = {1, 2, 7, 4096};
+    struct lex_stream stream = LEX_STREAM_INIT;
+    struct lex_tables tables = LEX_TABLES_INIT;
+    struct lex_token *wanted = malloc((input.len + 1) * sizeof *wanted);
+    size_t all, i;
+    uint8_t ended;
+    int answer;
+    if (wanted == NULL)
+        exit(2);
+    answer = lex_tokens(table.at, table.len, input.at, input.len, wanted, input.len + 1, &all, &ended);
+    if (answer == LEX_OK)
+        answer = lex_load(&tables, table.at, table.len);
+    for (i = 0; answer == LEX_OK && i < 4; i++) {
+        answer = i % 2 ? lex_open_stream(&stream, table.at, table.len) : lex_open_stream_loaded(&stream, &tables);
+        if (answer == LEX_OK)
+            answer = pull_pieces(&stream, input, wanted, all, status, sizes[i]);
+    }
+    lex_unload(&tables);
+    lex_close_stream(&stream);
+    lex_close_stream(&stream);
+    free(wanted);
+    return answer == LEX_OK ? 0 : fail("a stream", answer);
+}
+
+/* A stream that is closed, refused, asked before it is fed, and at fault. */
+static int streams(void)
+{
+    static const char text[] = "%option stack\n%%\na ;\nb yy_pop_state();\n";
+    struct lex_stream stream = LEX_STREAM_INIT;
+    struct lex_tables tables = LEX_TABLES_INIT;
+    struct lex_next_token token = {7, 7, 7, 7};
+    struct bytes none = {(uint8_t *)text, strlen(text)}, table;
+    uint8_t status = 9, out[2] = {7, 7};
+    size_t count = 9, i;
+    int answer = make(none, &table);
+    if (answer != LEX_OK)
+        return fail("table of streams", answer);
+    answer = lex_open_stream(&stream, none.at, none.len);
+    if (answer != LEX_REFUSED || lex_open_stream_loaded(&stream, &tables) != LEX_CLOSED)
+        return fail("a stream by no table", answer);
+    if (lex_next(&stream, &token, &status) != LEX_CLOSED || token.rule != 7 || status != 0 ||
+        lex_text(&stream, out, 2, &count) != LEX_CLOSED || count != 0 || out[0] != 7)
+        return fail("a closed stream", status);
+    if (lex_feed_stream(&stream, none.at, 1) != LEX_CLOSED || lex_end_stream(&stream) != LEX_CLOSED)
+        return fail("a piece for a closed stream", 0);
+    answer = lex_open_stream(&stream, table.at, table.len);
+    if (answer != LEX_OK)
+        return fail("a stream", answer);
+    answer = lex_next(&stream, &token, &status);
+    if (answer != LEX_MORE || token.rule != 7)
+        return fail("a stream that was fed nothing", answer);
+    answer = lex_feed_stream(&stream, (const uint8_t *)"ab", 2);
+    if (answer == LEX_OK)
+        answer = lex_next(&stream, &token, &status);
+    if (answer != LEX_OK || token.rule != 0 || token.start != 0 || token.length != 1)
+        return fail("a token before a fault", answer);
+    for (i = 0; i < 2; i++) {
+        answer = lex_next(&stream, &token, &status);
+        if (answer == LEX_STACK && lex_feed_stream(&stream, none.at, 1) != LEX_STACK)
+            return fail("a piece after a fault", answer);
+        if (answer != LEX_STACK || lex_text(&stream, out, 2, &count) != LEX_OK || count != 0)
+            return fail("a fault of a stream", answer);
+    }
+    lex_close_stream(&stream);
+    free(table.at);
+    return 0;
+}
+
 /* The same example, by a table that was loaded once: as a whole, its tokens, and by a scan that outlives the table. */
 static int loaded(struct bytes table, struct bytes input, struct bytes wanted, int status)
 {
@@ -320,7 +442,7 @@ int main(int argc, char **argv)
     if (answer != LEX_OK)
         return fail(argv[1], answer);
     answer = scan(table, input, wanted, status) || scan_all_pieces(table, input, wanted, status) ||
-             loaded(table, input, wanted, status) || refusals() || tokens() || handles();
+             loaded(table, input, wanted, status) || pull(table, input, status) || refusals() || tokens() || handles() || streams();
     free(text.at);
     free(input.at);
     free(wanted.at);

@@ -16,6 +16,7 @@ struct Page;
 
 use std::error::Error;
 use std::fmt;
+use std::io::{self, Read};
 use std::sync::{Mutex, PoisonError};
 
 /// What is declared in include/lex.h.
@@ -47,6 +48,21 @@ mod ffi {
     pub struct Scan {
         pub is_open: u8,
         pub place: *mut core::ffi::c_void,
+    }
+
+    #[repr(C)]
+    pub struct Stream {
+        pub is_open: u8,
+        pub place: *mut core::ffi::c_void,
+    }
+
+    #[repr(C)]
+    #[derive(Default)]
+    pub struct NextToken {
+        pub start: u64,
+        pub length: usize,
+        pub rule: u32,
+        pub condition: u32,
     }
 
     extern "C" {
@@ -131,6 +147,20 @@ mod ffi {
 
         pub fn lex_close(scan: *mut Scan);
 
+        pub fn lex_open_stream(stream: *mut Stream, file: *const u8, file_len: usize) -> i32;
+
+        pub fn lex_open_stream_loaded(stream: *mut Stream, tables: *mut Tables) -> i32;
+
+        pub fn lex_feed_stream(stream: *mut Stream, piece: *const u8, piece_len: usize) -> i32;
+
+        pub fn lex_end_stream(stream: *mut Stream) -> i32;
+
+        pub fn lex_next(stream: *mut Stream, token: *mut NextToken, status: *mut u8) -> i32;
+
+        pub fn lex_text(stream: *mut Stream, out: *mut u8, out_len: usize, count: *mut usize) -> i32;
+
+        pub fn lex_close_stream(stream: *mut Stream);
+
         pub fn lex_scan_table(
             file: *const u8,
             file_len: usize,
@@ -147,6 +177,7 @@ mod ffi {
 const OK: i32 = 0;
 const TOO_SMALL: i32 = 1;
 const ENDED: i32 = 2;
+const MORE: i32 = 4;
 const REFUSED: i32 = 65;
 const STACK: i32 = 70;
 const OUT_OF_MEMORY: i32 = 71;
@@ -493,6 +524,22 @@ impl Tables {
         listed(handed, status)
     }
 
+    /// Opens a stream of tokens, which keeps the rules as long as it needs them.
+    pub fn stream(&self) -> Result<Stream, LexError> {
+        let mut share = self.share()?;
+        let mut stream = Stream::closed();
+        // Safety: the stream and the share do not overlap, and live through the call. The stream is closed.
+        match unsafe { ffi::lex_open_stream_loaded(&mut stream.inner, &mut share.inner) } {
+            OK => Ok(stream),
+            _ => Err(LexError::OutOfMemory),
+        }
+    }
+
+    /// The tokens of a source as they come, as `Tokens::open` has them by a file.
+    pub fn read_tokens<R: Read>(&self, source: R) -> Result<Tokens<R>, LexError> {
+        Ok(Tokens::over(self.stream()?, source))
+    }
+
     /// Begins a scan by pieces, which keeps the rules as long as it needs them.
     pub fn open(&self) -> Result<Scan, LexError> {
         let mut share = self.share()?;
@@ -502,6 +549,228 @@ impl Tables {
             OK => Ok(scan),
             _ => Err(LexError::OutOfMemory),
         }
+    }
+}
+
+/// A token that was asked for.
+#[derive(Clone, Copy, Debug, PartialEq, Eq)]
+pub struct NextToken {
+    /// Where its text begins, in bytes from the beginning of the input, with what yymore kept before it.
+    pub start: u64,
+    /// How long its text is, up to trailing context or where yyless ends it.
+    pub length: usize,
+    /// Its rule, from 0 on in the order of the file, or none where the default rule takes a byte.
+    pub rule: Option<u32>,
+    /// The start condition in which it was made: 0 for INITIAL, then in the order of the file.
+    pub condition: u32,
+}
+
+/// What a stream answers that is asked for its next token.
+#[derive(Clone, Copy, Debug, PartialEq, Eq)]
+pub enum Next {
+    /// The next token.
+    Token(NextToken),
+    /// The next token asks for more than was fed.
+    More,
+    /// There are no more tokens: the rules have ended with this status, 0 to 63.
+    Ended(u8),
+}
+
+/// A scan by pieces that is asked for one token after another. What its rules write is written nowhere. It may be moved to another
+/// thread.
+pub struct Stream {
+    inner: ffi::Stream,
+}
+
+// Safety: as for a `Scan`. The block that `inner.place` leads to is a `TokenScan` of crates/liblex_calls. This is an argument, and no
+// theorem.
+unsafe impl Send for Stream {}
+
+impl Stream {
+    /// One that is not open yet.
+    fn closed() -> Stream {
+        Stream {
+            inner: ffi::Stream {
+                is_open: 0,
+                place: std::ptr::null_mut(),
+            },
+        }
+    }
+
+    /// Opens a stream by the rules of a table file.
+    pub fn open(file: &[u8]) -> Result<Stream, LexError> {
+        let mut stream = Stream::closed();
+        // Safety: the slice and the stream do not overlap, and live through the call. The stream is closed.
+        match unsafe { ffi::lex_open_stream(&mut stream.inner, file.as_ptr(), file.len()) } {
+            OK => Ok(stream),
+            REFUSED => Err(LexError::Table),
+            _ => Err(LexError::OutOfMemory),
+        }
+    }
+
+    /// Feeds a piece more. Where it is refused, nothing of it was fed.
+    pub fn feed(&mut self, piece: &[u8]) -> Result<Progress, LexError> {
+        // Safety: the slice and the stream do not overlap, and live through the call.
+        match unsafe { ffi::lex_feed_stream(&mut self.inner, piece.as_ptr(), piece.len()) } {
+            OK => Ok(Progress::Going),
+            ENDED => Ok(Progress::Ended),
+            other => Err(stopped(other)),
+        }
+    }
+
+    /// Tells that the input has ended.
+    pub fn end(&mut self) {
+        // Safety: the stream is this one's alone.
+        unsafe { ffi::lex_end_stream(&mut self.inner) };
+    }
+
+    /// The next token, as soon as the bytes fed decide it.
+    pub fn next_token(&mut self) -> Result<Next, LexError> {
+        let mut token = ffi::NextToken::default();
+        let mut status = 0;
+        // Safety: the references do not overlap, and live through the call.
+        match unsafe { ffi::lex_next(&mut self.inner, &mut token, &mut status) } {
+            OK => Ok(Next::Token(NextToken {
+                start: token.start,
+                length: token.length,
+                rule: Some(token.rule).filter(|&rule| rule != u32::MAX),
+                condition: token.condition,
+            })),
+            MORE => Ok(Next::More),
+            ENDED => Ok(Next::Ended(status)),
+            other => Err(stopped(other)),
+        }
+    }
+
+    /// The text of the token that was told last. It is empty after each other answer.
+    pub fn text(&mut self) -> Vec<u8> {
+        with_buffer(64, |out, count| {
+            // Safety: the slices and references do not overlap, and live through the call.
+            unsafe { ffi::lex_text(&mut self.inner, out.as_mut_ptr(), out.len(), count) }
+        })
+        .items
+    }
+}
+
+impl Drop for Stream {
+    fn drop(&mut self) {
+        // Safety: the stream is this one's alone.
+        unsafe { ffi::lex_close_stream(&mut self.inner) }
+    }
+}
+
+/// A token with its text.
+#[derive(Clone, Debug, PartialEq, Eq)]
+pub struct Lexeme {
+    /// Where its text begins, in bytes from the beginning of the input.
+    pub start: u64,
+    /// Its text.
+    pub text: Vec<u8>,
+    /// Its rule, from 0 on in the order of the file, or none where the default rule takes a byte.
+    pub rule: Option<u32>,
+    /// The start condition in which it was made.
+    pub condition: u32,
+}
+
+/// Why there is no next token.
+#[derive(Debug)]
+pub enum TokensError {
+    /// The source failed. It is read again for the next token.
+    Read(io::Error),
+    /// The scan has stopped.
+    Scan(LexError),
+}
+
+impl fmt::Display for TokensError {
+    fn fmt(&self, f: &mut fmt::Formatter<'_>) -> fmt::Result {
+        match self {
+            TokensError::Read(error) => error.fmt(f),
+            TokensError::Scan(error) => error.fmt(f),
+        }
+    }
+}
+
+impl Error for TokensError {}
+
+/// The tokens of a source as they come, with their texts: of a slice of bytes, a file, or anything else that can be read. The source is
+/// read only where the bytes so far decide no token.
+pub struct Tokens<R> {
+    stream: Stream,
+    source: R,
+    piece: Vec<u8>,
+    status: Option<u8>,
+    is_over: bool,
+}
+
+impl<R: Read> Tokens<R> {
+    /// The tokens by the rules of a table file.
+    pub fn open(file: &[u8], source: R) -> Result<Tokens<R>, LexError> {
+        Ok(Tokens::over(Stream::open(file)?, source))
+    }
+
+    fn over(stream: Stream, source: R) -> Tokens<R> {
+        Tokens {
+            stream,
+            source,
+            piece: vec![0; 1 << 16],
+            status: None,
+            is_over: false,
+        }
+    }
+
+    /// The status that the rules have ended with, once all tokens were told.
+    pub fn status(&self) -> Option<u8> {
+        self.status
+    }
+
+    /// Feeds what the source has, or its end.
+    fn read_on(&mut self) -> Result<(), TokensError> {
+        let count = loop {
+            match self.source.read(&mut self.piece) {
+                Err(error) if error.kind() == io::ErrorKind::Interrupted => {}
+                other => break other.map_err(TokensError::Read)?,
+            }
+        };
+        if count == 0 {
+            self.stream.end();
+            return Ok(());
+        }
+        self.stream.feed(&self.piece[..count]).map_err(TokensError::Scan)?;
+        Ok(())
+    }
+
+    /// The next token, or none at the end.
+    fn pull(&mut self) -> Result<Option<Lexeme>, TokensError> {
+        loop {
+            match self.stream.next_token().map_err(TokensError::Scan)? {
+                Next::Token(token) => {
+                    return Ok(Some(Lexeme {
+                        start: token.start,
+                        text: self.stream.text(),
+                        rule: token.rule,
+                        condition: token.condition,
+                    }))
+                }
+                Next::More => self.read_on()?,
+                Next::Ended(status) => {
+                    self.status = Some(status);
+                    return Ok(None);
+                }
+            }
+        }
+    }
+}
+
+impl<R: Read> Iterator for Tokens<R> {
+    type Item = Result<Lexeme, TokensError>;
+
+    fn next(&mut self) -> Option<Self::Item> {
+        if self.is_over {
+            return None;
+        }
+        let next = self.pull().transpose();
+        self.is_over = matches!(next, None | Some(Err(TokensError::Scan(_))));
+        next
     }
 }
 

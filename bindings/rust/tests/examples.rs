@@ -1,7 +1,11 @@
 //! Each file of examples/, and refusals.
 
-use liblex::{generate, rule_lines, scan, tokens, version, LexError, Options, Progress, Scan, Tables, Token};
+use liblex::{
+    generate, rule_lines, scan, tokens, version, LexError, Next, NextToken, Options, Progress, Scan, Stream, Tables, Token, Tokens,
+    TokensError,
+};
 use std::fs;
+use std::io::{self, Read};
 use std::path::Path;
 use std::thread;
 
@@ -24,6 +28,11 @@ fn examples_write_what_is_stored() {
             assert_eq!(by_pieces(&table, &input, size), (scanned.output.clone(), scanned.status), "{text:?}");
         }
         assert_eq!(by_threads(&table, &input, 7), (scanned.output, scanned.status), "{text:?}");
+        let listed = tokens(&table, &input).unwrap();
+        for size in [1, 2, 7, 4096] {
+            let (pulled, status) = pulled(&table, &input, size);
+            assert_eq!((pulled, Some(status)), (listed.tokens.clone(), Some(listed.status)), "{text:?}");
+        }
         count += 1;
     }
     assert!(count >= 20);
@@ -82,6 +91,82 @@ fn one_loaded_table_serves_many_threads() {
     scan.feed(b"a1", &mut output).unwrap();
     assert_eq!((scan.finish(&mut output), output), (Ok(0), b"aN".to_vec()));
     assert!(matches!(Tables::load(b"nothing"), Err(LexError::Table)));
+}
+
+/// A source that gives a few bytes at a time, and fails once between them.
+struct Slow<'a> {
+    rest: &'a [u8],
+    size: usize,
+    fails: bool,
+}
+
+impl Read for Slow<'_> {
+    fn read(&mut self, out: &mut [u8]) -> io::Result<usize> {
+        if std::mem::take(&mut self.fails) {
+            return Err(io::Error::new(io::ErrorKind::Other, "no bytes yet"));
+        }
+        let count = self.size.min(self.rest.len());
+        out[..count].copy_from_slice(&self.rest[..count]);
+        self.rest = &self.rest[count..];
+        Ok(count)
+    }
+}
+
+/// The tokens of an input in pieces of a size, with the status. Their texts are those parts of the input.
+fn pulled(table: &[u8], input: &[u8], size: usize) -> (Vec<Token>, u8) {
+    let source = Slow { rest: input, size, fails: false };
+    let mut found = Vec::new();
+    let mut lexemes = Tokens::open(table, source).unwrap();
+    for lexeme in &mut lexemes {
+        let lexeme = lexeme.unwrap();
+        let start = lexeme.start as usize;
+        let end = start + lexeme.text.len();
+        assert_eq!(lexeme.text, &input[start..end]);
+        found.push(Token { start, end, rule: lexeme.rule, condition: lexeme.condition });
+    }
+    (found, lexemes.status().unwrap())
+}
+
+#[test]
+fn a_source_that_failed_is_read_again() {
+    let table = generate(b"%%\n[a-z]+ ;\n", Options::default()).unwrap();
+    let mut lexemes = Tokens::open(&table, Slow { rest: b"ab", size: 2, fails: true }).unwrap();
+    assert!(matches!(lexemes.next(), Some(Err(TokensError::Read(_)))));
+    assert_eq!(lexemes.next().unwrap().unwrap().text, b"ab");
+    assert!(lexemes.next().is_none());
+    assert_eq!(lexemes.status(), Some(0));
+    assert!(lexemes.next().is_none());
+}
+
+#[test]
+fn a_stream_tells_what_is_decided() {
+    let table = generate(b"%option stack\n%%\n[0-9]+ ;\nb exit(3);\nc yy_pop_state();\n", Options::default()).unwrap();
+    let token = |start, length, rule| Ok(Next::Token(NextToken { start, length, rule, condition: 0 }));
+    let mut stream = Tables::load(&table).unwrap().stream().unwrap();
+    assert_eq!(stream.next_token(), Ok(Next::More));
+    assert_eq!(stream.feed(b"a12"), Ok(Progress::Going));
+    assert_eq!(stream.next_token(), token(0, 1, None));
+    assert_eq!(stream.next_token(), Ok(Next::More));
+    let mut stream = thread::spawn(move || {
+        assert_eq!(stream.feed(b"3b"), Ok(Progress::Going));
+        stream
+    })
+    .join()
+    .unwrap();
+    assert_eq!(stream.next_token(), token(1, 3, Some(0)));
+    assert_eq!((stream.text(), stream.text()), (b"123".to_vec(), b"123".to_vec()));
+    assert_eq!(stream.next_token(), token(4, 1, Some(1)));
+    for _ in 0..2 {
+        assert_eq!(stream.next_token(), Ok(Next::Ended(3)));
+        assert_eq!(stream.text(), b"");
+        assert_eq!(stream.feed(b"1"), Ok(Progress::Ended));
+    }
+    let mut stream = Stream::open(&table).unwrap();
+    assert_eq!(stream.feed(b"c"), Ok(Progress::Going));
+    for _ in 0..2 {
+        assert_eq!(stream.next_token(), Err(LexError::Stack(Vec::new())));
+    }
+    assert!(matches!(Stream::open(b"nothing"), Err(LexError::Table)));
 }
 
 /// What a scan by pieces of a size writes, and the status.

@@ -11,7 +11,7 @@
 //! - `further`: lets a burst go over the bytes that the source has ready.
 //! - `whole`: `run`, all turns to the end.
 //! - `scanner`: single turns, for callers.
-//! - `attempt`: for `push`: turns that are undone where they ask for a byte that was not fed yet.
+//! - `attempt`: for `push` and `pull`: turns that are undone where they ask for a byte that was not fed yet.
 //! - `asking`: the state after all bytes of a match that asks for more, from where the next piece goes on.
 //! - `push`: a scan that is fed its input piece by piece.
 //! - `pull`: a scan that is fed piece by piece, and is asked for its tokens one by one.

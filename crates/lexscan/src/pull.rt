@@ -183,6 +183,9 @@ impl<M: Machine> PullScanner<M> {
         ensures too_many { IsErrOf result RunError.TooManyReads →
             2 ^ 64 - 1 ≤ (pull_state self.old).reading.max_reads + length piece.now }
         ensures refusals { IfErr result (RefusesPiece (pull_state self.old).failed) }
+        ensures after_refusal { (pull_state self.old).failed ≡ true → result ≡ Err RunError.Failed }
+        ensures after_end { (status : ℕ) → (pull_state self.old).failed ≡ false
+            → (pull_state self.old).ended ≡ Some status → result ≡ Ok tt }
     {
         if self.scan.state.failed {
             return Err(RunError::Failed);
@@ -228,6 +231,13 @@ impl<M: Machine> PullScanner<M> {
         // The answer of the end takes a read too.
         self.scan.state.reading.max_reads += 1;
         self.finished = true;
+    }
+
+    /// Whether the end of the input was told.
+    pub fn is_finished(&self) -> bool
+        ensures { result ≡ pull_finished self.now }
+    {
+        self.finished
     }
 
     /// The next token, by one turn; or that the next match asks for more than was fed, which never comes once the end

@@ -14,6 +14,8 @@ mod c_pieces;
 mod c_refusals;
 #[cfg(test)]
 mod c_sizes;
+#[cfg(test)]
+mod c_streams;
 pub mod caller;
 #[cfg(test)]
 mod error_words;

@@ -1,7 +1,8 @@
 //! The scanner generator for C: a static library, whose header is include/lex.h.
 //!
 //! Each function has a name of C (`lex_..`) and makes one call of liblex_calls: table files (`lex_generate`), scans of whole
-//! inputs (`lex_scan_table`), tokens and the lines of rules, loaded tables, and scans by pieces, from opening to closing.
+//! inputs (`lex_scan_table`), tokens and the lines of rules, loaded tables, and scans by pieces and streams of tokens, from
+//! opening to closing.
 //!
 //! It promises what liblex_calls does, and its contracts repeat those. A slice is passed as a pointer and a length: that
 //! these are right is up to the caller in C. A function here, its line in include/lex.h and its call in bindings/rust
@@ -11,8 +12,8 @@
 //! (docs/EDITS.md) stand in liblex_calls.
 #![tactic(auto)]
 
-ghost use Rattle.std.specs.Prelude.{◌≡◌, ℕ, Bool, List, None};
-ghost use Rattle.liblex_calls.specs.Handles.{open_in, loaded_in};
+ghost use Rattle.std.specs.Prelude.{◌≡◌, ℕ, Bool, true, List, None};
+ghost use Rattle.liblex_calls.specs.Handles.{open_in, loaded_in, stream_in};
 ghost use Rattle.liblex_calls.specs.Loading.{HoldsTable, LoadsTable};
 ghost use Rattle.liblex_calls.specs.Buffers.{NothingOut};
 ghost use Rattle.liblex_calls.specs.declared.answer.Answer.TheVariants as answers;
@@ -24,11 +25,14 @@ ghost use Rattle.liblex_calls.specs.Listing.{ListsInto, TellsLines};
 ghost use Rattle.liblex_calls.specs.Flags.{options_of};
 ghost use Rattle.liblex_calls.specs.Progress.{fed_with};
 ghost use Rattle.liblex_calls.specs.Pieces.{Scanning, OpensScan, FeedsInto, FinishesInto, StaysOpen, StaysClosed};
+ghost use Rattle.liblex_calls.specs.Streams.{Streams, OpensStream, FeedsStream, TellsNext, AnswersAgain, ComesAsFar, HandsText};
+ghost use Rattle.lexscan.specs.declared.token.Token.{Token as TokenModel};
 
 use liblex_calls::{
-    LoadedTables, Scan, TextFault, TextToken, close_scan, feed_into, finish_into, generate_into,
-    load_tables, open_loaded, open_scan, options_of, rule_lines_into, scan_into, scan_loaded,
-    share_tables, tokens_into, tokens_loaded, unload_tables,
+    LoadedTables, NextToken, Scan, TextFault, TextToken, TokenStream, close_scan, close_stream,
+    end_stream, feed_into, feed_stream, finish_into, generate_into, load_tables, next_token,
+    open_loaded, open_scan, open_stream, open_stream_loaded, options_of, rule_lines_into,
+    scan_into, scan_loaded, share_tables, text_into, tokens_into, tokens_loaded, unload_tables,
 };
 use std::alloc::Global;
 
@@ -239,4 +243,98 @@ pub extern "C" fn lex_close(alloc: Global, scan: &mut Scan)
     ensures { open_in scan.new ≡ None }
 {
     close_scan(alloc, scan);
+}
+
+/// Opens a stream of tokens by a table file.
+#[unsafe(no_mangle)]
+pub extern "C" fn lex_open_stream(alloc: Global, stream: &mut TokenStream, file: &[u8]) -> i32
+    ensures { (answer : Answer) × (result ≡ number_of answer) × OpensStream file.now stream.new answer }
+{
+    open_stream(alloc, stream, file).number()
+}
+
+/// Opens a stream of tokens by a table that is loaded.
+#[unsafe(no_mangle)]
+pub extern "C" fn lex_open_stream_loaded(
+    alloc: Global,
+    stream: &mut TokenStream,
+    tables: &mut LoadedTables,
+) -> i32
+    ensures { (answer : Answer) × (result ≡ number_of answer)
+        × ((file : List ℕ) → HoldsTable file tables.old → OpensStream file stream.new answer)
+        × (loaded_in tables.new ≡ loaded_in tables.old)
+        × (loaded_in tables.old ≡ None → (answer ≡ answers.Closed) × (stream_in stream.new ≡ None)) }
+{
+    open_stream_loaded(alloc, stream, tables).number()
+}
+
+/// Feeds a stream of tokens a piece of the input.
+#[unsafe(no_mangle)]
+pub extern "C" fn lex_feed_stream(alloc: Global, stream: &mut TokenStream, piece: &[u8]) -> i32
+    ensures { (answer : Answer) × (result ≡ number_of answer)
+        × ((file : List ℕ) (told : Bool) (fed : List ℕ) (tokens : List TokenModel) (text : List ℕ)
+        → Streams file told fed tokens text stream.old
+        → FeedsStream file told fed piece.now tokens text stream.new answer)
+        × AnswersAgain stream.old stream.new answer
+        × (stream_in stream.old ≡ None → (answer ≡ answers.Closed) × (stream_in stream.new ≡ None)) }
+{
+    feed_stream(alloc, stream, piece).number()
+}
+
+/// Tells a stream of tokens the end of the input.
+#[unsafe(no_mangle)]
+pub extern "C" fn lex_end_stream(alloc: Global, stream: &mut TokenStream) -> i32
+    ensures { (answer : Answer) × (result ≡ number_of answer)
+        × ((file : List ℕ) (told : Bool) (fed : List ℕ) (tokens : List TokenModel) (text : List ℕ)
+        → Streams file told fed tokens text stream.old
+        → Streams file true fed tokens text stream.new × (answer ≡ answers.Done))
+        × ComesAsFar stream.old stream.new
+        × (stream_in stream.old ≡ None → (answer ≡ answers.Closed) × (stream_in stream.new ≡ None)) }
+{
+    end_stream(alloc, stream).number()
+}
+
+/// Tells the next token of a stream.
+#[unsafe(no_mangle)]
+pub extern "C" fn lex_next(
+    alloc: Global,
+    stream: &mut TokenStream,
+    token: &mut NextToken,
+    status: &mut u8,
+) -> i32
+    ensures { (answer : Answer) × (result ≡ number_of answer)
+        × ((file : List ℕ) (told : Bool) (fed : List ℕ) (tokens : List TokenModel) (text : List ℕ)
+        → Streams file told fed tokens text stream.old
+        → TellsNext file told fed tokens stream.new token.old token.new status.new answer)
+        × AnswersAgain stream.old stream.new answer
+        × (stream_in stream.old ≡ None → (answer ≡ answers.Closed) × (stream_in stream.new ≡ None)
+        × (token.new ≡ token.old) × (status.new ≡ 0)) }
+{
+    next_token(alloc, stream, token, status).number()
+}
+
+/// Hands out the text of the token that was told last.
+#[unsafe(no_mangle)]
+pub extern "C" fn lex_text(
+    alloc: Global,
+    stream: &mut TokenStream,
+    buffer: &mut [u8],
+    count: &mut usize,
+) -> i32
+    ensures { (answer : Answer) × (result ≡ number_of answer)
+        × ((file : List ℕ) (told : Bool) (fed : List ℕ) (tokens : List TokenModel) (text : List ℕ)
+        → Streams file told fed tokens text stream.old
+        → HandsText text stream.old stream.new buffer.old buffer.new count.new answer)
+        × (stream_in stream.old ≡ None → (answer ≡ answers.Closed) × (stream_in stream.new ≡ None)
+        × NothingOut buffer.old buffer.new count.new) }
+{
+    text_into(alloc, stream, buffer, count).number()
+}
+
+/// Closes a stream of tokens.
+#[unsafe(no_mangle)]
+pub extern "C" fn lex_close_stream(alloc: Global, stream: &mut TokenStream)
+    ensures { stream_in stream.new ≡ None }
+{
+    close_stream(alloc, stream);
 }

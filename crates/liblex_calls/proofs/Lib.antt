@@ -4,6 +4,8 @@ mod Listed
 mod Loosened
 mod Held
 mod HeldRules
+mod HeldStream
+mod Flowing
 mod Opened
 mod Piecing
 mod Handing

@@ -15,6 +15,7 @@ pub listed_out : (file input : List ℕ) (old new : List TextToken) (count statu
 listed_out file input old new count status answers.Done tokens listed handed fits = record { tokens = tokens; listed = listed; handed = handed; fits = fits }
 listed_out file input old new count status answers.TooSmall tokens listed handed fits = record { tokens = tokens; listed = listed; handed = handed; fits = fits }
 listed_out file input old new count status answers.Ended tokens listed handed fits = absurd fits
+listed_out file input old new count status answers.More tokens listed handed fits = absurd fits
 listed_out file input old new count status answers.Closed tokens listed handed fits = absurd fits
 listed_out file input old new count status answers.Refused tokens listed handed fits = absurd fits
 listed_out file input old new count status answers.Stack tokens listed handed fits = absurd fits

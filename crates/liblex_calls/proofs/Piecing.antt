@@ -40,12 +40,12 @@ pub asks_first : (R : Rules) (n : ℕ) → AsksForMore R n []
 asks_first R n t far asked h = h.end.1 (end_asked R n)
 
 -- an input that may still be with a piece more may be without it
-fewer : (told : Bool) (fed piece x : List ℕ) → Consistent (fed_with told fed piece) told x → Consistent fed told x
+pub fewer : (told : Bool) (fed piece x : List ℕ) → Consistent (fed_with told fed piece) told x → Consistent fed told x
 fewer true fed piece x h = h
 fewer false fed piece x (text, (more, is)) = (text, (piece ++ more, is ∙ append_assoc fed piece more))
 
 -- where its end was told, it may be that there was none told
-untold : (told : Bool) (fed x : List ℕ) → Consistent fed true x → Consistent fed told x
+pub untold : (told : Bool) (fed x : List ℕ) → Consistent fed true x → Consistent fed told x
 untold true fed x h = h
 untold false fed x (text, is) = (text, ([], is ∙ sym (append-nil fed)))
 

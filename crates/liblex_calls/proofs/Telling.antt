@@ -38,6 +38,7 @@ pub file_out : (options : Options) (text file old new : List ℕ) (count : ℕ) 
 file_out options text file old new count answers.Done S spells canonical handed fits = record { spec = S; spells = spells; file = file; canonical = canonical; handed = handed; fits = fits; none = refl }
 file_out options text file old new count answers.TooSmall S spells canonical handed fits = record { spec = S; spells = spells; file = file; canonical = canonical; handed = handed; fits = fits; none = refl }
 file_out options text file old new count answers.Ended S spells canonical handed fits = absurd fits
+file_out options text file old new count answers.More S spells canonical handed fits = absurd fits
 file_out options text file old new count answers.Closed S spells canonical handed fits = absurd fits
 file_out options text file old new count answers.Refused S spells canonical handed fits = absurd fits
 file_out options text file old new count answers.Stack S spells canonical handed fits = absurd fits
@@ -81,6 +82,7 @@ module _ (file input old new : List ℕ) (count : ℕ) (s s' : SliceSource) (t t
   ended_out end answers.Done told handed fits = record { out = t'.bytes.items; run = run_out (Ok end) told (Status end) told.scans.ran; handed = handed; fits = fits }
   ended_out end answers.TooSmall told handed fits = record { out = t'.bytes.items; run = run_out (Ok end) told (Status end) told.scans.ran; handed = handed; fits = fits }
   ended_out end answers.Ended told handed fits = absurd fits
+  ended_out end answers.More told handed fits = absurd fits
   ended_out end answers.Closed told handed fits = absurd fits
   ended_out end answers.Refused told handed fits = absurd fits
   ended_out end answers.Stack told handed fits = absurd fits

@@ -63,5 +63,6 @@ Generates options text old new count fault answers.Refused = RefusalHandedOut op
 Generates options text old new count fault answers.OutOfMemory = NothingOut old new count × (fault ≡ no_fault)
 Generates options text old new count fault answers.Ended = ⊥
 Generates options text old new count fault answers.Closed = ⊥
+Generates options text old new count fault answers.More = ⊥
 Generates options text old new count fault answers.Stack = ⊥
 Generates options text old new count fault answers.TooManyReads = ⊥

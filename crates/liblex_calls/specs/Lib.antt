@@ -14,4 +14,6 @@ pub mod Rules
 pub mod Progress
 pub mod Handles
 pub mod Loading
+pub mod Told
+pub mod Streams
 pub mod Pieces

@@ -10,6 +10,7 @@ use Rattle.lexscan_window.specs.declared.matched.MatchedRule.{MatchedRule}
 use Rattle.lexscan_window.specs.declared.matched.MatchedRule.TheVariants as rules
 use Rattle.lexscan_window.specs.declared.error.RunError.TheVariants as runs
 use Rattle.lexscan.specs.declared.token.Token.{Token}
+use Rattle.lexscan.specs.declared.pull.PulledToken.{PulledToken}
 use Rattle.lexscan.specs.Tokens.{Tokenised, Stopped}
 use Rattle.lexkit.specs.Generated.{lines_of}
 use Rattle.lexkit.specs.Headline.{reading}
@@ -19,6 +20,7 @@ use Rattle.liblex_calls.specs.Files.{ByFile}
 use Rattle.liblex_calls.specs.declared.answer.Answer.{Answer}
 use Rattle.liblex_calls.specs.declared.answer.Answer.TheVariants as answers
 use Rattle.liblex_calls.specs.declared.listing.TextToken.{TextToken}
+use Rattle.liblex_calls.specs.declared.token_scan.NextToken.{NextToken}
 
 -- the number of a rule; the default rule has the greatest of 32 bits
 abbrev pub rule_number : MatchedRule → ℕ
@@ -28,6 +30,10 @@ rule_number rules.Default = 4294967295
 -- a token with a number for its rule
 abbrev pub text_token : Token → TextToken
 text_token t = record { start = t.start; end = t.end; rule = rule_number t.rule; condition = t.condition }
+
+-- the same of one that was asked for
+abbrev pub next_token : PulledToken → NextToken
+next_token t = record { start = t.start; length = t.length; rule = rule_number t.rule; condition = t.condition }
 
 -- All tokens of the scan of the input by the rules of the file were handed out, with the status that it ends with.
 pub record TokensHandedOut (file input : List ℕ) (old new : List TextToken) (count status : ℕ) (answer : Answer) : Type 0 where
@@ -51,6 +57,7 @@ ListsInto file input old new count status answers.Refused = ((t : Table) → IsF
 ListsInto file input old new count status answers.OutOfMemory = NothingOut old new count × (status ≡ 0)
 ListsInto file input old new count status answers.Ended = ⊥
 ListsInto file input old new count status answers.Closed = ⊥
+ListsInto file input old new count status answers.More = ⊥
 ListsInto file input old new count status answers.TooManyReads = ⊥
 
 -- The lines of the rules of the specification that the text spells were handed out.
@@ -68,5 +75,6 @@ TellsLines options text old new count answers.Refused = ((S : Spec) → SpellsSp
 TellsLines options text old new count answers.OutOfMemory = NothingOut old new count
 TellsLines options text old new count answers.Ended = ⊥
 TellsLines options text old new count answers.Closed = ⊥
+TellsLines options text old new count answers.More = ⊥
 TellsLines options text old new count answers.Stack = ⊥
 TellsLines options text old new count answers.TooManyReads = ⊥

@@ -26,5 +26,6 @@ LoadsTable file tables answers.OutOfMemory = loaded_in tables ≡ None
 LoadsTable file tables answers.TooSmall = ⊥
 LoadsTable file tables answers.Ended = ⊥
 LoadsTable file tables answers.Closed = ⊥
+LoadsTable file tables answers.More = ⊥
 LoadsTable file tables answers.Stack = ⊥
 LoadsTable file tables answers.TooManyReads = ⊥

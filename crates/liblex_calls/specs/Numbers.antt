@@ -8,6 +8,7 @@ number_of answers.Done = pos 0
 number_of answers.TooSmall = pos 1
 number_of answers.Ended = pos 2
 number_of answers.Closed = pos 3
+number_of answers.More = pos 4
 number_of answers.Refused = pos 65
 number_of answers.Stack = pos 70
 number_of answers.OutOfMemory = pos 71

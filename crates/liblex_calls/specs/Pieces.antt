@@ -29,6 +29,7 @@ OpensScan file scan answers.OutOfMemory = open_in scan ≡ None
 OpensScan file scan answers.TooSmall = ⊥
 OpensScan file scan answers.Ended = ⊥
 OpensScan file scan answers.Closed = ⊥
+OpensScan file scan answers.More = ⊥
 OpensScan file scan answers.Stack = ⊥
 OpensScan file scan answers.TooManyReads = ⊥
 

@@ -43,6 +43,7 @@ ScansInto file input old new count status answers.TooManyReads = (max_reads ≤ 
 ScansInto file input old new count status answers.OutOfMemory = NothingOut old new count × (status ≡ 0)
 ScansInto file input old new count status answers.Ended = ⊥
 ScansInto file input old new count status answers.Closed = ⊥
+ScansInto file input old new count status answers.More = ⊥
 
 -- what a run that stopped is told as, and a table that was refused
 abbrev pub TellsRun : RunError → List ℕ → List ℕ → List ℕ → ℕ → Answer → Type 0

@@ -12,6 +12,8 @@ pub enum Answer {
     Ended,
     /// No scan is open.
     Closed,
+    /// The next token asks for more than was fed.
+    More,
     /// The text spells no specification, its automaton passes a limit, or the bytes are no table file.
     Refused,
     /// The stack of conditions was at fault: the scan ended so.
@@ -34,6 +36,7 @@ impl Answer {
             Answer::TooSmall => 1,
             Answer::Ended => 2,
             Answer::Closed => 3,
+            Answer::More => 4,
             Answer::Refused => 65,
             Answer::Stack => 70,
             Answer::OutOfMemory => 71,

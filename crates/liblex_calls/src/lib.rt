@@ -13,8 +13,11 @@
 //! - `tables`: the struct that C holds of a loaded table, with `rules_holder`, the owning pointer in it. `loading` has its calls.
 //! - `handle`: the struct that C holds of a scan by pieces. `holder` and `loose` are the owning pointer in it, and
 //!   `by_pieces` has its calls.
+//! - `token_scan`: a scan that is asked for its tokens one by one. `stream` is the struct that C holds of one, with
+//!   `stream_holder`, the owning pointer in it. `streaming` has its calls.
 //!
-//! It promises that what was handed out is the file, the run of the whole input or of all pieces, or its tokens. The
+//! It promises that what was handed out is the file, the run of the whole input or of all pieces, or its tokens, listed or
+//! one by one. The
 //! numbers stand in include/lex.h, in bindings/rust and in docs/C.md too: none of them may change. How bytes are kept
 //! (`backlog`, `memory`) and how C holds a scan (`loose`, `holder`) are seen by no caller.
 //!
@@ -26,6 +29,10 @@
 //!   together (`Arc`), so none outlives it. To read through a `&` to a struct with a pointer would take a law of its own.
 //! - **Output that does not fit the caller's buffer is kept and handed out first**; only then is the end or the fault
 //!   answered. A feed takes each piece whole. After out of memory a scan by pieces has stopped.
+//! - **The text of a token is copied out.** A pointer into the scan could be read after the next call has moved what it
+//!   leads to, and no contract could say what stands there. Who needs no text pays nothing for it.
+//! - **A stream of tokens may be fed again after a refusal.** A feed that is refused keeps nothing of its piece and changes
+//!   nothing, since no turn was made. After a turn that was refused each call answers the same again.
 //! - **Answers are the exit statuses of the program lex**, so that a number has one meaning in a log. The default rule has the
 //!   greatest number of 32 bits: no specification has so many rules. It cannot be 0, which is a rule's number.
 //! - **Lines of rules are a call of their own, by the text.** A table file keeps none: the same rules have the same file.
@@ -50,7 +57,11 @@ mod rules;
 mod rules_holder;
 mod scanning;
 mod stage;
+mod stream;
+mod stream_holder;
+mod streaming;
 mod tables;
+mod token_scan;
 
 pub use answer::Answer;
 pub use by_pieces::{close_scan, feed_into, finish_into, open_loaded, open_scan};
@@ -60,4 +71,9 @@ pub use handle::Scan;
 pub use listing::{TextToken, rule_lines_into, tokens_into, tokens_loaded};
 pub use loading::{load_tables, share_tables, unload_tables};
 pub use scanning::{scan_into, scan_loaded};
+pub use stream::TokenStream;
+pub use streaming::{
+    close_stream, end_stream, feed_stream, next_token, open_stream, open_stream_loaded, text_into,
+};
 pub use tables::LoadedTables;
+pub use token_scan::NextToken;

@@ -28,7 +28,7 @@ pub struct TextToken {
 }
 
 /// The number of a rule. The default rule has the greatest.
-fn rule_number(rule: MatchedRule) -> u32
+pub(crate) fn rule_number(rule: MatchedRule) -> u32
     ensures { result ≡ rule_number rule }
 {
     match rule {

@@ -23,7 +23,7 @@ impl Stage {
     ghost use Rattle.liblex_calls.specs.Stages.{stage_of, end_of, fault_of, feed_answer, finish_answer, status_in};
 
     /// The one after a fault of the scan: each but those of the stack and of the count is want of memory.
-    fn after_fault(error: RunError) -> Stage
+    pub(crate) fn after_fault(error: RunError) -> Stage
         ensures { result ≡ fault_of error }
     {
         match error {

@@ -1,0 +1,284 @@
+//! Streams of tokens as a program in C calls them: the same tokens from pieces of any size, and what is answered before the
+//! first piece, after the end, after a fault, and of a stream that is closed.
+use crate::building::made;
+use liblex_calls::{
+    Answer, LoadedTables, NextToken, TokenStream, close_stream, end_stream, feed_stream,
+    load_tables, next_token, open_stream, open_stream_loaded, text_into, unload_tables,
+};
+use std::alloc::Global;
+use std::test::Fail;
+
+const NO_TOKEN: NextToken = NextToken {
+    start: 99,
+    length: 99,
+    rule: 99,
+    condition: 99,
+};
+
+/// The number of the default rule.
+const DEFAULT: u32 = 4_294_967_295;
+
+/// A rule, where the text begins, the condition, and the text.
+type Row = (u32, u64, u32, &'static str);
+
+/// Whether this text is shown.
+fn shows(alloc: Global, stream: &mut TokenStream, text: &str) -> bool {
+    let mut buffer = [0u8; 16];
+    let mut count = 99;
+    let answer = text_into(alloc, stream, &mut buffer, &mut count);
+    answer == Answer::Done && buffer.get(..count) == Some(text.as_bytes())
+}
+
+/// Whether this token comes next, with its text.
+fn tells(alloc: Global, stream: &mut TokenStream, row: Row) -> bool {
+    let (rule, start, condition, text) = row;
+    let wanted = NextToken {
+        start,
+        length: text.len(),
+        rule,
+        condition,
+    };
+    let mut token = NO_TOKEN;
+    let mut status = 99;
+    let answer = next_token(alloc, stream, &mut token, &mut status);
+    answer == Answer::Done && token == wanted && status == 0 && shows(alloc, stream, text)
+}
+
+/// How many of these tokens come next.
+fn count_told(alloc: Global, stream: &mut TokenStream, rows: &[Row]) -> usize {
+    for (count, &row) in rows.iter().enumerate() {
+        if !tells(alloc, stream, row) {
+            return count;
+        }
+    }
+    rows.len()
+}
+
+/// Whether no token comes next, but this answer, with this status, twice.
+fn answers(alloc: Global, stream: &mut TokenStream, wanted: Answer, ended: u8) -> bool {
+    let mut so = true;
+    for _ in 0..2u32 {
+        let mut token = NO_TOKEN;
+        let mut status = 99;
+        let answer = next_token(alloc, stream, &mut token, &mut status);
+        so = so && answer == wanted && token == NO_TOKEN && status == ended;
+        so = so && (wanted == Answer::Closed || shows(alloc, stream, ""));
+    }
+    so
+}
+
+/// Whether an input in pieces of a size has these tokens, and ends so.
+fn streams(
+    alloc: Global,
+    file: &[u8],
+    input: &[u8],
+    size: usize,
+    rows: &[Row],
+    ended: (Answer, u8),
+) -> bool {
+    let mut stream = TokenStream::closed();
+    let mut so = open_stream(alloc, &mut stream, file) == Answer::Done;
+    let mut told = 0;
+    let mut rest = input;
+    while !rest.is_empty() {
+        let (piece, after) = rest.split_at(size.min(rest.len()));
+        rest = after;
+        let fed = feed_stream(alloc, &mut stream, piece);
+        so = so && (fed == Answer::Done || fed == Answer::Ended);
+        if let Some(left) = rows.get(told..) {
+            told += count_told(alloc, &mut stream, left);
+        }
+    }
+    so = end_stream(alloc, &mut stream) == Answer::Done && so;
+    if let Some(left) = rows.get(told..) {
+        told += count_told(alloc, &mut stream, left);
+    }
+    let (answer, status) = ended;
+    so = so && told == rows.len() && answers(alloc, &mut stream, answer, status);
+    so = so && feed_stream(alloc, &mut stream, b"1") == Answer::Ended;
+    so = so && answers(alloc, &mut stream, answer, status);
+    stream.close(alloc);
+    so
+}
+
+/// A text, an input, its tokens, and the status.
+type Scan = (&'static [u8], &'static [u8], &'static [Row], u8);
+
+const SCANS: &[Scan] = &[
+    (
+        b"%%\nif printf(\"K\");\n[0-9]+ ;\n",
+        b"if 1234 x5",
+        &[
+            (0, 0, 0, "if"),
+            (DEFAULT, 2, 0, " "),
+            (1, 3, 0, "1234"),
+            (DEFAULT, 7, 0, " "),
+            (DEFAULT, 8, 0, "x"),
+            (1, 9, 0, "5"),
+        ],
+        0,
+    ),
+    (
+        b"%%\na+ yymore();\nb ECHO;\n",
+        b"aaab",
+        &[(0, 0, 0, "aaa"), (1, 0, 0, "aaab")],
+        0,
+    ),
+    (
+        b"%%\nabc yyless(1);\n[a-z] ;\n",
+        b"abc",
+        &[(0, 0, 0, "a"), (1, 1, 0, "b"), (1, 2, 0, "c")],
+        0,
+    ),
+    (
+        b"%%\nab/cd ;\n.|\\n ;\n",
+        b"abcdab",
+        &[
+            (0, 0, 0, "ab"),
+            (1, 2, 0, "c"),
+            (1, 3, 0, "d"),
+            (1, 4, 0, "a"),
+            (1, 5, 0, "b"),
+        ],
+        0,
+    ),
+    (
+        b"%x C\n%%\na BEGIN(C);\n<C>b BEGIN(INITIAL);\n<C><<EOF>> exit(3);\n",
+        b"aba",
+        &[(0, 0, 0, "a"), (1, 1, 1, "b"), (0, 2, 0, "a")],
+        3,
+    ),
+    (b"%%\nab exit(7);\n", b"abXY", &[(0, 0, 0, "ab")], 7),
+];
+
+#[test]
+fn pieces_of_any_size_have_the_same_tokens(rt: HostRuntime) -> Result<(), Fail> {
+    for &(text, input, rows, status) in SCANS {
+        let file = made(rt.alloc(), text)?;
+        for size in [1, 2, 7, 4_096] {
+            let ended = (Answer::Ended, status);
+            let so = streams(rt.alloc(), file.written(), input, size, rows, ended);
+            assert!(rt; so, "{status} {size}");
+        }
+    }
+    Ok(())
+}
+
+/// Whether more is wanted before the first piece, and a fault is told again, after which pieces count for nothing.
+fn stops_at_a_fault(alloc: Global, file: &[u8]) -> bool {
+    let mut stream = TokenStream::closed();
+    let so = open_stream(alloc, &mut stream, file) == Answer::Done
+        && answers(alloc, &mut stream, Answer::More, 0)
+        && feed_stream(alloc, &mut stream, b"") == Answer::Done
+        && answers(alloc, &mut stream, Answer::More, 0)
+        && feed_stream(alloc, &mut stream, b"aba") == Answer::Done
+        && tells(alloc, &mut stream, (0, 0, 0, "a"))
+        && answers(alloc, &mut stream, Answer::Stack, 0)
+        && feed_stream(alloc, &mut stream, b"a") == Answer::Stack
+        && end_stream(alloc, &mut stream) == Answer::Done
+        && answers(alloc, &mut stream, Answer::Stack, 0);
+    stream.close(alloc);
+    so
+}
+
+#[test]
+fn a_fault_of_the_stack_is_told_again(rt: HostRuntime) -> Result<(), Fail> {
+    let file = made(rt.alloc(), b"%option stack\n%%\na ;\nb yy_pop_state();\n")?;
+    assert!(rt; stops_at_a_fault(rt.alloc(), file.written()));
+    Ok(())
+}
+
+/// Whether a stream has all its tokens, or stops at a request for memory that was refused, which is told again. A piece that was
+/// refused is fed once more.
+fn streams_or_stops(alloc: Global, file: &[u8]) -> bool {
+    const ROWS: &[Row] = &[(0, 0, 0, "abc"), (DEFAULT, 3, 0, " "), (0, 4, 0, "d")];
+    const PIECES: &[&[u8]] = &[b"ab", b"c", b" d"];
+    let mut stream = TokenStream::closed();
+    let opened = open_stream(alloc, &mut stream, file);
+    let mut so = opened == Answer::Done;
+    for piece in PIECES {
+        let fed = feed_stream(alloc, &mut stream, piece);
+        let again = fed == Answer::OutOfMemory;
+        so = so && (fed == Answer::Done || again);
+        so = so && (!again || feed_stream(alloc, &mut stream, piece) == Answer::Done);
+    }
+    so = so && end_stream(alloc, &mut stream) == Answer::Done;
+    let told = count_told(alloc, &mut stream, ROWS);
+    let stops = answers(alloc, &mut stream, Answer::OutOfMemory, 0);
+    so = so && (stops || told == ROWS.len() && answers(alloc, &mut stream, Answer::Ended, 0));
+    stream.close(alloc);
+    so || opened == Answer::OutOfMemory
+}
+
+#[test]
+fn refused_streams(rt: HostRuntime) -> Result<(), Fail> {
+    let file = made(rt.alloc(), b"%%\n[a-z]+ ;\n")?;
+    assert!(rt; streams_or_stops(rt.alloc(), file.written()));
+    Ok(())
+}
+
+/// Whether each call of a stream that is closed answers so.
+fn is_closed(alloc: Global, stream: &mut TokenStream) -> bool {
+    let mut buffer = [7u8; 1];
+    let mut count = 99;
+    let answer = text_into(alloc, stream, &mut buffer, &mut count);
+    (answer, count, buffer[0]) == (Answer::Closed, 0, 7)
+        && feed_stream(alloc, stream, b"a") == Answer::Closed
+        && end_stream(alloc, stream) == Answer::Closed
+        && answers(alloc, stream, Answer::Closed, 0)
+}
+
+#[test]
+fn a_closed_stream_tells_that_it_is_closed(rt: HostRuntime) -> Result<(), Fail> {
+    let file = made(rt.alloc(), b"%%\n[a-z]+ ;\n")?;
+    let mut stream = TokenStream::closed();
+    let first = is_closed(rt.alloc(), &mut stream);
+    let opened = open_stream(rt.alloc(), &mut stream, file.written());
+    let refused = open_stream(rt.alloc(), &mut stream, b"nothing");
+    let second = is_closed(rt.alloc(), &mut stream);
+    let again = open_stream(rt.alloc(), &mut stream, file.written());
+    close_stream(rt.alloc(), &mut stream);
+    close_stream(rt.alloc(), &mut stream);
+    let third = is_closed(rt.alloc(), &mut stream);
+    stream.close(rt.alloc());
+    assert!(rt; opened == Answer::Done && refused == Answer::Refused && again == Answer::Done);
+    assert!(rt; first && second && third);
+    Ok(())
+}
+
+/// Whether a text is handed out in parts as there is room, as often as it is asked for.
+fn hands_out_parts(alloc: Global, stream: &mut TokenStream) -> bool {
+    let mut buffer = [7u8; 4];
+    let mut count = 99;
+    let few = match buffer.get_mut(..2) {
+        Some(part) => text_into(alloc, stream, part, &mut count),
+        None => Answer::Closed,
+    };
+    let so = few == Answer::TooSmall && count == 3 && buffer == *b"ab\x07\x07";
+    let all = text_into(alloc, stream, &mut buffer, &mut count);
+    so && all == Answer::Done && count == 3 && buffer == *b"abc\x07"
+}
+
+#[test]
+fn a_loaded_table_serves_streams(rt: HostRuntime) -> Result<(), Fail> {
+    let file = made(rt.alloc(), b"%%\n[a-z]+ ;\n")?;
+    let mut tables = LoadedTables::unloaded();
+    let mut first = TokenStream::closed();
+    let mut second = TokenStream::closed();
+    let closed = open_stream_loaded(rt.alloc(), &mut first, &mut tables);
+    let loaded = load_tables(rt.alloc(), &mut tables, file.written());
+    let opened = open_stream_loaded(rt.alloc(), &mut first, &mut tables);
+    let again = open_stream_loaded(rt.alloc(), &mut second, &mut tables);
+    unload_tables(rt.alloc(), &mut tables);
+    tables.unload(rt.alloc());
+    let fed = feed_stream(rt.alloc(), &mut first, b"abc 1");
+    let told = tells(rt.alloc(), &mut first, (0, 0, 0, "abc"));
+    let parts = hands_out_parts(rt.alloc(), &mut first);
+    let none = answers(rt.alloc(), &mut second, Answer::More, 0);
+    first.close(rt.alloc());
+    second.close(rt.alloc());
+    assert!(rt; closed == Answer::Closed && loaded == Answer::Done);
+    assert!(rt; opened == Answer::Done && again == Answer::Done && fed == Answer::Done);
+    assert!(rt; told && parts && none);
+    Ok(())
+}

@@ -1,0 +1,142 @@
+//! A scan that is fed pieces, and is asked for its tokens one by one.
+ghost use Rattle.std.specs.Prelude.{◌≡◌, ℕ, Bool, true, false, List, []};
+ghost use Rattle.lexscan.specs.declared.token.Token.{Token as TokenModel};
+ghost use Rattle.liblex_calls.specs.Rules.{rules_machine};
+ghost use Rattle.liblex_calls.specs.Listing.{next_token};
+
+use crate::answer::Answer;
+use crate::buffers::hand_out;
+use crate::listing::rule_number;
+use crate::rules::Rules;
+use crate::stage::Stage;
+use lexkit::RunError;
+use lexscan::{PullScanner, Pulled, PulledToken};
+use std::alloc::Global;
+
+/// A token that was asked for: where its text begins, counted in bytes from the beginning of the input, how long that is,
+/// the number of its rule, from 0 on in the order of the file, or 4,294,967,295 for the default rule, and the number of the
+/// start condition in which it was made.
+#[repr(C)]
+#[derive(Clone, Copy, Debug, PartialEq, Eq)]
+pub struct NextToken {
+    pub start: u64,
+    pub length: usize,
+    pub rule: u32,
+    pub condition: u32,
+}
+
+/// The token with a number for its rule.
+fn shown(token: PulledToken) -> NextToken
+    ensures { result ≡ next_token token }
+{
+    NextToken {
+        start: token.start,
+        length: token.length,
+        rule: rule_number(token.rule),
+        condition: u32::from(token.condition),
+    }
+}
+
+/// A scan that is fed pieces, and is asked for its tokens one by one.
+#[derive(Drop)]
+pub struct TokenScan {
+    scanner: PullScanner<Rules>,
+    /// Goes on until the end or a fault is told.
+    stage: Stage,
+}
+
+impl TokenScan {
+    ghost use Rattle.lexscan.specs.Scanners.{pull_text};
+    ghost use Rattle.liblex_calls.specs.Buffers.{HandedOut, FitsInto};
+    ghost use Rattle.liblex_calls.specs.Files.{IsMachineOf};
+    ghost use Rattle.liblex_calls.specs.Stages.{status_in};
+    ghost use Rattle.liblex_calls.specs.Told.{Told, FeedTells, NextTells, TellsAgain};
+
+    /// One that was fed nothing.
+    pub(crate) fn new(alloc: Global, rules: Rules) -> TokenScan
+        ensures going { result.stage ≡ Stage.Going }
+        ensures told { (file : List ℕ) → IsMachineOf file (rules_machine rules) → Told file false [] [] [] result }
+    {
+        TokenScan {
+            scanner: PullScanner::new(alloc, rules),
+            stage: Stage::Going,
+        }
+    }
+
+    /// Keeps a piece more. Once the end was told, or the scan has ended or stopped, it counts for nothing.
+    pub(crate) fn feed(&mut self, piece: &[u8]) -> Answer
+        ensures fed { (file : List ℕ) (told : Bool) (fed : List ℕ) (tokens : List TokenModel) (text : List ℕ)
+            → Told file told fed tokens text self.old
+            → FeedTells file told fed piece.now tokens text self.new result }
+        ensures again { TellsAgain self.old self.new result }
+    {
+        let Stage::Going = self.stage else {
+            return self.stage.feed_answer(0);
+        };
+        if self.scanner.is_finished() {
+            return Answer::Ended;
+        }
+        match self.scanner.feed(piece) {
+            Ok(()) => Answer::Done,
+            Err(RunError::TooManyReads) => Answer::TooManyReads,
+            Err(_) => Answer::OutOfMemory,
+        }
+    }
+
+    /// Tells the end of the input.
+    pub(crate) fn end(&mut self)
+        ensures told { (file : List ℕ) (told : Bool) (fed : List ℕ) (tokens : List TokenModel) (text : List ℕ)
+            → Told file told fed tokens text self.old → Told file true fed tokens text self.new }
+        ensures stage { self.new.stage ≡ self.old.stage }
+    {
+        self.scanner.finish();
+    }
+
+    /// Tells the next token, or that it asks for more than was fed, or the end with its status, or a fault. After the end
+    /// and a fault the same is told again.
+    pub(crate) fn next(&mut self, token: &mut NextToken, status: &mut u8) -> Answer
+        ensures told { (file : List ℕ) (told : Bool) (fed : List ℕ) (tokens : List TokenModel) (text : List ℕ)
+            → Told file told fed tokens text self.old
+            → NextTells file told fed tokens self.new token.old token.new status.new result }
+        ensures again { TellsAgain self.old self.new result }
+    {
+        let answer = self.pull(token);
+        *status = self.stage.status();
+        answer
+    }
+
+    /// The same, with the status in the stage.
+    fn pull(&mut self, token: &mut NextToken) -> Answer
+        ensures told { (file : List ℕ) (told : Bool) (fed : List ℕ) (tokens : List TokenModel) (text : List ℕ)
+            → Told file told fed tokens text self.old
+            → NextTells file told fed tokens self.new token.old token.new (status_in self.new.stage) result }
+        ensures again { TellsAgain self.old self.new result }
+    {
+        let Stage::Going = self.stage else {
+            return self.stage.feed_answer(0);
+        };
+        match self.scanner.next() {
+            Ok(Pulled::Token(found)) => {
+                *token = shown(found);
+                Answer::Done
+            }
+            Ok(Pulled::More) => Answer::More,
+            Ok(Pulled::Ended(status)) => {
+                self.stage = Stage::Ended(status);
+                Answer::Ended
+            }
+            Err(error) => {
+                self.stage = Stage::after_fault(error);
+                self.stage.feed_answer(0)
+            }
+        }
+    }
+
+    /// Hands out the text of the token that was told last, and after each other answer nothing.
+    pub(crate) fn hand_text(&self, buffer: &mut [u8], count: &mut usize) -> Answer
+        ensures handed { HandedOut (pull_text self.now.scanner) buffer.old buffer.new count.new }
+        ensures fits { FitsInto (pull_text self.now.scanner) buffer.old result }
+    {
+        hand_out(self.scanner.text(), buffer, count)
+    }
+}
