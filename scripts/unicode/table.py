@@ -72,6 +72,9 @@ def table():
     yield "//! The data is that of the Unicode Character Database, copyright 1991-2022 Unicode, Inc.:"
     yield "//! https://www.unicode.org/terms_of_use.html"
     yield ""
+    yield "/// The line that tells the version of Unicode that the sets are of."
+    yield f'pub const UNICODE_VERSION: &str = "Unicode {sets.version()}\\n";'
+    yield ""
     yield "/// A line for each set: its names, a colon, and its ranges, which ascend and do not touch, in hexadecimal digits."
     yield 'pub(crate) const SETS: &str = "\\'
     pieces = [piece for names, ranges in named_sets() for piece in wrapped(names, ranges)]

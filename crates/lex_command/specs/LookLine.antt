@@ -7,7 +7,7 @@ use Rattle.clap.specs.declared.builder.action.ArgAction.TheVariants.{Set}
 use Rattle.lex_command.specs.CommandLine.{files_of, words_rule}
 use Rattle.lex_command.specs.Flags.{is_separator, pattern_rules, patterns_of}
 use Rattle.lex_command.specs.declared.look.args.About.{About}
-use Rattle.lex_command.specs.declared.look.args.About.TheVariants.{Help, Version}
+use Rattle.lex_command.specs.declared.look.args.About.TheVariants.{Help, UnicodeVersion, Version}
 use Rattle.lex_command.specs.declared.look.args.Look.{Look}
 use Rattle.lex_command.specs.declared.look.args.Look.TheVariants.{About as OfItself, Check, Letters, One, Same}
 use Rattle.lex_command.specs.declared.look.args.Subcommand.{Subcommand}
@@ -65,14 +65,22 @@ lexlook_app = fold with_subcommand no_subcommand (
 
 -- ---- what is asked for
 
--- what the first of the words `--help`, `-h` and `--version` asks for, if it stands before any `--`
-abbrev pub about_of : List Text → Option About
-about_of [] = None
-about_of (word ∷ rest) =
+-- the version that `--version` asks for: the program's, and behind `utf8` that of Unicode
+abbrev pub told_version : List Text → About
+told_version [] = Version
+told_version (word ∷ rest) = if bytes_eq word (codes "utf8") then UnicodeVersion else Version
+
+-- what the first of the words `--help`, `-h` and `--version` asks for, if it stands before any `--`, where this is the version
+abbrev pub first_about : About → List Text → Option About
+first_about what [] = None
+first_about what (word ∷ rest) =
     if is_separator word then None
     else if bytes_eq word (codes "--help") || bytes_eq word (codes "-h") then Some Help
-    else if bytes_eq word (codes "--version") then Some Version
-    else about_of rest
+    else if bytes_eq word (codes "--version") then Some what
+    else first_about what rest
+
+abbrev pub about_of : List Text → Option About
+about_of words = first_about (told_version words) words
 
 -- what a subcommand of one file is called
 abbrev pub name_of : Subcommand → Text

@@ -25,7 +25,7 @@ use lexkit::{
 };
 use lexlook_calls::{Given, draw, tell_lines, tell_same, tell_words, trace};
 use lexlook_check::tell_check;
-use lexlook_unicode::{DefinitionError, definition_of};
+use lexlook_unicode::{DefinitionError, UNICODE_VERSION, definition_of};
 use std::alloc::AllocError;
 use std::io;
 use std::process::ExitCode;
@@ -50,12 +50,13 @@ fn options_of(patterns: PatternFlags) -> Options
     Options::reading(patterns.fold, patterns.posix)
 }
 
-/// Writes the help or the version to standard output.
+/// Writes the help or a version to standard output.
 fn show_about(rt: &HostRuntime, what: About) -> Result<ExitCode, Failure> {
     let mut sink = ToWrite::new(io::writer(rt));
     match what {
         About::Help => write_help(&mut sink)?,
         About::Version => write_version(&mut sink)?,
+        About::UnicodeVersion => sink.put(UNICODE_VERSION.as_bytes())?,
     }
     sink.flush()?;
     Ok(ExitCode::SUCCESS)

@@ -4,4 +4,5 @@ pub mod Runs
 pub mod Digits
 pub mod Spelled
 pub mod Words
+pub mod Apart
 pub mod Remainders

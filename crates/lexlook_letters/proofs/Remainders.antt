@@ -1,9 +1,13 @@
 -- What is left of ranges.
-use Rattle.std.proofs.Common.{◌≡◌, ◌↔◌, ℕ, ◌+◌, ◌-◌, ◌<◌, ◌≤◌, min, max, List, [], ◌∷◌, ◌++◌, length, get_or, take, ◌⊎◌, inl, inr, sym, subst, arith}
+use Rattle.std.proofs.Common.{◌≡◌, ◌↔◌, ℕ, ◌+◌, ◌-◌, ◌<◌, ◌≤◌, min, max, List, [], ◌∷◌, ◌++◌, length, get_or, take, ◌⊎◌, inl, inr, refl, sym, ap, ◌∙◌, subst, append-nil, arith}
 use Rattle.std.proofs.lemmas.Bool.{cases_lt}
 use Rattle.std.proofs.lemmas.List.{take_more}
-use Rattle.lexlook_letters.specs.Encoding.{InNoneOf, InOneOf, LiesWithin}
+use Rattle.lexlook_letters.specs.Encoding.{InNoneOf, InOneOf, IsEncodingOf, LiesWithin}
+use Rattle.lexlook_letters.specs.Sequences.{FollowsOne}
 use Rattle.lexlook_letters.specs.declared.ranges.CodeRange.{CodeRange}
+use Rattle.lexlook_letters.specs.Apart.{ranges_between}
+use Rattle.lexlook_letters.specs.declared.sequence.Sequence.{Sequence}
+use Rattle.lexlook_letters.proofs.Apart.{none_between, one_between}
 use Rattle.lexlook_letters.proofs.Runs.{in_more, in_first, in_last}
 
 -- one range more
@@ -25,6 +29,16 @@ no_more_ranges rs first end none c = (λ h. inl h, from)
     from : InOneOf rs c ⊎ ((first ≤ c) × (c < end)) → InOneOf rs c
     from (inl h) = h
     from (inr (l, m)) = absurd (omega arith)
+
+pub between_points : (rs after : List CodeRange) (first end : ℕ) → after ≡ rs ++ ranges_between first end
+    → (c : ℕ) → InOneOf after c ↔ (InOneOf rs c ⊎ ((first ≤ c) × (c < end)))
+between_points rs after first end e = elim (cases_lt first end) [
+  | inl some ↦
+      one_more_range rs after (record { first = first; last = end - 1 }) first end (e ∙ ap (λ x. rs ++ x) (one_between first end some)) some refl refl
+  | inr none ↦
+      let same : after ≡ rs = e ∙ ap (λ x. rs ++ x) (none_between first end none) ∙ append-nil rs in
+      subst (λ (x : List CodeRange). (c : ℕ) → InOneOf x c ↔ (InOneOf rs c ⊎ ((first ≤ c) × (c < end)))) (sym same) (no_more_ranges rs first end none)
+]
 
 -- what is below what is taken, and what is above it
 pub both_sides : (old mid new : List CodeRange) (piece taken : CodeRange)
@@ -115,3 +129,46 @@ pub range_taken : (left slice new ranges : List CodeRange) (i : ℕ) (d : CodeRa
 range_taken left slice new ranges i d h e so_far more =
     subst (λ (x : List CodeRange). AreOthers new x) (sym (take_more ranges i d h))
     (range_more left new (take i ranges) (get_or ranges i d) so_far (subst (λ (x : List CodeRange). IsLeft new x (get_or ranges i d)) e more))
+
+-- Twice what is left is the same up to the last code point.
+
+in_or_out : (rs : List CodeRange) (c : ℕ) → InOneOf rs c ⊎ (InOneOf rs c → ⊥)
+in_or_out [] c = inr (λ h. h)
+in_or_out (r ∷ rs) c = elim (in_or_out rs c) [
+  | inl h ↦ inl (inr h)
+  | inr out ↦ elim (cases_lt c r.first) [
+    | inl low ↦ inr (λ h. elim h [ inl k ↦ (let l = k.0 in absurd (omega arith)) | inr k ↦ out k ])
+    | inr from ↦ elim (cases_lt r.last c) [
+      | inl high ↦ inr (λ h. elim h [ inl k ↦ (let l = k.1 in absurd (omega arith)) | inr k ↦ out k ])
+      | inr to ↦ inl (inl (from, to))
+    ]
+  ]
+]
+
+pub others_of_others : (ranges left slice found : List CodeRange) → slice ≡ left → AreOthers left ranges → AreOthers found slice
+    → (c : ℕ) → InOneOf found c ↔ (InOneOf ranges c × (c ≤ 0x10FFFF))
+others_of_others ranges left slice found e one two c = (to, from)
+  where
+    same : AreOthers found left
+    same = subst (λ (x : List CodeRange). AreOthers found x) e two
+
+    to : InOneOf found c → InOneOf ranges c × (c ≤ 0x10FFFF)
+    to h =
+        let (top, out) = (same c).0 h in
+        elim (in_or_out ranges c) [ inl k ↦ (k, top) | inr none ↦ absurd (out ((one c).1 (top, none))) ]
+
+    from : InOneOf ranges c × (c ≤ 0x10FFFF) → InOneOf found c
+    from (h, top) = (same c).1 (top, λ k. ((one c).0 k).1 h)
+
+-- Sequences of the merged ranges have the words of the ranges.
+pub merged_words : (ss : List Sequence) (ranges apart slice : List CodeRange) → slice ≡ apart → ((c : ℕ) → InOneOf apart c ↔ (InOneOf ranges c × (c ≤ 0x10FFFF)))
+    → ((w : List ℕ) → FollowsOne ss w ↔ IsEncodingOf (InOneOf slice) w) → (w : List ℕ) → FollowsOne ss w ↔ IsEncodingOf (InOneOf ranges) w
+merged_words ss ranges apart slice e same words w = (to, from)
+  where
+    to : FollowsOne ss w → IsEncodingOf (InOneOf ranges) w
+    to h =
+        let (c, inside, is, f) = (words w).0 h in
+        (c, ((same c).0 (subst (λ (x : List CodeRange). InOneOf x c) e inside)).0, is, f)
+
+    from : IsEncodingOf (InOneOf ranges) w → FollowsOne ss w
+    from (c, inside, is, f) = (words w).1 (c, subst (λ (x : List CodeRange). InOneOf x c) (sym e) ((same c).1 (inside, is.0)), is, f)

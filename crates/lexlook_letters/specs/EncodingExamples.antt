@@ -1,6 +1,8 @@
--- Worked examples of encodings. (RFC 3629, section 7: its examples. The others are the ends of each length.)
-use Rattle.std.specs.Prelude.{◌≡◌, [], ◌∷◌}
+-- Worked examples of encodings, and of ranges. (RFC 3629, section 7: its examples. The others are the ends of each length.)
+use Rattle.std.specs.Prelude.{◌≡◌, ℕ, [], ◌∷◌}
+use Rattle.lexlook_letters.specs.Apart.{AreApart}
 use Rattle.lexlook_letters.specs.Encoding.{IsEncoded, encoding}
+use Rattle.lexlook_letters.specs.declared.ranges.CodeRange.{CodeRange}
 
 -- U+0041, U+2262, U+0391, U+D55C, U+65E5, U+233B4 and U+FEFF
 abbrev pub Encodings : Type 0
@@ -26,3 +28,13 @@ EndsOfLengths = (encoding 0 ≡ 0 ∷ [])
 -- surrogates, and what is beside them
 abbrev pub Surrogates : Type 0
 Surrogates = IsEncoded 0xD7FF × (IsEncoded 0xD800 → ⊥) × (IsEncoded 0xDFFF → ⊥) × IsEncoded 0xE000 × IsEncoded 0x10FFFF × (IsEncoded 0x110000 → ⊥)
+
+abbrev pub points_between : ℕ → ℕ → CodeRange
+points_between first last = record { first = first; last = last }
+
+-- U+41 to U+43 and U+45 to U+46 are apart; ranges that touch are not, nor those that descend or are empty
+abbrev pub Ranges : Type 0
+Ranges = AreApart (points_between 0x41 0x43 ∷ points_between 0x45 0x46 ∷ [])
+    × (AreApart (points_between 0x41 0x43 ∷ points_between 0x44 0x46 ∷ []) → ⊥)
+    × (AreApart (points_between 0x45 0x46 ∷ points_between 0x41 0x43 ∷ []) → ⊥)
+    × (AreApart (points_between 0x43 0x41 ∷ []) → ⊥)

@@ -1,6 +1,8 @@
-//! The code points that ranges leave out.
-ghost use Rattle.std.specs.Prelude.{◌≡◌, ◌↔◌, ℕ, ◌^◌, ◌<◌, ◌≤◌, ◌⊎◌, IfOk, OnOk};
+//! The code points that ranges leave out, and ranges that do not touch.
+ghost use Rattle.std.specs.Prelude.{◌≡◌, ◌↔◌, ℕ, ◌^◌, ◌<◌, ◌≤◌, ◌⊎◌, ◌∷◌, ◌++◌, IfOk, List, OnOk};
+ghost use Rattle.lexlook_letters.specs.Apart.{AreApart, ranges_between};
 ghost use Rattle.lexlook_letters.specs.Encoding.{InNoneOf, InOneOf, LiesWithin};
+ghost use Rattle.lexlook_letters.specs.declared.ranges.CodeRange.{CodeRange};
 
 use crate::cutting::LAST;
 use crate::ranges::CodeRange;
@@ -9,8 +11,7 @@ use std::alloc::{AllocError, Global};
 /// Adds the range from the first number up to the end, which is not in it, where there is one.
 fn push_between(left: &mut Vec<CodeRange>, first: u64, end: u64) -> Result<(), AllocError>
     requires { end ≤ 2 ^ 32 }
-    ensures { OnOk result ((c : ℕ) → InOneOf left.new.items c
-        ↔ (InOneOf left.old.items c ⊎ ((first ≤ c) × (c < end)))) }
+    ensures { OnOk result (left.new.items ≡ left.old.items ++ ranges_between first end) }
 {
     if first < end {
         left.push(CodeRange {
@@ -27,8 +28,11 @@ fn push_left(
     piece: CodeRange,
     taken: CodeRange,
 ) -> Result<(), AllocError>
-    ensures { OnOk result ((c : ℕ) → InOneOf left.new.items c
+    requires { taken.first ≤ taken.last }
+    ensures points { OnOk result ((c : ℕ) → InOneOf left.new.items c
         ↔ (InOneOf left.old.items c ⊎ (LiesWithin piece c × (LiesWithin taken c → ⊥)))) }
+    ensures apart { OnOk result ((rest : List CodeRange)
+        → AreApart (left.old.items ++ piece ∷ rest) → AreApart (left.new.items ++ rest)) }
 {
     let first = u64::from(piece.first);
     let end = u64::from(piece.last) + 1;
@@ -42,8 +46,10 @@ fn without(
     pieces: &[CodeRange],
     taken: CodeRange,
 ) -> Result<Vec<CodeRange>, AllocError>
-    ensures { IfOk result (λ left. (c : ℕ) → InOneOf left.items c
+    requires { taken.first ≤ taken.last }
+    ensures points { IfOk result (λ left. (c : ℕ) → InOneOf left.items c
         ↔ (InOneOf pieces.now c × (LiesWithin taken c → ⊥))) }
+    ensures apart { IfOk result (λ left. AreApart pieces.now → AreApart left.items) }
 {
     let mut left = Vec::new(alloc);
     for piece in pieces {
@@ -52,9 +58,26 @@ fn without(
     Ok(left)
 }
 
-/// The code points up to U+10FFFF that are in none of the ranges.
+/// The same, where the range may be empty.
+fn less(
+    alloc: Global,
+    pieces: Vec<CodeRange>,
+    taken: CodeRange,
+) -> Result<Vec<CodeRange>, AllocError>
+    ensures points { IfOk result (λ left. (c : ℕ) → InOneOf left.items c
+        ↔ (InOneOf pieces.items c × (LiesWithin taken c → ⊥))) }
+    ensures apart { IfOk result (λ left. AreApart pieces.items → AreApart left.items) }
+{
+    if taken.first > taken.last {
+        return Ok(pieces);
+    }
+    without(alloc, pieces.as_slice(), taken)
+}
+
+/// The code points up to U+10FFFF that are in none of the ranges, by ranges that ascend and do not touch.
 pub fn others(alloc: Global, ranges: &[CodeRange]) -> Result<Vec<CodeRange>, AllocError>
-    ensures { IfOk result (λ left. (c : ℕ) → InOneOf left.items c ↔ InNoneOf ranges.now c) }
+    ensures points { IfOk result (λ left. (c : ℕ) → InOneOf left.items c ↔ InNoneOf ranges.now c) }
+    ensures apart { IfOk result (λ left. AreApart left.items) }
 {
     let mut left = Vec::new(alloc);
     left.push(CodeRange {
@@ -62,7 +85,17 @@ pub fn others(alloc: Global, ranges: &[CodeRange]) -> Result<Vec<CodeRange>, All
         last: LAST,
     })?;
     for range in ranges {
-        left = without(alloc, left.as_slice(), *range)?;
+        left = less(alloc, left, *range)?;
     }
     Ok(left)
+}
+
+/// The code points of the ranges, up to U+10FFFF, by ranges that ascend and do not touch.
+pub fn merged(alloc: Global, ranges: &[CodeRange]) -> Result<Vec<CodeRange>, AllocError>
+    ensures points { IfOk result (λ found. (c : ℕ) → InOneOf found.items c
+        ↔ (InOneOf ranges.now c × (c ≤ 0x10FFFF))) }
+    ensures apart { IfOk result (λ found. AreApart found.items) }
+{
+    let left = others(alloc, ranges)?;
+    others(alloc, left.as_slice())
 }

@@ -7,11 +7,12 @@
 //! - `text`: the bytes of a pattern.
 //! - `spelling`: the pattern of sequences, `spell`.
 //! - `letters`: the pattern of ranges, `spell_ranges`.
-//! - `complement`: the code points that ranges leave out, `others`.
+//! - `complement`: the code points that ranges leave out, `others`, and the same ones by ranges that do not touch, `merged`.
 //! - `laws`: worked examples of encodings.
 //!
 //! It promises that the words of the sequences are the encodings of the code points of the ranges, each in its shortest form,
-//! and of no surrogate. What the ranges are does not matter: they may overlap, be empty, or go past U+10FFFF.
+//! and of no surrogate. What the ranges are does not matter: they may overlap, be empty, or go past U+10FFFF. `merged` has
+//! one list of ranges for a set of code points.
 //!
 //! - **A piece is a box.** Where code points of one length begin and end at whole blocks of 64, each byte may be chosen by
 //!   itself. So a piece is told by its two ends, and `cutting` finds the longest one at a front.
@@ -27,7 +28,7 @@ mod spelling;
 mod split;
 mod text;
 
-pub use complement::others;
+pub use complement::{merged, others};
 pub use laws::examples_of_encodings;
 pub use letters::spell_ranges;
 pub use ranges::CodeRange;

@@ -3,6 +3,9 @@
 //! The data is that of the Unicode Character Database, copyright 1991-2022 Unicode, Inc.:
 //! https://www.unicode.org/terms_of_use.html
 
+/// The line that tells the version of Unicode that the sets are of.
+pub const UNICODE_VERSION: &str = "Unicode 15.0.0\n";
+
 /// A line for each set: its names, a colon, and its ranges, which ascend and do not touch, in hexadecimal digits.
 pub(crate) const SETS: &str = "\
     C Other: 0-1F 7F-9F AD 378-379 380-383 38B 38D 3A2 530 557-558 58B-58C 590 5C8-5CF 5EB-5EE \

@@ -2,9 +2,9 @@
 ghost use Rattle.std.specs.Prelude.{◌≡◌, ◌≢◌, IfErr, IfOk, IfSome, None, Some, codes, false, fold, map};
 ghost use Rattle.std.specs.Prelude.{string_bytes};
 ghost use Rattle.clap.specs.Words.{app_of, found_of, rows_of, rule_of, subcommand_rows_of, with_rule, with_subcommand};
-ghost use Rattle.lex_command.specs.LookLine.{AsksToShow, IsLookOf, about_of, file_app, lexlook_app, name_of};
+ghost use Rattle.lex_command.specs.LookLine.{AsksToShow, IsLookOf, about_of, file_app, first_about, lexlook_app, name_of};
 ghost use Rattle.lex_command.specs.CommandLine.{words_rule};
-ghost use Rattle.lex_command.specs.LookLine.{needed_rule, needed_words_rule, sets_app, some_files};
+ghost use Rattle.lex_command.specs.LookLine.{needed_rule, needed_words_rule, sets_app, some_files, told_version};
 
 use crate::error::ArgsError;
 use crate::flags::{PatternFlags, copied, patterns_of, value_of, values_of, with_flags};
@@ -32,6 +32,8 @@ pub enum About {
     Help,
     /// Its version.
     Version,
+    /// The version of Unicode by which it knows sets of code points.
+    UnicodeVersion,
 }
 
 /// What the program is to show. A file `-` is standard input.
@@ -66,8 +68,8 @@ pub enum Look {
 }
 
 /// Reads the words after the program's name: `picture FILE`, `same FILE FILE`, `lines FILE`, `words FILE`, `trace FILE`
-/// or `check FILE..`, with `-i` or `-X` or without, `utf8 SET..`, or any words with `--help`, `-h` or `--version`. Flags
-/// may be repeated. Words that it refuses by `Usage` ask for nothing.
+/// or `check FILE..`, with `-i` or `-X` or without, `utf8 SET..`, or any words with `--help`, `-h` or `--version`. Behind
+/// `utf8` the version is that of Unicode. Flags may be repeated. Words that it refuses by `Usage` ask for nothing.
 pub fn read_args(alloc: Global, words: &[String]) -> Result<Look, ArgsError>
     ensures asked { IfOk result (AsksToShow (map string_bytes words.now)) }
     ensures refused { IfErr result (λ e. e ≡ ArgsError.Usage
@@ -85,6 +87,27 @@ pub fn read_args(alloc: Global, words: &[String]) -> Result<Look, ArgsError>
 fn about_of(words: &[String]) -> Option<About>
     ensures { result ≡ about_of (map string_bytes words.now) }
 {
+    first_about(told_version(words), words)
+}
+
+/// The version that `--version` asks for: the program's, and behind `utf8` that of Unicode.
+fn told_version(words: &[String]) -> About
+    ensures { result ≡ told_version (map string_bytes words.now) }
+{
+    let Some(word) = words.first() else {
+        return About::Version;
+    };
+    if word.as_str() == "utf8" {
+        About::UnicodeVersion
+    } else {
+        About::Version
+    }
+}
+
+/// The same, where this is what `--version` asks for.
+fn first_about(version: About, words: &[String]) -> Option<About>
+    ensures { result ≡ first_about version (map string_bytes words.now) }
+{
     for word in words {
         let text = word.as_str();
         if text == "--" {
@@ -94,7 +117,7 @@ fn about_of(words: &[String]) -> Option<About>
             return Some(About::Help);
         }
         if text == "--version" {
-            return Some(About::Version);
+            return Some(version);
         }
     }
     None

@@ -21,7 +21,8 @@ const HELP: &str = "lexlook shows what a specification of lex does.\n\n\
     lexlook check FILE.. [-i] [-X]\n    \
     every fault of the specification that the files are together, with status 1 where there is one\n\n\
     FILE may be - for standard input. With -i letters stand for both cases. With -X an interval\n\
-    applies to the whole series to its left. A SET is U+0400-U+04FF, Lu, Greek, XID_Start or the like.\n";
+    applies to the whole series to its left. A SET is U+0400-U+04FF, Lu, Greek, XID_Start or the like,\n\
+    by the version of Unicode that lexlook utf8 --version tells.\n";
 
 /// The program's name and its version, which is that of the file VERSION.
 const VERSION: &str = "lexlook 1.0.0\n";

@@ -1,5 +1,7 @@
-use Rattle.std.proofs.Common.{inl, inr, refl, arith}
+use Rattle.std.proofs.Common.{[], ◌∷◌, inl, inr, refl, arith}
+use Rattle.lexlook_letters.specs.Apart.{AreApart}
 use Rattle.lexlook_letters.specs.Encoding.{IsEncoded}
+use Rattle.lexlook_letters.specs.EncodingExamples.{points_between}
 use Rattle.lexlook_letters.proofs.laws.examples_of_encodings.Goals as goal
 
 first_surrogate : IsEncoded 0xD800 → ⊥
@@ -28,3 +30,15 @@ returns-clause-surrogates c = (
   (omega arith, inr (omega arith)),
   beyond,
 )
+
+touching : AreApart (points_between 0x41 0x43 ∷ points_between 0x44 0x46 ∷ []) → ⊥
+touching (a, b, (c, d, e)) = omega arith
+
+descending : AreApart (points_between 0x45 0x46 ∷ points_between 0x41 0x43 ∷ []) → ⊥
+descending (a, b, (c, d, e)) = omega arith
+
+empty : AreApart (points_between 0x43 0x41 ∷ []) → ⊥
+empty (a, b, c) = omega arith
+
+pub returns-clause-ranges : goal.returns-clause-ranges
+returns-clause-ranges c = ((omega arith, omega arith, (omega arith, omega arith, tt)), touching, descending, empty)
