@@ -3,3 +3,4 @@ pub mod Well
 pub mod Reading
 pub mod PieceLaws
 pub mod Parts
+pub mod OrderLaws

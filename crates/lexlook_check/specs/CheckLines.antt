@@ -1,15 +1,13 @@
 -- The lines that tell what was found. (This project's: POSIX leaves messages to the implementation. `FILE:LINE:` is what compilers of C
 -- write, and what editors read.)
-use Rattle.std.specs.Prelude.{ℕ, ◌+◌, ◌==◌, if◌then◌else◌, List, [], ◌∷◌, ◌++◌, flat_map, Option, Some, None, is_none, codes, decimal}
+use Rattle.std.specs.Prelude.{ℕ, ◌+◌, ◌==◌, if◌then◌else◌, List, [], ◌∷◌, ◌++◌, Option, Some, None, is_none, codes, decimal}
 use Rattle.std.specs.List.{concat}
 use Rattle.lexre_bytes.specs.RefusalNames.{kind_name}
 use Rattle.lexauto_reports.specs.ReportLines.{warning_words}
 use Rattle.lexkit.specs.Faults.{build_words}
-use Rattle.lexlook_check.specs.Findings.{findings_of}
 use Rattle.lexlook_check.specs.Hints.{definition_hint, hint_words, notice_hint}
 use Rattle.lexlook_check.specs.Places.{line_place}
 use Rattle.lexlook_check.specs.SourceLines.{place_in, source_words, text_line}
-use Rattle.lexlook_check.specs.declared.checking.Checked.{Checked}
 use Rattle.lexlook_check.specs.declared.findings.Finding.{Finding}
 use Rattle.lexlook_check.specs.declared.findings.What.{What}
 use Rattle.lexlook_check.specs.declared.findings.What.TheVariants.{Fault, Limit, Noticed, Warned}
@@ -73,7 +71,3 @@ finding_lines files text f =
     let line = shown_line text f in
     let at = place_in f.at line in
     head_words files f at ++ detail_words (line_place files f.line).1 line at (hint_of f.what)
-
--- all lines of what was found of a text
-abbrev pub check_lines : List SourceFile → List ℕ → Checked → List ℕ
-check_lines files text c = flat_map (finding_lines files text) (findings_of c)

@@ -13,4 +13,5 @@ pub mod SourceLines
 pub mod Hints
 pub mod Findings
 pub mod CheckLines
+pub mod JsonLines
 pub mod Telling

@@ -29,7 +29,7 @@ notice_of piece = if has_letters piece then Some LettersAsBytes else if escapes_
 
 -- of a piece at its place in a line
 abbrev pub piece_notices : ℕ → ℕ × List ℕ → List Notice
-piece_notices line p = elim (notice_of p.1) [ None ↦ [] | Some kind ↦ record { line = line; at = p.0; kind = kind } ∷ [] ]
+piece_notices line p = elim (notice_of p.1) [ None ↦ [] | Some kind ↦ record { line = line; at = p.0; size = length p.1; kind = kind } ∷ [] ]
 
 -- of the pattern that begins the text, before which so many bytes of the line stand
 abbrev pub pattern_notices : ℕ → ℕ → List ℕ → List Notice

@@ -1,5 +1,5 @@
 -- The line of a fault as it stands in its file, with a mark under its place. (This project's, in the form of compilers of Rust.)
-use Rattle.std.specs.Prelude.{ℕ, ◌-◌, ◌==◌, nat_le, if◌then◌else◌, List, [], ◌∷◌, map, take, length, Option, Some, None, codes, decimal}
+use Rattle.std.specs.Prelude.{ℕ, ◌+◌, ◌-◌, ◌==◌, nat_le, if◌then◌else◌, List, [], ◌∷◌, map, take, length, Option, Some, None, codes, decimal}
 use Rattle.std.specs.List.{concat}
 use Rattle.lexspec_lines.specs.Lines.{line_in}
 
@@ -16,6 +16,10 @@ offset_in at line = if nat_le at (length line) then Some at else None
 abbrev pub place_in : Option ℕ → List ℕ → Option ℕ
 place_in None line = None
 place_in (Some at) line = offset_in at line
+
+-- how many bytes stand before the end of so many at a place of the line, where it has as many, and else before its own end
+abbrev pub end_in : ℕ → ℕ → List ℕ → ℕ
+end_in at size line = if nat_le size (length line - at) then at + size else length line
 
 -- what stands under bytes before the mark: a tab under a tab, and a blank under any other
 abbrev pub under : List ℕ → List ℕ

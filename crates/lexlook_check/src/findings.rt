@@ -1,6 +1,6 @@
-//! What is told of a text.
+//! What is told of a text, in order of place.
 ghost use Rattle.std.specs.Prelude.{◌≡◌, ◌++◌, IfOk, OnOk, map};
-ghost use Rattle.lexlook_check.specs.Findings.{fault_finding, fault_place, findings_of, limit_findings, notice_finding, warning_finding};
+ghost use Rattle.lexlook_check.specs.Findings.{AreInOrder, fault_finding, fault_place, findings_of, limit_findings, notice_finding, warning_finding};
 
 use crate::checking::Checked;
 use crate::notices::{Notice, NoticeKind};
@@ -29,6 +29,8 @@ pub(crate) struct Finding {
     pub(crate) line: u32,
     /// How many bytes of the line stand before it, where a place is told.
     pub(crate) at: Option<usize>,
+    /// How many bytes it has there.
+    pub(crate) size: usize,
     /// What was found.
     pub(crate) what: What,
 }
@@ -51,6 +53,7 @@ fn add_faults(findings: &mut Vec<Finding>, faults: &[SpecError]) -> Result<(), A
         findings.push(Finding {
             line: fault.line,
             at: fault_place(fault.kind),
+            size: 1,
             what: What::Fault(fault.kind),
         })?;
     }
@@ -65,6 +68,7 @@ fn add_limit(findings: &mut Vec<Finding>, limit: Option<BuildError>) -> Result<(
         findings.push(Finding {
             line: 0,
             at: None,
+            size: 1,
             what: What::Limit(limit),
         })?;
     }
@@ -79,6 +83,7 @@ fn add_warnings(findings: &mut Vec<Finding>, warnings: &[Warning]) -> Result<(),
         findings.push(Finding {
             line: warning.line,
             at: None,
+            size: 1,
             what: What::Warned(warning.code),
         })?;
     }
@@ -93,6 +98,7 @@ fn add_notices(findings: &mut Vec<Finding>, notices: &[Notice]) -> Result<(), Al
         findings.push(Finding {
             line: notice.line,
             at: Some(notice.at),
+            size: notice.size,
             what: What::Noticed(notice.kind),
         })?;
     }
@@ -100,7 +106,7 @@ fn add_notices(findings: &mut Vec<Finding>, notices: &[Notice]) -> Result<(), Al
 }
 
 /// All that was found of a text, as it was found.
-pub(crate) fn findings_of(alloc: Global, checked: &Checked) -> Result<Vec<Finding>, AllocError>
+fn findings_of(alloc: Global, checked: &Checked) -> Result<Vec<Finding>, AllocError>
     ensures { IfOk result (λ findings. findings.items ≡ findings_of checked.now) }
 {
     let mut findings = Vec::new(alloc);
@@ -109,4 +115,17 @@ pub(crate) fn findings_of(alloc: Global, checked: &Checked) -> Result<Vec<Findin
     add_warnings(&mut findings, checked.warnings.as_slice())?;
     add_notices(&mut findings, checked.notices.as_slice())?;
     Ok(findings)
+}
+
+/// All that was found of a text, in order of place. Where no place in the line is told it is the first of the line.
+pub(crate) fn findings_in_order(
+    alloc: Global,
+    checked: &Checked,
+) -> Result<Vec<Finding>, AllocError>
+    ensures { IfOk result (λ told. AreInOrder (findings_of checked.now) told.items) }
+{
+    let mut told = findings_of(alloc, checked)?;
+    told.sort_by_key(|finding| finding.at.unwrap_or(0))?;
+    told.sort_by_key(|finding| finding.line)?;
+    Ok(told)
 }

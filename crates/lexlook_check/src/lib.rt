@@ -11,8 +11,9 @@
 //! - `places`: the files, as one text, and in which of them a line stands.
 //! - `source`: the line of a fault as it stands, with a mark under its place.
 //! - `hints`: what is expected where a fault is.
-//! - `findings`: what is told of a text, and where.
+//! - `findings`: what is told of a text, in order of place.
 //! - `lines`: the lines of what was found.
+//! - `json`: the same as objects of JSON.
 //! - `telling`: what is written of files, `tell_check`.
 //! - `laws`: nothing is told just of a specification within the limits; worked examples.
 //!
@@ -38,6 +39,7 @@ mod error;
 mod finding;
 mod findings;
 mod hints;
+mod json;
 mod laws;
 mod leaving;
 mod lines;
@@ -54,4 +56,4 @@ pub use finding::MAX_FAULTS;
 pub use laws::{examples_of_leaving, examples_of_notices, nothing_told};
 pub use notices::{Notice, NoticeKind};
 pub use places::SourceFile;
-pub use telling::tell_check;
+pub use telling::{Form, tell_check};

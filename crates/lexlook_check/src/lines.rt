@@ -1,11 +1,10 @@
 //! The lines of what was found.
-ghost use Rattle.std.specs.Prelude.{◌≡◌, ◌++◌, ◌<◌, ◌-◌, ◌^◌, IfOk, IfSome, OnOk, option_map};
+ghost use Rattle.std.specs.Prelude.{◌≡◌, ◌++◌, ◌<◌, ◌-◌, ◌^◌, IfOk, IfSome, OnOk, flat_map, option_map};
 ghost use Rattle.lexauto_reports.specs.ReportLines.{warning_words};
 ghost use Rattle.lexkit.specs.Faults.{build_words};
-ghost use Rattle.lexlook_check.specs.CheckLines.{check_lines, column_words, detail_words, file_line_words, finding_lines, head_words, hint_of, notice_words, severity_words, shown_line, what_words};
+ghost use Rattle.lexlook_check.specs.CheckLines.{column_words, detail_words, file_line_words, finding_lines, head_words, hint_of, notice_words, severity_words, shown_line, what_words};
 
-use crate::checking::Checked;
-use crate::findings::{Finding, What, findings_of};
+use crate::findings::{Finding, What};
 use crate::hints::{add_hint, definition_hint, notice_hint};
 use crate::notices::NoticeKind;
 use crate::places::{SourceFile, line_place};
@@ -76,7 +75,7 @@ fn notice_text(kind: NoticeKind) -> &'static str
 }
 
 /// Whether it is an error or a warning.
-fn severity_text(what: What) -> &'static str
+pub(crate) fn severity_text(what: What) -> &'static str
     ensures { result.now ≡ severity_words what }
 {
     match what {
@@ -86,7 +85,7 @@ fn severity_text(what: What) -> &'static str
 }
 
 /// What it is called.
-fn what_text(what: What) -> &'static str
+pub(crate) fn what_text(what: What) -> &'static str
     ensures { result.now ≡ what_words what }
 {
     match what {
@@ -98,7 +97,7 @@ fn what_text(what: What) -> &'static str
 }
 
 /// What is expected there, or to be known.
-fn hint_of(what: What) -> Option<&'static str>
+pub(crate) fn hint_of(what: What) -> Option<&'static str>
     ensures { option_map (λ hint. hint.now) result ≡ hint_of what }
 {
     match what {
@@ -148,7 +147,7 @@ fn add_head(
 }
 
 /// The line of what was found, where it is shown.
-fn shown_line(text: &[u8], finding: Finding) -> &[u8]
+pub(crate) fn shown_line(text: &[u8], finding: Finding) -> &[u8]
     ensures { result.now ≡ shown_line text.now finding }
 {
     if hint_of(finding.what).is_none() {
@@ -174,17 +173,16 @@ fn add_finding(
 }
 
 /// The lines of all that was found of a text.
-pub(crate) fn check_lines(
+pub(crate) fn told_lines(
     alloc: Global,
     files: &[SourceFile<'_>],
     whole: &[u8],
-    checked: &Checked,
+    findings: &[Finding],
 ) -> Result<Vec<u8>, AllocError>
-    ensures { IfOk result (λ text. text.items ≡ check_lines files.now whole.now checked.now) }
+    ensures { IfOk result (λ text. text.items ≡ flat_map (finding_lines files.now whole.now) findings.now) }
 {
-    let findings = findings_of(alloc, checked)?;
     let mut text = Vec::new(alloc);
-    for finding in findings.as_slice() {
+    for finding in findings {
         add_finding(&mut text, files, whole, *finding)?;
     }
     Ok(text)

@@ -29,12 +29,14 @@ pub struct Notice {
     pub line: u32,
     /// How many bytes of the line stand before the place.
     pub at: usize,
+    /// How many bytes it has.
+    pub size: usize,
     /// What is warned of.
     pub kind: NoticeKind,
 }
 
 /// Whether the bytes are UTF-8.
-fn is_utf8(bytes: &[u8]) -> bool
+pub(crate) fn is_utf8(bytes: &[u8]) -> bool
     ensures { result ≡ is_utf8 bytes.now }
 {
     match std::str::from_utf8(bytes) {
@@ -95,8 +97,12 @@ fn add_piece_notices(
     ensures { OnOk result (notices.new.items ≡ notices.old.items ++ piece_notices line (piece_of piece.entry)) }
 {
     if let Some(kind) = notice_of(piece.text) {
-        let at = piece.at;
-        notices.push(Notice { line, at, kind })?;
+        notices.push(Notice {
+            line,
+            at: piece.at,
+            size: piece.text.len(),
+            kind,
+        })?;
     }
     Ok(())
 }
