@@ -1,17 +1,18 @@
 -- The lines that tell what was found. (This project's: POSIX leaves messages to the implementation. `FILE:LINE:` is what compilers of C
 -- write, and what editors read.)
-use Rattle.std.specs.Prelude.{ℕ, ◌+◌, ◌==◌, if◌then◌else◌, List, [], ◌∷◌, ◌++◌, flat_map, Option, Some, None, codes, decimal}
+use Rattle.std.specs.Prelude.{ℕ, ◌+◌, ◌==◌, if◌then◌else◌, List, [], ◌∷◌, ◌++◌, Option, Some, None, is_none, codes, decimal}
 use Rattle.std.specs.List.{concat}
 use Rattle.lexre_bytes.specs.RefusalNames.{kind_name}
-use Rattle.lexre_bytes.specs.declared.refusals.SpecError.{SpecError}
-use Rattle.lexauto.specs.declared.error.BuildError.{BuildError}
 use Rattle.lexauto_reports.specs.ReportLines.{warning_words}
-use Rattle.lexauto_reports.specs.declared.warned.Warning.{Warning}
 use Rattle.lexkit.specs.Faults.{build_words}
-use Rattle.lexlook_check.specs.Hints.{hint_words}
+use Rattle.lexlook_check.specs.Hints.{definition_hint, hint_words, notice_hint}
 use Rattle.lexlook_check.specs.Places.{line_place}
-use Rattle.lexlook_check.specs.SourceLines.{fault_offset, source_words, text_line}
-use Rattle.lexlook_check.specs.declared.checking.Checked.{Checked}
+use Rattle.lexlook_check.specs.SourceLines.{place_in, source_words, text_line}
+use Rattle.lexlook_check.specs.declared.findings.Finding.{Finding}
+use Rattle.lexlook_check.specs.declared.findings.What.{What}
+use Rattle.lexlook_check.specs.declared.findings.What.TheVariants.{Fault, Limit, Noticed, Warned}
+use Rattle.lexlook_check.specs.declared.notices.NoticeKind.{NoticeKind}
+use Rattle.lexlook_check.specs.declared.notices.NoticeKind.TheVariants.{LettersAsBytes, LetterAlone}
 use Rattle.lexlook_check.specs.declared.places.SourceFile.{SourceFile}
 
 -- the file and the line there; of line 0, which is the whole, the file alone
@@ -20,29 +21,53 @@ file_line_words files n =
     let place = line_place files n in
     place.0 ++ (if place.1 == 0 then [] else codes ":" ++ decimal place.1)
 
--- the column of a fault, from 1, where it has one
+-- the column of a place, from 1, where one is told
 abbrev pub column_words : Option ℕ → List ℕ
 column_words None = []
 column_words (Some at) = codes ":" ++ decimal (at + 1)
 
--- the lines of a fault of a text: its place and what lex calls it, the line as it stands there, and what is expected
-abbrev pub fault_lines : List SourceFile → List ℕ → SpecError → List ℕ
-fault_lines files text e =
-    let line = text_line e.line text in
-    let at = fault_offset e.kind line in
-    let number = (line_place files e.line).1 in
-    concat (file_line_words files e.line ∷ column_words at ∷ codes ": error: " ∷ kind_name e.kind ∷ codes "\n"
-    ∷ source_words number line at ∷ hint_words number e.kind ∷ [])
+-- a fault or a limit is an error
+abbrev pub severity_words : What → List ℕ
+severity_words (Fault kind) = codes "error"
+severity_words (Limit e) = codes "error"
+severity_words (Warned code) = codes "warning"
+severity_words (Noticed kind) = codes "warning"
 
--- that of a limit, which the whole passes
-abbrev pub limit_line : List SourceFile → Option BuildError → List ℕ
-limit_line files None = []
-limit_line files (Some e) = concat (file_line_words files 0 ∷ codes ": error: " ∷ build_words e ∷ codes "\n" ∷ [])
+-- what is warned of beside what lex warns of
+abbrev pub notice_words : NoticeKind → List ℕ
+notice_words LettersAsBytes = codes "letters of a class as bytes"
+notice_words LetterAlone = codes "letter behind a backslash"
 
--- that of a warning
-abbrev pub warning_at : List SourceFile → Warning → List ℕ
-warning_at files w = concat (file_line_words files w.line ∷ codes ": warning: " ∷ warning_words w.code ∷ codes "\n" ∷ [])
+-- what it is called: a fault as by lex, without its place
+abbrev pub what_words : What → List ℕ
+what_words (Fault kind) = kind_name kind
+what_words (Limit e) = build_words e
+what_words (Warned code) = warning_words code
+what_words (Noticed kind) = notice_words kind
 
--- all lines of what was found of a text: the faults, the limit, the warnings
-abbrev pub check_lines : List SourceFile → List ℕ → Checked → List ℕ
-check_lines files text c = concat (flat_map (fault_lines files text) c.faults.items ∷ limit_line files c.limit ∷ flat_map (warning_at files) c.warnings.items ∷ [])
+-- what is expected there, or to be known
+abbrev pub hint_of : What → Option (List ℕ)
+hint_of (Fault kind) = Some (definition_hint kind)
+hint_of (Limit e) = None
+hint_of (Warned code) = None
+hint_of (Noticed kind) = Some (notice_hint kind)
+
+-- below a line with this number: where something is expected, the line as it stands, and that
+abbrev pub detail_words : ℕ → List ℕ → Option ℕ → Option (List ℕ) → List ℕ
+detail_words number line at None = []
+detail_words number line at (Some hint) = source_words number line at ++ hint_words number hint
+
+-- the first line of what was found: its place, whether it is an error, and what it is called
+abbrev pub head_words : List SourceFile → Finding → Option ℕ → List ℕ
+head_words files f at = concat (file_line_words files f.line ∷ column_words at ∷ codes ": " ∷ severity_words f.what ∷ codes ": " ∷ what_words f.what ∷ codes "\n" ∷ [])
+
+-- the line of what was found, where it is shown
+abbrev pub shown_line : List ℕ → Finding → List ℕ
+shown_line text f = if is_none (hint_of f.what) then [] else text_line f.line text
+
+-- the lines of what was found of a text
+abbrev pub finding_lines : List SourceFile → List ℕ → Finding → List ℕ
+finding_lines files text f =
+    let line = shown_line text f in
+    let at = place_in f.at line in
+    head_words files f at ++ detail_words (line_place files f.line).1 line at (hint_of f.what)

@@ -6,6 +6,8 @@ use Rattle.lexre_bytes.specs.declared.error.PatternErrorKind.TheVariants as patt
 use Rattle.lexre_bytes.specs.declared.refusals.SpecErrorKind.{SpecErrorKind}
 use Rattle.lexre_bytes.specs.declared.refusals.SpecErrorKind.TheVariants as kinds
 use Rattle.lexlook_check.specs.SourceLines.{under}
+use Rattle.lexlook_check.specs.declared.notices.NoticeKind.{NoticeKind}
+use Rattle.lexlook_check.specs.declared.notices.NoticeKind.TheVariants.{LettersAsBytes, LetterAlone}
 
 -- of a pattern
 abbrev pub pattern_hint : PatternErrorKind → List ℕ
@@ -62,6 +64,11 @@ definition_hint kinds.UnsupportedOption = codes "options are case-insensitive, s
 definition_hint kinds.TooManyConditions = codes "there are 255 conditions at most, INITIAL among them"
 definition_hint other = rule_hint other
 
+-- of what is warned of
+abbrev pub notice_hint : NoticeKind → List ℕ
+notice_hint LettersAsBytes = codes "a class has bytes, and a letter beyond ASCII is several of them: `lexlook utf8` and share/utf8.l have patterns of letters"
+notice_hint LetterAlone = codes "`\\d`, `\\s` and `\\w` are the letters themselves, and so are `\\D`, `\\S` and `\\W`: [0-9], [ \\t\\n] and [A-Za-z0-9_] are classes"
+
 -- the line of it, below a line with this number
-abbrev pub hint_words : ℕ → SpecErrorKind → List ℕ
-hint_words n kind = concat (codes "    " ∷ under (decimal n) ∷ codes " = " ∷ definition_hint kind ∷ codes "\n" ∷ [])
+abbrev pub hint_words : ℕ → List ℕ → List ℕ
+hint_words n hint = concat (codes "    " ∷ under (decimal n) ∷ codes " = " ∷ hint ∷ codes "\n" ∷ [])

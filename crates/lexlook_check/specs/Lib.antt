@@ -1,9 +1,17 @@
 pub mod Leaving
 pub mod LeavingExamples
 pub mod Finding
+pub mod Pieces
+pub mod PieceViews
+pub mod DefinitionLines
+pub mod LineViews
+pub mod Notices
+pub mod NoticeExamples
 pub mod Checks
 pub mod Places
 pub mod SourceLines
 pub mod Hints
+pub mod Findings
 pub mod CheckLines
+pub mod JsonLines
 pub mod Telling

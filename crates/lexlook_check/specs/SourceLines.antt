@@ -1,8 +1,6 @@
 -- The line of a fault as it stands in its file, with a mark under its place. (This project's, in the form of compilers of Rust.)
-use Rattle.std.specs.Prelude.{ℕ, ◌-◌, ◌==◌, nat_le, if◌then◌else◌, List, [], ◌∷◌, map, take, length, Option, Some, None, codes, decimal}
+use Rattle.std.specs.Prelude.{ℕ, ◌+◌, ◌-◌, ◌==◌, nat_le, if◌then◌else◌, List, [], ◌∷◌, map, take, length, Option, Some, None, codes, decimal}
 use Rattle.std.specs.List.{concat}
-use Rattle.lexre_bytes.specs.declared.refusals.SpecErrorKind.{SpecErrorKind}
-use Rattle.lexre_bytes.specs.declared.refusals.SpecErrorKind.TheVariants.{Pattern}
 use Rattle.lexspec_lines.specs.Lines.{line_in}
 
 -- the line n, from 1, without its newline; nothing where there is none
@@ -10,10 +8,18 @@ abbrev pub text_line : ℕ → List ℕ → List ℕ
 text_line n [] = []
 text_line n (c ∷ t) = if n == 1 then (line_in (c ∷ t)).0 else text_line (if c == 10 then n - 1 else n) t
 
--- how many bytes of the line stand before the fault, where lex tells it and the line has as many
-abbrev pub fault_offset : SpecErrorKind → List ℕ → Option ℕ
-fault_offset (Pattern e) line = if nat_le e.at (length line) then Some e.at else None
-fault_offset other line = None
+-- so many bytes of the line stand before a place, where it has as many
+abbrev pub offset_in : ℕ → List ℕ → Option ℕ
+offset_in at line = if nat_le at (length line) then Some at else None
+
+-- the same of a place that may not be told
+abbrev pub place_in : Option ℕ → List ℕ → Option ℕ
+place_in None line = None
+place_in (Some at) line = offset_in at line
+
+-- how many bytes stand before the end of so many at a place of the line, where it has as many, and else before its own end
+abbrev pub end_in : ℕ → ℕ → List ℕ → ℕ
+end_in at size line = if nat_le size (length line - at) then at + size else length line
 
 -- what stands under bytes before the mark: a tab under a tab, and a blank under any other
 abbrev pub under : List ℕ → List ℕ

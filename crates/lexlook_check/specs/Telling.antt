@@ -1,37 +1,48 @@
 -- What is written of the files of a specification. (This project's.)
-use Rattle.std.specs.Prelude.{◌≡◌, ℕ, Bool, List, Result, Ok, Err}
+use Rattle.std.specs.Prelude.{◌≡◌, ℕ, Bool, List, flat_map, Result, Ok, Err}
 use Rattle.lex_io.specs.Sink.{Appended}
 use Rattle.lexspec_lines.specs.Lines.{without_returns}
 use Rattle.lexkit.specs.Failures.{out_of_memory}
 use Rattle.lexkit.specs.declared.failure.Failure.{Failure}
 use Rattle.lexkit.specs.declared.failure.Failure.TheVariants as failures
 use Rattle.lexkit.specs.declared.options.Options.{Options}
-use Rattle.lexlook_check.specs.CheckLines.{check_lines}
+use Rattle.lexlook_check.specs.CheckLines.{finding_lines}
 use Rattle.lexlook_check.specs.Checks.{IsChecked, is_well}
+use Rattle.lexlook_check.specs.Findings.{AreInOrder, findings_of}
+use Rattle.lexlook_check.specs.JsonLines.{finding_json}
 use Rattle.lexlook_check.specs.Places.{joined_text}
 use Rattle.lexlook_check.specs.declared.checking.Checked.{Checked}
 use Rattle.lexlook_check.specs.declared.error.CheckError.{CheckError}
 use Rattle.lexlook_check.specs.declared.error.CheckError.TheVariants.{OutOfMemory, Write}
+use Rattle.lexlook_check.specs.declared.findings.Finding.{Finding}
 use Rattle.lexlook_check.specs.declared.places.SourceFile.{SourceFile}
+use Rattle.lexlook_check.specs.declared.telling.Form.{Form}
+use Rattle.lexlook_check.specs.declared.telling.Form.TheVariants.{Json, Lines}
 
--- the lines of what was found were written: all of them at `Ok`, a front of them at `Err`
-pub record CheckTold {K : Type 0} (wrote : K → List ℕ → K → Type 0) (options : Options) (files : List SourceFile) (s t : K) (answer : Result Bool CheckError) : Type 0 where
-  pub checked : Checked
-  pub is_checked : IsChecked options (joined_text files) checked
-  pub written : Appended (λ xs. wrote s xs t) (check_lines files (without_returns (joined_text files)) checked) answer
+-- what was found of a text, as lines or as objects of JSON
+abbrev pub told_bytes : Form → List SourceFile → List ℕ → List Finding → List ℕ
+told_bytes Lines files text findings = flat_map (finding_lines files text) findings
+told_bytes Json files text findings = flat_map (finding_json files text) findings
 
--- of files these lines are to be written, and nothing is wrong or something is
-pub record IsTellingOf (options : Options) (files : List SourceFile) (lines : List ℕ) (well : Bool) : Type 0 where
-  pub checked : Checked
+-- of files these bytes are to be written: all that was found, in order of place
+pub record IsTellingOf (options : Options) (form : Form) (files : List SourceFile) (bytes : List ℕ) (checked : Checked) : Type 0 where
   pub is_checked : IsChecked options (joined_text files) checked
-  pub lines_are : lines ≡ check_lines files (without_returns (joined_text files)) checked
-  pub well_is : well ≡ is_well checked
+  pub told : List Finding
+  pub in_order : AreInOrder (findings_of checked) told
+  pub bytes_are : bytes ≡ told_bytes form files (without_returns (joined_text files)) told
+
+-- what was found was written: all of it at `Ok`, a front of it at `Err`
+pub record CheckTold {K : Type 0} (wrote : K → List ℕ → K → Type 0) (options : Options) (form : Form) (files : List SourceFile) (s t : K) (answer : Result Bool CheckError) : Type 0 where
+  pub checked : Checked
+  pub bytes : List ℕ
+  pub telling : IsTellingOf options form files bytes checked
+  pub written : Appended (λ xs. wrote s xs t) bytes answer
 
 -- What was told of files: the answer says whether nothing is wrong. Where memory runs out the sink is as it was.
-abbrev pub TellsCheck : {K : Type 0} → (K → List ℕ → K → Type 0) → Options → List SourceFile → K → K → Result Bool CheckError → Type 0
-TellsCheck wrote options files s t (Ok well) = (x : CheckTold wrote options files s t (Ok well)) × (well ≡ is_well x.checked)
-TellsCheck wrote options files s t (Err Write) = CheckTold wrote options files s t (Err Write)
-TellsCheck wrote options files s t (Err OutOfMemory) = t ≡ s
+abbrev pub TellsCheck : {K : Type 0} → (K → List ℕ → K → Type 0) → Options → Form → List SourceFile → K → K → Result Bool CheckError → Type 0
+TellsCheck wrote options form files s t (Ok well) = (x : CheckTold wrote options form files s t (Ok well)) × (well ≡ is_well x.checked)
+TellsCheck wrote options form files s t (Err Write) = CheckTold wrote options form files s t (Err Write)
+TellsCheck wrote options form files s t (Err OutOfMemory) = t ≡ s
 
 -- 1 where the answer is a write fault
 abbrev pub check_fault_count : Result Bool CheckError → ℕ

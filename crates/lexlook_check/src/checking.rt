@@ -6,6 +6,7 @@ ghost use Rattle.lexlook_check.specs.Checks.{IsChecked, is_well};
 ghost use Rattle.lexlook_check.specs.Finding.{AreFaultsOf, ReadsSpec, max_faults};
 
 use crate::finding::{Found, find_faults};
+use crate::notices::{Notice, notices_of};
 use crate::reader::LexReader;
 use lexauto::BuildError;
 use lexauto_reports::Warning;
@@ -22,6 +23,8 @@ pub struct Checked {
     pub limit: Option<BuildError>,
     /// The warnings of what is left, where there is neither a hundredth fault nor a limit.
     pub warnings: Vec<Warning>,
+    /// What is warned of beside them there, in definitions first and then in rules: the first 100.
+    pub notices: Vec<Notice>,
 }
 
 impl Checked {
@@ -47,16 +50,27 @@ fn check_left(
     ensures { IfOk result (IsChecked options text.now) }
 {
     match generate_tables(alloc, left, options) {
-        Ok(Made { warnings, .. }) => Ok(Checked {
-            faults,
-            limit: None,
-            warnings,
-        }),
+        Ok(
+            Made {
+                rule_lines,
+                warnings,
+                ..
+            },
+        ) => {
+            let notices = notices_of(alloc, rule_lines.as_slice(), left)?;
+            Ok(Checked {
+                faults,
+                limit: None,
+                warnings,
+                notices,
+            })
+        }
         Err(GenError::Build(BuildError::OutOfMemory)) => Err(AllocError),
         Err(GenError::Build(limit)) => Ok(Checked {
             faults,
             limit: Some(limit),
             warnings: Vec::new(alloc),
+            notices: Vec::new(alloc),
         }),
         Err(GenError::Spec(_)) | Err(GenError::OutOfMemory) => Err(AllocError),
     }
@@ -83,6 +97,7 @@ pub fn check(alloc: Global, text: &[u8], options: Options) -> Result<Checked, Al
             faults,
             limit: None,
             warnings: Vec::new(alloc),
+            notices: Vec::new(alloc),
         }),
     }
 }

@@ -1,7 +1,8 @@
 //! What is expected where a fault is.
 ghost use Rattle.std.specs.Prelude.{◌≡◌, ◌++◌, OnOk};
-ghost use Rattle.lexlook_check.specs.Hints.{action_hint, definition_hint, hint_words, pattern_hint, rule_hint};
+ghost use Rattle.lexlook_check.specs.Hints.{action_hint, definition_hint, hint_words, notice_hint, pattern_hint, rule_hint};
 
+use crate::notices::NoticeKind;
 use crate::source::add_under;
 use itoa::Buffer;
 use lexlook_specs::add;
@@ -96,7 +97,7 @@ fn rule_hint(kind: SpecErrorKind) -> &'static str
 }
 
 /// What is expected of the definitions section, and of a file.
-fn definition_hint(kind: SpecErrorKind) -> &'static str
+pub(crate) fn definition_hint(kind: SpecErrorKind) -> &'static str
     ensures { result.now ≡ definition_hint kind }
 {
     match kind {
@@ -117,18 +118,28 @@ fn definition_hint(kind: SpecErrorKind) -> &'static str
     }
 }
 
-/// Appends the line of what is expected, below a line with this number.
-pub(crate) fn add_hint(
-    text: &mut Vec<u8>,
-    number: u32,
-    kind: SpecErrorKind,
-) -> Result<(), AllocError>
-    ensures { OnOk result (text.new.items ≡ text.old.items ++ hint_words number kind) }
+/// What is to be known where this is warned of.
+pub(crate) fn notice_hint(kind: NoticeKind) -> &'static str
+    ensures { result.now ≡ notice_hint kind }
+{
+    match kind {
+        NoticeKind::LettersAsBytes => {
+            "a class has bytes, and a letter beyond ASCII is several of them: `lexlook utf8` and share/utf8.l have patterns of letters"
+        }
+        NoticeKind::LetterAlone => {
+            "`\\d`, `\\s` and `\\w` are the letters themselves, and so are `\\D`, `\\S` and `\\W`: [0-9], [ \\t\\n] and [A-Za-z0-9_] are classes"
+        }
+    }
+}
+
+/// Appends the line of a hint, below a line with this number.
+pub(crate) fn add_hint(text: &mut Vec<u8>, number: u32, hint: &str) -> Result<(), AllocError>
+    ensures { OnOk result (text.new.items ≡ text.old.items ++ hint_words number hint.now) }
 {
     let mut digits = Buffer::new();
     add(text, b"    ")?;
     add_under(text, digits.format(number).as_bytes())?;
     add(text, b" = ")?;
-    add(text, definition_hint(kind).as_bytes())?;
+    add(text, hint.as_bytes())?;
     add(text, b"\n")
 }

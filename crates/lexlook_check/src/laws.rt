@@ -1,6 +1,7 @@
 //! What is told of a specification; worked examples.
 ghost use Rattle.lexlook_check.specs.Checks.{NothingToldJustOf};
 ghost use Rattle.lexlook_check.specs.LeavingExamples.{LeavingExamples};
+ghost use Rattle.lexlook_check.specs.NoticeExamples.{NoticeExamples};
 
 use lexspec::one_specification;
 
@@ -14,4 +15,9 @@ pub fn nothing_told()
 /// Texts without a rule, worked by hand.
 pub fn examples_of_leaving()
     ensures { LeavingExamples }
+{}
+
+/// Pieces of patterns and what is warned of, worked by hand.
+pub fn examples_of_notices()
+    ensures { NoticeExamples }
 {}

@@ -4,11 +4,16 @@
 //! - `reader`: a reader of specifications, known by what it answers of a text. That of lex is one.
 //! - `leaving`: the text in which the lines of a rule are empty.
 //! - `finding`: the faults that a reader answers of a text, each behind that of the text without the rules before.
+//! - `pieces`: classes, texts in quotes and other pieces of a pattern, as they stand.
+//! - `definitions`: the lines of a text, and which of them are definitions.
+//! - `notices`: what is warned of in patterns, beside what lex warns of.
 //! - `checking`: the faults, the limit that the automaton of what is left passes, and the warnings: `check`.
 //! - `places`: the files, as one text, and in which of them a line stands.
 //! - `source`: the line of a fault as it stands, with a mark under its place.
 //! - `hints`: what is expected where a fault is.
+//! - `findings`: what is told of a text, in order of place.
 //! - `lines`: the lines of what was found.
+//! - `json`: the same as objects of JSON.
 //! - `telling`: what is written of files, `tell_check`.
 //! - `laws`: nothing is told just of a specification within the limits; worked examples.
 //!
@@ -29,12 +34,17 @@
 #![tactic(auto)]
 
 mod checking;
+mod definitions;
 mod error;
 mod finding;
+mod findings;
 mod hints;
+mod json;
 mod laws;
 mod leaving;
 mod lines;
+mod notices;
+mod pieces;
 mod places;
 mod reader;
 mod source;
@@ -43,6 +53,7 @@ mod telling;
 pub use checking::{Checked, check};
 pub use error::CheckError;
 pub use finding::MAX_FAULTS;
-pub use laws::{examples_of_leaving, nothing_told};
+pub use laws::{examples_of_leaving, examples_of_notices, nothing_told};
+pub use notices::{Notice, NoticeKind};
 pub use places::SourceFile;
-pub use telling::tell_check;
+pub use telling::{Form, tell_check};

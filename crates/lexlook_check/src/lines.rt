@@ -1,18 +1,17 @@
 //! The lines of what was found.
-ghost use Rattle.std.specs.Prelude.{◌≡◌, ◌++◌, ◌<◌, ◌-◌, ◌^◌, IfOk, IfSome, OnOk, flat_map};
+ghost use Rattle.std.specs.Prelude.{◌≡◌, ◌++◌, ◌<◌, ◌-◌, ◌^◌, IfOk, IfSome, OnOk, flat_map, option_map};
 ghost use Rattle.lexauto_reports.specs.ReportLines.{warning_words};
 ghost use Rattle.lexkit.specs.Faults.{build_words};
-ghost use Rattle.lexlook_check.specs.CheckLines.{check_lines, column_words, fault_lines, file_line_words, limit_line, warning_at};
+ghost use Rattle.lexlook_check.specs.CheckLines.{column_words, detail_words, file_line_words, finding_lines, head_words, hint_of, notice_words, severity_words, shown_line, what_words};
 
-use crate::checking::Checked;
-use crate::hints::add_hint;
+use crate::findings::{Finding, What};
+use crate::hints::{add_hint, definition_hint, notice_hint};
+use crate::notices::NoticeKind;
 use crate::places::{SourceFile, line_place};
-use crate::source::{add_source, fault_offset, text_line};
+use crate::source::{add_source, place_in, text_line};
 use itoa::Buffer;
 use lexauto::BuildError;
-use lexauto_reports::Warning;
 use lexlook_specs::{add, add_number};
-use lexspec::SpecError;
 use std::alloc::{AllocError, Global};
 
 /// Appends the file in which a line stands, and its number there. Line 0 is the whole of the first file.
@@ -28,7 +27,7 @@ fn add_place(text: &mut Vec<u8>, files: &[SourceFile<'_>], line: u32) -> Result<
     add_number(text, place.line)
 }
 
-/// Appends the column of a fault, from 1, where it has one.
+/// Appends the column of a place, from 1, where one is told.
 fn add_column(text: &mut Vec<u8>, offset: Option<usize>) -> Result<(), AllocError>
     requires { IfSome offset (λ at. at < 2 ^ 64 - 1) }
     ensures { OnOk result (text.new.items ≡ text.old.items ++ column_words offset) }
@@ -43,43 +42,6 @@ fn add_column(text: &mut Vec<u8>, offset: Option<usize>) -> Result<(), AllocErro
     }
 }
 
-/// Appends the lines of a fault of a text.
-fn add_fault(
-    text: &mut Vec<u8>,
-    files: &[SourceFile<'_>],
-    whole: &[u8],
-    fault: SpecError,
-) -> Result<(), AllocError>
-    ensures { OnOk result (text.new.items ≡ text.old.items ++ fault_lines files.now whole.now fault) }
-{
-    let line = text_line(whole, fault.line);
-    let offset = fault_offset(fault.kind, line);
-    let number = line_place(files, fault.line).line;
-    add_place(text, files, fault.line)?;
-    add_column(text, offset)?;
-    add(text, b": error: ")?;
-    add(text, fault.kind.name().as_bytes())?;
-    add(text, b"\n")?;
-    add_source(text, number, line, offset)?;
-    add_hint(text, number, fault.kind)
-}
-
-/// Appends the lines of faults of a text.
-fn add_faults(
-    text: &mut Vec<u8>,
-    files: &[SourceFile<'_>],
-    whole: &[u8],
-    faults: &[SpecError],
-) -> Result<(), AllocError>
-    ensures { OnOk result (text.new.items
-        ≡ text.old.items ++ flat_map (fault_lines files.now whole.now) faults.now) }
-{
-    for fault in faults {
-        add_fault(text, files, whole, *fault)?;
-    }
-    Ok(())
-}
-
 /// What a limit is called.
 fn limit_text(limit: BuildError) -> &'static str
     ensures { result.now ≡ build_words limit }
@@ -91,26 +53,7 @@ fn limit_text(limit: BuildError) -> &'static str
     }
 }
 
-/// Appends the line of a limit, where one is passed.
-fn add_limit(
-    text: &mut Vec<u8>,
-    files: &[SourceFile<'_>],
-    limit: Option<BuildError>,
-) -> Result<(), AllocError>
-    ensures { OnOk result (text.new.items ≡ text.old.items ++ limit_line files.now limit) }
-{
-    match limit {
-        None => add(text, b""),
-        Some(limit) => {
-            add_place(text, files, 0)?;
-            add(text, b": error: ")?;
-            add(text, limit_text(limit).as_bytes())?;
-            add(text, b"\n")
-        }
-    }
-}
-
-/// What a warning says.
+/// What a warning of lex says.
 fn warning_text(code: bool) -> &'static str
     ensures { result.now ≡ warning_words code }
 {
@@ -121,46 +64,126 @@ fn warning_text(code: bool) -> &'static str
     }
 }
 
-/// Appends the line of a warning.
-fn add_warning(
+/// What is said of what is warned of beside these.
+fn notice_text(kind: NoticeKind) -> &'static str
+    ensures { result.now ≡ notice_words kind }
+{
+    match kind {
+        NoticeKind::LettersAsBytes => "letters of a class as bytes",
+        NoticeKind::LetterAlone => "letter behind a backslash",
+    }
+}
+
+/// Whether it is an error or a warning.
+pub(crate) fn severity_text(what: What) -> &'static str
+    ensures { result.now ≡ severity_words what }
+{
+    match what {
+        What::Fault(_) | What::Limit(_) => "error",
+        What::Warned(_) | What::Noticed(_) => "warning",
+    }
+}
+
+/// What it is called.
+pub(crate) fn what_text(what: What) -> &'static str
+    ensures { result.now ≡ what_words what }
+{
+    match what {
+        What::Fault(kind) => kind.name(),
+        What::Limit(limit) => limit_text(limit),
+        What::Warned(code) => warning_text(code),
+        What::Noticed(kind) => notice_text(kind),
+    }
+}
+
+/// What is expected there, or to be known.
+pub(crate) fn hint_of(what: What) -> Option<&'static str>
+    ensures { option_map (λ hint. hint.now) result ≡ hint_of what }
+{
+    match what {
+        What::Fault(kind) => Some(definition_hint(kind)),
+        What::Limit(_) | What::Warned(_) => None,
+        What::Noticed(kind) => Some(notice_hint(kind)),
+    }
+}
+
+/// Appends what stands below: where something is expected, the line with this number as it stands, and that.
+fn add_details(
+    text: &mut Vec<u8>,
+    number: u32,
+    line: &[u8],
+    offset: Option<usize>,
+    hint: Option<&str>,
+) -> Result<(), AllocError>
+    ensures { OnOk result (text.new.items
+        ≡ text.old.items ++ detail_words number line.now offset (option_map (λ hint. hint.now) hint.entry)) }
+{
+    match hint {
+        None => add(text, b""),
+        Some(hint) => {
+            add_source(text, number, line, offset)?;
+            add_hint(text, number, hint)
+        }
+    }
+}
+
+/// Appends the first line of what was found.
+fn add_head(
     text: &mut Vec<u8>,
     files: &[SourceFile<'_>],
-    warning: Warning,
+    finding: Finding,
+    offset: Option<usize>,
 ) -> Result<(), AllocError>
-    ensures { OnOk result (text.new.items ≡ text.old.items ++ warning_at files.now warning) }
+    requires { IfSome offset (λ at. at < 2 ^ 64 - 1) }
+    ensures { OnOk result (text.new.items ≡ text.old.items ++ head_words files.now finding offset) }
 {
-    add_place(text, files, warning.line)?;
-    add(text, b": warning: ")?;
-    add(text, warning_text(warning.code).as_bytes())?;
+    add_place(text, files, finding.line)?;
+    add_column(text, offset)?;
+    add(text, b": ")?;
+    add(text, severity_text(finding.what).as_bytes())?;
+    add(text, b": ")?;
+    add(text, what_text(finding.what).as_bytes())?;
     add(text, b"\n")
 }
 
-/// Appends the lines of warnings.
-fn add_warnings(
-    text: &mut Vec<u8>,
-    files: &[SourceFile<'_>],
-    warnings: &[Warning],
-) -> Result<(), AllocError>
-    ensures { OnOk result (text.new.items ≡ text.old.items ++ flat_map (warning_at files.now) warnings.now) }
+/// The line of what was found, where it is shown.
+pub(crate) fn shown_line(text: &[u8], finding: Finding) -> &[u8]
+    ensures { result.now ≡ shown_line text.now finding }
 {
-    for warning in warnings {
-        add_warning(text, files, *warning)?;
+    if hint_of(finding.what).is_none() {
+        return b"";
     }
-    Ok(())
+    text_line(text, finding.line)
 }
 
-/// The lines of what was found of a text: the faults, the limit, and the warnings.
-pub(crate) fn check_lines(
+/// Appends the lines of what was found of a text.
+fn add_finding(
+    text: &mut Vec<u8>,
+    files: &[SourceFile<'_>],
+    whole: &[u8],
+    finding: Finding,
+) -> Result<(), AllocError>
+    ensures { OnOk result (text.new.items ≡ text.old.items ++ finding_lines files.now whole.now finding) }
+{
+    let line = shown_line(whole, finding);
+    let offset = place_in(finding.at, line);
+    let number = line_place(files, finding.line).line;
+    add_head(text, files, finding, offset)?;
+    add_details(text, number, line, offset, hint_of(finding.what))
+}
+
+/// The lines of all that was found of a text.
+pub(crate) fn told_lines(
     alloc: Global,
     files: &[SourceFile<'_>],
     whole: &[u8],
-    checked: &Checked,
+    findings: &[Finding],
 ) -> Result<Vec<u8>, AllocError>
-    ensures { IfOk result (λ text. text.items ≡ check_lines files.now whole.now checked.now) }
+    ensures { IfOk result (λ text. text.items ≡ flat_map (finding_lines files.now whole.now) findings.now) }
 {
     let mut text = Vec::new(alloc);
-    add_faults(&mut text, files, whole, checked.faults.as_slice())?;
-    add_limit(&mut text, files, checked.limit)?;
-    add_warnings(&mut text, files, checked.warnings.as_slice())?;
+    for finding in findings {
+        add_finding(&mut text, files, whole, *finding)?;
+    }
     Ok(text)
 }

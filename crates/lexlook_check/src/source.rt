@@ -1,10 +1,9 @@
 //! The line of a fault as it stands in its file.
 ghost use Rattle.std.specs.Prelude.{◌≡◌, ◌≤◌, ◌++◌, IfSome, OnOk, length};
-ghost use Rattle.lexlook_check.specs.SourceLines.{fault_offset, mark_words, source_words, text_line, under};
+ghost use Rattle.lexlook_check.specs.SourceLines.{mark_words, offset_in, place_in, source_words, text_line, under};
 
 use itoa::Buffer;
 use lexlook_specs::add;
-use lexspec::SpecErrorKind;
 use lexspec_lines::split_line;
 use std::alloc::AllocError;
 
@@ -26,20 +25,22 @@ pub(crate) fn text_line(text: &[u8], line: u32) -> &[u8]
     rest
 }
 
-/// How many bytes of the line stand before the fault of a pattern.
-pub(crate) fn fault_offset(kind: SpecErrorKind, line: &[u8]) -> Option<usize>
-    ensures is { result ≡ fault_offset kind line.now }
+/// How many bytes of the line stand before a place, where it has as many.
+pub(crate) fn offset_in(at: usize, line: &[u8]) -> Option<usize>
+    ensures is { result ≡ offset_in at line.now }
     ensures within { IfSome result (λ at. at ≤ length line.now) }
 {
-    match kind {
-        SpecErrorKind::Pattern(error) => {
-            if error.at <= line.len() {
-                Some(error.at)
-            } else {
-                None
-            }
-        }
-        _ => None,
+    if at <= line.len() { Some(at) } else { None }
+}
+
+/// The same of a place that may not be told.
+pub(crate) fn place_in(at: Option<usize>, line: &[u8]) -> Option<usize>
+    ensures is { result ≡ place_in at line.now }
+    ensures within { IfSome result (λ at. at ≤ length line.now) }
+{
+    match at {
+        None => None,
+        Some(at) => offset_in(at, line),
     }
 }
 

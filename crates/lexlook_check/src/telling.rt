@@ -1,23 +1,50 @@
 //! What is written of the files of a specification.
 ghost use Rattle.std.specs.Prelude.{◌≡◌, ◌≤◌, ◌<◌, ◌+◌, ◌-◌, ◌^◌, IfOk};
 ghost use Rattle.lex_semantics.specs.Limits.{max_positions, max_states};
-ghost use Rattle.lexlook_check.specs.Telling.{IsTellingOf, TellsCheck, check_fault_count};
+ghost use Rattle.lexlook_check.specs.Telling.{IsTellingOf, TellsCheck, check_fault_count, told_bytes};
 
-use crate::checking::check;
+use crate::checking::{Checked, check};
 use crate::error::CheckError;
-use crate::lines::check_lines;
+use crate::findings::{Finding, findings_in_order};
+use crate::json::told_json;
+use crate::lines::told_lines;
 use crate::places::{SourceFile, joined_text};
 use lexkit::{Options, Sink};
 use lexspec_lines::without_returns;
 use std::alloc::{AllocError, Global};
 
+/// How what was found is told.
+#[derive(Clone, Copy, Debug, PartialEq, Eq)]
+pub enum Form {
+    /// By lines to read.
+    Lines,
+    /// By an object of JSON a line.
+    Json,
+}
+
 /// What is to be written of files.
 #[derive(Drop)]
 struct Telling {
-    /// The lines.
-    lines: Vec<u8>,
-    /// Whether nothing is wrong.
-    well: bool,
+    /// The bytes.
+    bytes: Vec<u8>,
+    /// What was found.
+    checked: Checked,
+}
+
+/// What was found of a text, in this form.
+fn told_bytes(
+    alloc: Global,
+    form: Form,
+    files: &[SourceFile<'_>],
+    whole: &[u8],
+    findings: &[Finding],
+) -> Result<Vec<u8>, AllocError>
+    ensures { IfOk result (λ bytes. bytes.items ≡ told_bytes form files.now whole.now findings.now) }
+{
+    match form {
+        Form::Lines => told_lines(alloc, files, whole, findings),
+        Form::Json => told_json(alloc, files, whole, findings),
+    }
 }
 
 /// What is to be written of what is found of the text that the files are together.
@@ -25,42 +52,42 @@ fn telling_of(
     alloc: Global,
     files: &[SourceFile<'_>],
     options: Options,
+    form: Form,
 ) -> Result<Telling, AllocError>
     requires few_positions { options.limits.positions ≤ max_positions }
     requires few_states { options.limits.states ≤ max_states }
-    ensures { IfOk result (λ t. IsTellingOf options files.now t.lines.items t.well) }
+    ensures { IfOk result (λ t. IsTellingOf options form files.now t.bytes.items t.checked) }
 {
     let text = joined_text(alloc, files)?;
     let checked = check(alloc, text.as_slice(), options)?;
+    let findings = findings_in_order(alloc, &checked)?;
     let whole = without_returns(alloc, text.as_slice())?;
-    let lines = check_lines(alloc, files, whole.as_slice(), &checked)?;
-    Ok(Telling {
-        lines,
-        well: checked.is_well(),
-    })
+    let bytes = told_bytes(alloc, form, files, whole.as_slice(), findings.as_slice())?;
+    Ok(Telling { bytes, checked })
 }
 
-/// Writes every fault of the specification that the files are together, up to 100, and what is warned of. Each is told
-/// with its file and the line there, a fault also with the line as it stands, its column where lex tells one, and what
-/// is expected. It answers whether no fault was found. Want of memory leaves the sink as it was.
+/// Writes every fault of the specification that the files are together, up to 100, and what is warned of, in order of
+/// place. Each is told with its file and the line there, the column where one is told, the line as it stands, and what is
+/// expected. It answers whether no fault was found. Want of memory leaves the sink as it was.
 pub fn tell_check<K: Sink>(
     alloc: Global,
     files: &[SourceFile<'_>],
     options: Options,
+    form: Form,
     sink: &mut K,
 ) -> Result<bool, CheckError>
     requires few_positions { options.limits.positions ≤ max_positions }
     requires few_states { options.limits.states ≤ max_states }
     requires few { K.failures sink.old < 2 ^ 64 - 1 }
-    ensures told { TellsCheck K.wrote options files.now sink.old sink.new result }
+    ensures told { TellsCheck K.wrote options form files.now sink.old sink.new result }
     ensures failures { K.failures sink.new ≡ K.failures sink.old + check_fault_count result }
 {
-    let telling = match telling_of(alloc, files, options) {
+    let telling = match telling_of(alloc, files, options, form) {
         Err(_) => return Err(CheckError::OutOfMemory),
         Ok(telling) => telling,
     };
-    match sink.put(telling.lines.as_slice()) {
+    match sink.put(telling.bytes.as_slice()) {
         Err(_) => Err(CheckError::Write),
-        Ok(()) => Ok(telling.well),
+        Ok(()) => Ok(telling.checked.is_well()),
     }
 }

@@ -6,17 +6,19 @@ use Rattle.lexlook_check.proofs.telling.tell_check.Goals as goal
 pub returns-in-Err-put-clause-told : goal.returns-in-Err-put-clause-told
 returns-in-Err-put-clause-told g c =
     record {
-      checked = c.in-Ok.ensures.checked;
-      is_checked = c.in-Ok.ensures.is_checked;
-      written = subst (λ (bytes : List ℕ). Appended {T = Bool} (λ xs. g.K.Sink.wrote c.args.sink.now xs c.put.new.self) bytes (Err Write)) (c.as_slice.ensures.value ∙ c.in-Ok.ensures.lines_are) c.in-Err-put.ensures.bytes;
+      checked = c.in-Ok.telling.checked;
+      bytes = c.in-Ok.telling.bytes.items;
+      telling = c.in-Ok.ensures;
+      written = subst (λ (bytes : List ℕ). Appended {T = Bool} (λ xs. g.K.Sink.wrote c.args.sink.now xs c.put.new.self) bytes (Err Write)) c.as_slice.ensures.value c.in-Err-put.ensures.bytes;
     }
 
 pub returns-clause-told : goal.returns-clause-told
 returns-clause-told g c = (
   record {
-    checked = c.in-Ok.ensures.checked;
-    is_checked = c.in-Ok.ensures.is_checked;
-    written = subst (λ (bytes : List ℕ). g.K.Sink.wrote c.args.sink.now bytes c.put.new.self) (c.as_slice.ensures.value ∙ c.in-Ok.ensures.lines_are) c.in-Ok-put.ensures.bytes;
+    checked = c.in-Ok.telling.checked;
+    bytes = c.in-Ok.telling.bytes.items;
+    telling = c.in-Ok.ensures;
+    written = subst (λ (bytes : List ℕ). g.K.Sink.wrote c.args.sink.now bytes c.put.new.self) c.as_slice.ensures.value c.in-Ok-put.ensures.bytes;
   },
-  c.in-Ok.ensures.well_is,
+  c.is_well.ensures,
 )

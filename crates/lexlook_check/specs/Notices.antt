@@ -1,0 +1,53 @@
+-- What is warned of in patterns, beside what lex warns of. (This project's.)
+use Rattle.std.specs.Prelude.{ℕ, ◌-◌, ◌==◌, ◌&&◌, ◌||◌, Bool, true, false, not, nat_le, if◌then◌else◌, List, [], ◌∷◌, ◌++◌, flat_map, length, slice_get, Option, Some, None, codes}
+use Rattle.std.specs.List.{list_any}
+use Rattle.std.specs.Str.{is_utf8}
+use Rattle.lex_semantics.specs.Active.{contains}
+use Rattle.lex_semantics.specs.Reading.{after_blanks, begins, goes_on_name, take_run}
+use Rattle.lexlook_check.specs.DefinitionLines.{definition_lines, lines_from}
+use Rattle.lexlook_check.specs.Pieces.{pieces_from}
+use Rattle.lexlook_check.specs.declared.notices.Notice.{Notice}
+use Rattle.lexlook_check.specs.declared.notices.NoticeKind.{NoticeKind}
+use Rattle.lexlook_check.specs.declared.notices.NoticeKind.TheVariants.{LettersAsBytes, LetterAlone}
+
+-- so many are told of a text at most
+abbrev pub max_notices : ℕ
+max_notices = 100
+
+-- a class in which a letter beyond ASCII stands, by the bytes of its UTF-8
+abbrev pub has_letters : List ℕ → Bool
+has_letters piece = begins (codes "[") piece && is_utf8 piece && list_any (λ b. nat_le 128 b) piece
+
+-- a backslash before d, D, s, S, w or W, which stand for themselves; `escaped` where a backslash that counts stands before the text
+abbrev pub escapes_letter : Bool → List ℕ → Bool
+escapes_letter escaped [] = false
+escapes_letter escaped (c ∷ t) = (escaped && contains (codes "dDsSwW") c) || escapes_letter (not escaped && c == 92) t
+
+-- what is warned of in a piece
+abbrev pub notice_of : List ℕ → Option NoticeKind
+notice_of piece = if has_letters piece then Some LettersAsBytes else if escapes_letter false piece then Some LetterAlone else None
+
+-- of a piece at its place in a line
+abbrev pub piece_notices : ℕ → ℕ × List ℕ → List Notice
+piece_notices line p = elim (notice_of p.1) [ None ↦ [] | Some kind ↦ record { line = line; at = p.0; size = length p.1; kind = kind } ∷ [] ]
+
+-- of the pattern that begins the text, before which so many bytes of the line stand
+abbrev pub pattern_notices : ℕ → ℕ → List ℕ → List Notice
+pattern_notices line before text = flat_map (piece_notices line) (pieces_from before 0 text)
+
+-- of the definition whose line begins the text: its pattern stands behind its name and blanks
+abbrev pub definition_notices : ℕ × List ℕ → List Notice
+definition_notices l = let text = after_blanks (take_run goes_on_name l.1).1 in pattern_notices l.0 (length l.1 - length text) text
+
+-- of the rule that begins a line, where there is one
+abbrev pub line_notices : Option (ℕ × List ℕ) → List Notice
+line_notices None = []
+line_notices (Some l) = pattern_notices l.0 0 l.1
+
+-- of the rule at the line of this number, among all lines
+abbrev pub rule_notices : List (ℕ × List ℕ) → ℕ → List Notice
+rule_notices lines n = line_notices (slice_get lines (n - 1))
+
+-- of the definitions of a text, and then of its rules, which stand at these lines
+abbrev pub notices_of : List ℕ → List ℕ → List Notice
+notices_of rules text = flat_map definition_notices (definition_lines text) ++ flat_map (rule_notices (lines_from 1 true text)) rules
