@@ -3,7 +3,8 @@
 cites, and those that these are made of.
 
     scripts/gate/definitions.py             how many there are, by crate, and what is missing on the page
-    scripts/gate/definitions.py --status    the same, and a status of 1 where something is missing, or a name has two meanings
+    scripts/gate/definitions.py --status    the same, and a status of 1 where something is missing, a name has two meanings, or a line of
+                                            specs/ has more than 120 columns
     scripts/gate/definitions.py --write     the same, and the table at the end of the page is written
     scripts/gate/definitions.py NAME ..     the definitions that the contracts of these calls lead to, with their lines
     scripts/gate/definitions.py --std NAME .. the names from outside this project that those definitions are written with
@@ -30,7 +31,7 @@ OUTSIDE = re.compile(r"^\s*use (?!Rattle\.(?:lex|liblex))([\w.]+)\.\{([^}]*)\}$"
 # How many definitions and names from outside the page says that there are behind the headline.
 COUNTED = re.compile(r"(`scan_spec` leads to )[\d,]+( definitions, which are written with )[\d,]+( names)")
 DEFINITION = re.compile(r"(?:(?:abbrev|unfoldable|instance|pub|record|data) )+([^\s:]+)|(\S+) :")
-BLOCK = re.compile(r"(abbrev |unfoldable )*mutual$|module .* where$")
+BLOCK = re.compile(r"(abbrev |unfoldable )*mutual$|module ")
 CONSTRUCTOR = re.compile(rf"  ({NAME}) :")
 FUNCTION = re.compile(r"\s*(pub(?:\(\w+\))? )?(?:const )?fn (\w+)")
 HOLDER = re.compile(r"(?:impl(?:<.*?>)? (.* for )?(?:\w+::)*|pub (?:trait|struct|enum) )(\w+)")
@@ -59,7 +60,8 @@ def imports(lines):
 def parse(text):
     """The definitions of a file of specs/, each with its lines, and the type that each constructor makes."""
     found, makers, name, level = {}, {}, None, 0
-    for line in text.split("\n"):
+    # the head of a module may stand on several lines
+    for line in re.sub(r"(?m)^( *module )([^-]*? where)$", lambda head: head[1] + " ".join(head[2].split()), text).split("\n"):
         if not line.strip() or re.match(r"\s*--|(pub )?use |(pub )?mod |infix", line):
             continue
         level = min(level, len(line) - len(line.lstrip()))
@@ -249,8 +251,21 @@ def homes(targets):
     return {name: modules for name, modules in found.items() if len(modules) > 1 and name != "◌>>=◌"}
 
 
+def wide():
+    """The lines of specs/ that have more than 120 columns, but for imports and for those that are little but a text in quotes."""
+    for crate in sorted(os.listdir(CRATES)):
+        folder = os.path.join(CRATES, crate, "specs")
+        for file in sorted(os.listdir(folder)) if os.path.isdir(folder) else []:
+            for number, line in enumerate(read(folder, file).split("\n"), 1):
+                bare = TEXT_OR_COMMENT.sub(lambda found: '""' if found[1] else found[0], line)
+                if len(line) > 120 and len(bare) > 40 and not line.startswith("use "):
+                    yield f"crates/{crate}/specs/{file}:{number}"
+
+
 def faults(specs, direct, whole):
-    """What the page lacks, what it has that is not so, and which names have two meanings."""
+    """What the page lacks, what it has that is not so, which names have two meanings, and which lines are too long."""
+    for place in wide():
+        yield f"more than 120 columns: {place}"
     for name, modules in homes(specs.closure(direct)).items():
         yield f"two meanings: {name} of {', '.join(modules)}"
     page = read(ROOT, "docs", "DEFINITIONS.md")
