@@ -4,8 +4,9 @@
     scripts/campaigns/faults.py LEX LEXLOOK [COUNT [SEED]]
 
 LEX and LEXLOOK are the built programs. COUNT changes are made, 1,000 without it, by the seed SEED, 1 without it. Where lex takes the
-specification, `lexlook check` has to tell no error, with status 0. Where lex refuses it, the first error that is told has lex's kind, line
-and offset, and the status is 1. No reason may be told twice of one line, and 100 faults are the most. A line tells each specification where
+specification, `lexlook check` has to tell no error, with status 0. Where lex refuses it, an error that is told has lex's kind, line and
+offset, and the status is 1. Errors have to stand in order of line and column. No reason may be told twice of one line, and 100 faults are
+the most. A line tells each specification where
 this is not so, which is kept in a folder, and then how many were refused and how many faults were told. The status is 1 where something differs."""
 import os
 import random
@@ -54,11 +55,14 @@ def wrong_with(lex, lexlook, name):
     checked = subprocess.run([lexlook, "check", name], capture_output=True)
     errors = [it for it in map(fault, checked.stdout.splitlines(keepends=True)) if it]
     places = [(line, kind) for line, _, kind in errors]
+    order = [(line, column) for line, column, _ in errors]
     wanted = refusal(made.stderr) if made.returncode == 65 else None
     if made.returncode not in (0, 65) or checked.stderr:
         return f"status {made.returncode}, {checked.stderr}", len(errors)
-    if checked.returncode != (1 if wanted else 0) or (errors[0] if errors else None) != wanted:
+    if checked.returncode != (1 if wanted else 0) or bool(errors) != bool(wanted) or (wanted and wanted not in errors):
         return f"lex tells {wanted}, status {checked.returncode}, first {errors[:1]}", len(errors)
+    if order != sorted(order):
+        return f"places {order}", len(errors)
     if len(set(places)) != len(places) or len(places) > 100:
         return f"{len(places)} faults, {len(set(places))} of them apart", len(errors)
     return None, len(errors)

@@ -47,10 +47,10 @@ asked_by words a m (Letters sets) is plain matches fault h = (
   ap (λ (b : App). fault_of b words) (sym is) ∙ fault,
   subst (λ (r : Option (Text × List Row)). IsLookOf r (Letters sets)) (rows_are words a m is matches) h,
 )
-asked_by words a m (Check files patterns) is plain matches fault h = (
+asked_by words a m (Check files json patterns) is plain matches fault h = (
   plain,
   ap (λ (b : App). fault_of b words) (sym is) ∙ fault,
-  subst (λ (r : Option (Text × List Row)). IsLookOf r (Check files patterns)) (rows_are words a m is matches) h,
+  subst (λ (r : Option (Text × List Row)). IsLookOf r (Check files json patterns)) (rows_are words a m is matches) h,
 )
 
 -- and what the words ask for is what the matches ask for
@@ -63,15 +63,15 @@ asks_by words a m (Same left right patterns) is plain matches h =
     subst (λ (r : Option (Text × List Row)). IsLookOf r (Same left right patterns)) (sym (rows_are words a m is matches)) h.2
 asks_by words a m (Letters sets) is plain matches h =
     subst (λ (r : Option (Text × List Row)). IsLookOf r (Letters sets)) (sym (rows_are words a m is matches)) h.2
-asks_by words a m (Check files patterns) is plain matches h =
-    subst (λ (r : Option (Text × List Row)). IsLookOf r (Check files patterns)) (sym (rows_are words a m is matches)) h.2
+asks_by words a m (Check files json patterns) is plain matches h =
+    subst (λ (r : Option (Text × List Row)). IsLookOf r (Check files json patterns)) (sym (rows_are words a m is matches)) h.2
 
 none_fault : (words : List Text) (a : App) (look : Look) → a ≡ lexlook_app → about_of words ≡ None → AsksToShow words look → fault_of a words ≡ []
 none_fault words a (OfItself what) is plain h = absurd (clash (about_of words) what h plain)
 none_fault words a (One what file patterns) is plain h = ap (λ (b : App). fault_of b words) is ∙ h.1
 none_fault words a (Same left right patterns) is plain h = ap (λ (b : App). fault_of b words) is ∙ h.1
 none_fault words a (Letters sets) is plain h = ap (λ (b : App). fault_of b words) is ∙ h.1
-none_fault words a (Check files patterns) is plain h = ap (λ (b : App). fault_of b words) is ∙ h.1
+none_fault words a (Check files json patterns) is plain h = ap (λ (b : App). fault_of b words) is ∙ h.1
 
 -- words that are refused as no line of the program's ask for nothing
 pub asks_for_none : (words : List Text) (a : App) (e : Error) (look : Look) → a ≡ lexlook_app → about_of words ≡ None → HasKind (fault_of a words) e

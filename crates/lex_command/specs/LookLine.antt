@@ -3,9 +3,9 @@ use Rattle.std.specs.Prelude.{◌≡◌, ◌||◌, if◌then◌else◌, true, Li
 use Rattle.std.specs.Str.{bytes_eq}
 use Rattle.clap.specs.Words.{App, Row, Rule, Text, all_of, fault_of, first_of, new_app, new_rule, subcommand_of, with_rule, with_subcommand}
 use Rattle.clap.specs.Simple.{on_top}
-use Rattle.clap.specs.declared.builder.action.ArgAction.TheVariants.{Set}
+use Rattle.clap.specs.declared.builder.action.ArgAction.TheVariants.{Count, Set}
 use Rattle.lex_command.specs.CommandLine.{files_of, words_rule}
-use Rattle.lex_command.specs.Flags.{is_separator, pattern_rules, patterns_of}
+use Rattle.lex_command.specs.Flags.{has_flag, is_separator, pattern_rules, patterns_of}
 use Rattle.lex_command.specs.declared.look.args.About.{About}
 use Rattle.lex_command.specs.declared.look.args.About.TheVariants.{Help, UnicodeVersion, Version}
 use Rattle.lex_command.specs.declared.look.args.Look.{Look}
@@ -41,9 +41,13 @@ sets_app = with_rule (without_help (new_app (codes "utf8"))) (words_rule (codes 
 abbrev pub needed_words_rule : Text → Rule
 needed_words_rule name = record (words_rule name) { required = true }
 
--- the files of `check`
-abbrev pub some_files : List Rule
-some_files = needed_words_rule (codes "file") ∷ []
+-- `--json`, which may be repeated
+abbrev pub json_rule : Rule
+json_rule = record (new_rule (codes "json")) { long = Some (codes "json"); action = Some Count }
+
+-- how the faults are told, and the files of `check`
+abbrev pub check_words : List Rule
+check_words = json_rule ∷ needed_words_rule (codes "file") ∷ []
 
 -- the words begin after the program's name, and name a subcommand; clap knows no help
 abbrev pub no_subcommand : App
@@ -60,7 +64,7 @@ lexlook_app = fold with_subcommand no_subcommand (
     ∷ (file_app (codes "words") one_file).top
     ∷ (file_app (codes "trace") one_file).top
     ∷ sets_app.top
-    ∷ (file_app (codes "check") some_files).top
+    ∷ (file_app (codes "check") check_words).top
     ∷ [])
 
 -- ---- what is asked for
@@ -99,8 +103,9 @@ IsLookOf (Some p) (Same left right patterns) = (p.0 ≡ codes "same")
     × (Some (string_bytes right) ≡ first_of (codes "right") p.1)
     × (patterns ≡ patterns_of p.1)
 IsLookOf (Some p) (Letters sets) = (p.0 ≡ codes "utf8") × (Some (map string_bytes sets.items) ≡ all_of (codes "set") p.1)
-IsLookOf (Some p) (Check files patterns) = (p.0 ≡ codes "check")
+IsLookOf (Some p) (Check files json patterns) = (p.0 ≡ codes "check")
     × (map string_bytes files.items ≡ files_of p.1)
+    × (json ≡ has_flag (codes "json") p.1)
     × (patterns ≡ patterns_of p.1)
 IsLookOf p look = ⊥
 

@@ -24,7 +24,7 @@ use lexkit::{
     ToWrite, command_words, read_spec_file, report_failure,
 };
 use lexlook_calls::{Given, draw, tell_lines, tell_same, tell_words, trace};
-use lexlook_check::tell_check;
+use lexlook_check::{Form, tell_check};
 use lexlook_unicode::{DefinitionError, UNICODE_VERSION, definition_of};
 use std::alloc::AllocError;
 use std::io;
@@ -155,14 +155,20 @@ fn show_letters(rt: &HostRuntime, sets: &[String]) -> Result<ExitCode, Failure> 
 }
 
 /// Writes to standard output every fault of the specification that the files are together.
-fn show_check(rt: &HostRuntime, names: &[String], options: Options) -> Result<ExitCode, Failure>
+fn show_check(
+    rt: &HostRuntime,
+    names: &[String],
+    json: bool,
+    options: Options,
+) -> Result<ExitCode, Failure>
     requires few_positions { options.limits.positions ≤ MAX_POSITIONS }
     requires few_states { options.limits.states ≤ MAX_STATES }
 {
     let texts = read_files(rt, names)?;
     let files = source_files(rt.alloc(), names, texts.as_slice())?;
     let mut sink = ToBytes::new(ByteWriter::new(rt.alloc(), io::writer(rt))?);
-    let well = tell_check(rt.alloc(), files.as_slice(), options, &mut sink)?;
+    let form = if json { Form::Json } else { Form::Lines };
+    let well = tell_check(rt.alloc(), files.as_slice(), options, form, &mut sink)?;
     sink.flush()?;
     Ok(status_of(well))
 }
@@ -209,7 +215,11 @@ fn run(rt: &HostRuntime) -> Result<ExitCode, Failure> {
             patterns,
         } => show_same(rt, left.as_str(), right.as_str(), options_of(patterns)),
         Look::Letters { sets } => show_letters(rt, sets.as_slice()),
-        Look::Check { files, patterns } => show_check(rt, files.as_slice(), options_of(patterns)),
+        Look::Check {
+            files,
+            json,
+            patterns,
+        } => show_check(rt, files.as_slice(), json, options_of(patterns)),
     }
 }
 

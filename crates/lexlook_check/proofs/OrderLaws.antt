@@ -5,11 +5,11 @@ use Rattle.std.specs.Ordering.{nat_cmp}
 use Rattle.std.specs.List.Sorted.{IsNonDecreasingBy, IsSortedByKey, IsStableByKey}
 use Rattle.std.proofs.lemmas.Bool.{cases_lt}
 use Rattle.std.proofs.lemmas.List.Sorted.{ties_still_rise}
-use Rattle.lexlook_check.specs.Findings.{MayPrecede}
+use Rattle.lexlook_check.specs.Findings.{IsNotBehind}
 use Rattle.lexlook_check.specs.declared.findings.Finding.{Finding}
 
 pub ordered : (xs ys : List Finding) → IsNonDecreasingBy (λ f. f.line) ys → IsSortedByKey (λ f. unwrap_or f.at 0) nat_cmp xs → IsStableByKey (λ f. f.line) nat_cmp xs ys
-    → (k : ℕ) (d : Finding) → k + 1 < length ys → MayPrecede (get_or ys k d) (get_or ys (k + 1) d)
+    → (k : ℕ) (d : Finding) → k + 1 < length ys → IsNotBehind (get_or ys k d) (get_or ys (k + 1) d)
 ordered xs ys rise first stable k d within = elim (cases_lt (get_or ys k d).line (get_or ys (k + 1) d).line) [
   | inl y ↦ inl y
   | inr n ↦

@@ -38,11 +38,11 @@ abbrev pub findings_of : Checked → List Finding
 findings_of c =
     map fault_finding c.faults.items ++ limit_findings c.limit ++ map warning_finding c.warnings.items ++ map notice_finding c.notices.items
 
--- an earlier line comes first, and in one line an earlier place; where no place is told it is the first of the line
-abbrev pub MayPrecede : Finding → Finding → Type 0
-MayPrecede f g = (f.line < g.line) ⊎ ((f.line ≡ g.line) × (unwrap_or f.at 0 ≤ unwrap_or g.at 0))
+-- it has an earlier line, or the same and no later place; where no place is told it is the first of the line
+abbrev pub IsNotBehind : Finding → Finding → Type 0
+IsNotBehind f g = (f.line < g.line) ⊎ ((f.line ≡ g.line) × (unwrap_or f.at 0 ≤ unwrap_or g.at 0))
 
 -- what was found, in order of place
 pub record AreInOrder (found told : List Finding) : Type 0 where
   pub same : IsPermutation found told
-  pub ordered : (k : ℕ) (d : Finding) → k + 1 < length told → MayPrecede (slice_index_or told k d) (slice_index_or told (k + 1) d)
+  pub ordered : (k : ℕ) (d : Finding) → k + 1 < length told → IsNotBehind (slice_index_or told k d) (slice_index_or told (k + 1) d)

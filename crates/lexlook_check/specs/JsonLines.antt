@@ -6,7 +6,7 @@ use Rattle.lexre_bytes.specs.RefusalNames.{kind_name}
 use Rattle.lexkit.specs.Faults.{build_words}
 use Rattle.lexlook_check.specs.CheckLines.{hint_of, severity_words, shown_line, what_words}
 use Rattle.lexlook_check.specs.Places.{line_place}
-use Rattle.lexlook_check.specs.SourceLines.{end_in, place_in}
+use Rattle.lexlook_check.specs.SourceLines.{end_of_span, place_in}
 use Rattle.lexlook_check.specs.declared.findings.Finding.{Finding}
 use Rattle.lexlook_check.specs.declared.findings.What.{What}
 use Rattle.lexlook_check.specs.declared.findings.What.TheVariants.{Fault, Limit, Noticed, Warned}
@@ -47,8 +47,8 @@ what_name (Noticed LettersAsBytes) = codes "LettersAsBytes"
 what_name (Noticed LetterAlone) = codes "LetterAlone"
 
 -- the line of a place is told but for the whole
-abbrev pub told_line : ℕ → Option ℕ
-told_line n = if n == 0 then None else Some n
+abbrev pub known_line : ℕ → Option ℕ
+known_line n = if n == 0 then None else Some n
 
 -- The fields of a place in this line: the file and the line there, the column from 1, and the one behind the last.
 abbrev pub place_fields : List SourceFile → List ℕ → Finding → List ℕ
@@ -56,9 +56,9 @@ place_fields files line f =
     let place = line_place files f.line in
     let at = place_in f.at line in
     concat (string_field (codes "{\"file\":") place.0
-    ∷ number_field (codes ",\"line\":") (told_line place.1)
+    ∷ number_field (codes ",\"line\":") (known_line place.1)
     ∷ number_field (codes ",\"column\":") (option_map (λ n. n + 1) at)
-    ∷ number_field (codes ",\"end_column\":") (option_map (λ n. end_in n f.size line + 1) at) ∷ [])
+    ∷ number_field (codes ",\"end_column\":") (option_map (λ n. end_of_span n f.size line + 1) at) ∷ [])
 
 -- the fields of what is expected in this line, where something is
 abbrev pub hint_fields : List ℕ → Option (List ℕ) → List ℕ

@@ -18,8 +18,8 @@ place_in None line = None
 place_in (Some at) line = offset_in at line
 
 -- how many bytes stand before the end of so many at a place of the line, where it has as many, and else before its own end
-abbrev pub end_in : ℕ → ℕ → List ℕ → ℕ
-end_in at size line = if nat_le size (length line - at) then at + size else length line
+abbrev pub end_of_span : ℕ → ℕ → List ℕ → ℕ
+end_of_span at size line = if nat_le size (length line - at) then at + size else length line
 
 -- what stands under bytes before the mark: a tab under a tab, and a blank under any other
 abbrev pub under : List ℕ → List ℕ

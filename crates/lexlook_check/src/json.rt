@@ -1,7 +1,7 @@
 //! What was found as JSON, an object a line.
 ghost use Rattle.std.specs.Prelude.{◌≡◌, ◌++◌, ◌+◌, ◌-◌, ◌<◌, ◌≤◌, ◌^◌, IfOk, IfSome, OnOk, flat_map, length, option_map};
-ghost use Rattle.lexlook_check.specs.JsonLines.{finding_json, hint_fields, json_string, number_field, place_fields, string_byte, string_field, told_line, what_fields, what_name};
-ghost use Rattle.lexlook_check.specs.SourceLines.{end_in};
+ghost use Rattle.lexlook_check.specs.JsonLines.{finding_json, hint_fields, json_string, number_field, place_fields, string_byte, string_field, known_line, what_fields, what_name};
+ghost use Rattle.lexlook_check.specs.SourceLines.{end_of_span};
 
 use crate::findings::{Finding, What};
 use crate::lines::{hint_of, severity_text, shown_line, what_text};
@@ -78,8 +78,8 @@ fn what_name(what: What) -> &'static str
 }
 
 /// The number of a line, but for line 0, which is the whole.
-fn told_line(line: u32) -> Option<usize>
-    ensures { result ≡ told_line line }
+fn known_line(line: u32) -> Option<usize>
+    ensures { result ≡ known_line line }
 {
     if line == 0 { None } else { Some(line as usize) }
 }
@@ -96,7 +96,7 @@ fn column_of(at: Option<usize>) -> Option<usize>
 /// The column behind so many bytes at a place of the line.
 fn end_column_of(at: Option<usize>, size: usize, line: &[u8]) -> Option<usize>
     requires { IfSome at (λ n. n ≤ length line.now) }
-    ensures { result ≡ option_map (λ n. end_in n size line.now + 1) at }
+    ensures { result ≡ option_map (λ n. end_of_span n size line.now + 1) at }
 {
     let at = at?;
     let end = if size <= line.len() - at {
@@ -119,7 +119,7 @@ fn add_place_fields(
     let place = line_place(files, finding.line);
     let at = place_in(finding.at, line);
     add_string_field(text, "{\"file\":", place.name.as_bytes())?;
-    add_number_field(text, ",\"line\":", told_line(place.line))?;
+    add_number_field(text, ",\"line\":", known_line(place.line))?;
     add_number_field(text, ",\"column\":", column_of(at))?;
     add_number_field(
         text,

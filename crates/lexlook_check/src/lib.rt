@@ -30,6 +30,9 @@
 //! - **Where nothing can be left out, the fault is the last**: that of a text without `%%`, and of one that is too long.
 //! - **A column is told of patterns alone**, since lexspec tells no other. It counts bytes, and a mark stands under a blank
 //!   for each byte before it, or a tab.
+//! - **All is written in order of place**, by two stable sorts. So lex's own fault may stand behind one that it brought.
+//! - **Warnings of patterns are of the text alone**, by their pieces: the reader keeps no places of what it takes. Which lines
+//!   are rules the reader says.
 //! - **What is left out may be missed elsewhere.** Without the line of a definition each rule that uses the name is at fault.
 #![tactic(auto)]
 

@@ -3,7 +3,7 @@ ghost use Rattle.std.specs.Prelude.{◌≡◌};
 
 use lexkit::{MemorySink, Options, Sink, generate, write_tables};
 use lexlook_calls::{Given, LookError, draw, tell_same, tell_words};
-use lexlook_check::{CheckError, MAX_FAULTS, SourceFile, check, tell_check};
+use lexlook_check::{CheckError, Form, MAX_FAULTS, SourceFile, check, tell_check};
 use std::alloc::Global;
 
 const WORDS: &[u8] = b"%%\nif ;\n[a-z]+ ;\n";
@@ -142,7 +142,7 @@ fn checked(alloc: Global, text: &[u8], mut sink: MemorySink) -> (Result<bool, Ch
         name: "a.l",
         bytes: text,
     };
-    let answer = tell_check(alloc, &[file], Options::new(), &mut sink);
+    let answer = tell_check(alloc, &[file], Options::new(), Form::Lines, &mut sink);
     (answer, sink.into_bytes())
 }
 

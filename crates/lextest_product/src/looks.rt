@@ -5,7 +5,7 @@ use crate::row::Row;
 use crate::scans::{answer_of, options_of, refused};
 use lexkit::{MemorySink, MemorySource, Tables, generate};
 use lexlook_calls::{Given, LookError, draw, tell_lines, tell_same, tell_words, trace as trace_of};
-use lexlook_check::{SourceFile, tell_check};
+use lexlook_check::{Form, SourceFile, tell_check};
 use lexlook_tables::{Comparison, Difference, compare as compared, find_obstacle_in};
 use std::alloc::{AllocError, Global};
 
@@ -102,7 +102,12 @@ pub(crate) fn check(alloc: Global, row: &Row<'_>) -> Result<Answer, AllocError> 
     ];
     let count = if row.value("again").is_empty() { 1 } else { 2 };
     let mut sink = MemorySink::new(alloc);
-    let told = match tell_check(alloc, &files[..count], options_of(row), &mut sink) {
+    let form = if row.has_flag("--json") {
+        Form::Json
+    } else {
+        Form::Lines
+    };
+    let told = match tell_check(alloc, &files[..count], options_of(row), form, &mut sink) {
         Ok(true) => String::from_str(alloc, "")?,
         Ok(false) => String::from_str(alloc, "status 1\n")?,
         Err(error) => format!(in alloc; "{error}\n")?,

@@ -4,10 +4,10 @@ ghost use Rattle.std.specs.Prelude.{string_bytes};
 ghost use Rattle.clap.specs.Words.{app_of, found_of, rows_of, rule_of, subcommand_rows_of, with_rule, with_subcommand};
 ghost use Rattle.lex_command.specs.LookLine.{AsksToShow, IsLookOf, about_of, file_app, first_about, lexlook_app, name_of};
 ghost use Rattle.lex_command.specs.CommandLine.{words_rule};
-ghost use Rattle.lex_command.specs.LookLine.{needed_rule, needed_words_rule, sets_app, some_files, told_version};
+ghost use Rattle.lex_command.specs.LookLine.{check_words, json_rule, needed_rule, needed_words_rule, sets_app, told_version};
 
 use crate::error::ArgsError;
-use crate::flags::{PatternFlags, copied, patterns_of, value_of, values_of, with_flags};
+use crate::flags::{PatternFlags, copied, has, patterns_of, value_of, values_of, with_flags};
 use crate::job::files_of;
 use clap::{Arg, ArgAction, ArgMatches, Command};
 use std::alloc::{AllocError, Global};
@@ -62,14 +62,17 @@ pub enum Look {
     /// Every fault of the specification that these files are together.
     Check {
         files: Vec<String>,
+        /// Whether they are told as JSON.
+        json: bool,
         /// How patterns are read.
         patterns: PatternFlags,
     },
 }
 
 /// Reads the words after the program's name: `picture FILE`, `same FILE FILE`, `lines FILE`, `words FILE`, `trace FILE`
-/// or `check FILE..`, with `-i` or `-X` or without, `utf8 SET..`, or any words with `--help`, `-h` or `--version`. Behind
-/// `utf8` the version is that of Unicode. Flags may be repeated. Words that it refuses by `Usage` ask for nothing.
+/// or `check FILE..`, with `-i` or `-X` or without, and `check` with `--json` too, `utf8 SET..`, or any words with
+/// `--help`, `-h` or `--version`. Behind `utf8` the version is that of Unicode. Flags may be repeated. Words that it
+/// refuses by `Usage` ask for nothing.
 pub fn read_args(alloc: Global, words: &[String]) -> Result<Look, ArgsError>
     ensures asked { IfOk result (AsksToShow (map string_bytes words.now)) }
     ensures refused { IfErr result (λ e. e ≡ ArgsError.Usage
@@ -211,20 +214,31 @@ fn needed_words<'a>(alloc: Global) -> Arg<'a>
         .action(ArgAction::Append)
 }
 
-/// The words of `check`: how patterns are read, and its files.
+/// The flag for JSON, which may be repeated.
+fn json_flag<'a>(alloc: Global) -> Arg<'a>
+    ensures rule { rule_of result ≡ json_rule }
+    ensures global { result.global ≡ false }
+{
+    Arg::new(alloc, "json")
+        .long("json")
+        .action(ArgAction::Count)
+}
+
+/// The words of `check`: how patterns are read, whether faults are told as JSON, and its files.
 fn check_command<'a>(alloc: Global) -> Result<Command<'a>, AllocError>
-    ensures { IfOk result (λ c. app_of c ≡ file_app (codes "check") some_files) }
+    ensures { IfOk result (λ c. app_of c ≡ file_app (codes "check") check_words) }
 {
     let flags = &[("fold", 'i'), ("posix", 'X')];
     let command = Command::new(alloc, "check").disable_help_flag(true);
     let command = with_flags(alloc, command, flags)?;
+    let command = command.arg(json_flag(alloc))?;
     command.arg(needed_words(alloc))
 }
 
 /// The words with `check`.
 fn with_check<'a>(alloc: Global, top: Command<'a>) -> Result<Command<'a>, AllocError>
     ensures { IfOk result (λ c. app_of c
-        ≡ with_subcommand (app_of top.entry) (file_app (codes "check") some_files).top) }
+        ≡ with_subcommand (app_of top.entry) (file_app (codes "check") check_words).top) }
 {
     top.subcommand(check_command(alloc)?)
 }
@@ -346,6 +360,7 @@ fn check_look(alloc: Global, found: &ArgMatches<'_>) -> Result<Look, ArgsError>
 {
     Ok(Look::Check {
         files: files_of(alloc, found)?,
+        json: has(found, "json"),
         patterns: patterns_of(found),
     })
 }

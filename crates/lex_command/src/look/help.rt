@@ -18,8 +18,9 @@ const HELP: &str = "lexlook shows what a specification of lex does.\n\n\
     a line for each match of a scan of standard input by a specification, and the scan's status\n\
     lexlook utf8 SET..\n    \
     a definition of the code points of these sets, over the bytes of their UTF-8\n\
-    lexlook check FILE.. [-i] [-X]\n    \
-    every fault of the specification that the files are together, with status 1 where there is one\n\n\
+    lexlook check FILE.. [-i] [-X] [--json]\n    \
+    every fault of the specification that the files are together, by lines or as JSON, with status 1\n    \
+    where there is one\n\n\
     FILE may be - for standard input. With -i letters stand for both cases. With -X an interval\n\
     applies to the whole series to its left. A SET is U+0400-U+04FF, Lu, Greek, XID_Start or the like,\n\
     by the version of Unicode that lexlook utf8 --version tells.\n";

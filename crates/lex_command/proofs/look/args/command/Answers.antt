@@ -1,7 +1,7 @@
 use Rattle.std.proofs.Common.{◌≡◌, ◌∙◌, ap, codes, rules}
 use Rattle.std.proofs.lemmas.Result.{IfOk-weaker}
 use Rattle.clap.specs.Words.{App, app_of, with_subcommand}
-use Rattle.lex_command.specs.LookLine.{file_app, no_subcommand, one_file, sets_app, some_files, two_files}
+use Rattle.lex_command.specs.LookLine.{check_words, file_app, no_subcommand, one_file, sets_app, two_files}
 use Rattle.lex_command.proofs.look.args.command.Goals as goal
 
 pub returns : goal.returns
@@ -13,4 +13,4 @@ returns c =
     let four = c.in_ok-top-4.ensures ∙ ap (λ (a : App). with_subcommand a (file_app (codes "words") one_file).top) three in
     let five = c.in_ok-top-5.ensures ∙ ap (λ (a : App). with_subcommand a (file_app (codes "trace") one_file).top) four in
     let six = c.in_ok-top-6.ensures ∙ ap (λ (a : App). with_subcommand a sets_app.top) five in
-    IfOk-weaker c.with_check.result _ _ (λ new h. h ∙ ap (λ (a : App). with_subcommand a (file_app (codes "check") some_files).top) six) c.with_check.ensures
+    IfOk-weaker c.with_check.result _ _ (λ new h. h ∙ ap (λ (a : App). with_subcommand a (file_app (codes "check") check_words).top) six) c.with_check.ensures
