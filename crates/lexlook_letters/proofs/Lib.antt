@@ -4,5 +4,6 @@ pub mod Runs
 pub mod Digits
 pub mod Spelled
 pub mod Words
+pub mod Nodes
 pub mod Apart
 pub mod Remainders

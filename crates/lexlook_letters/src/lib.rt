@@ -5,7 +5,7 @@
 //! - `cutting`: where a range of code points is cut into pieces.
 //! - `split`: the sequences of many ranges, `sequences`.
 //! - `text`: the bytes of a pattern.
-//! - `spelling`: the pattern of sequences, `spell`.
+//! - `spelling`: the pattern of sequences, `spell`, and how many nodes it has.
 //! - `letters`: the pattern of ranges, `spell_ranges`.
 //! - `complement`: the code points that ranges leave out, `others`, and the same ones by ranges that do not touch, `merged`.
 //! - `laws`: worked examples of encodings.
@@ -16,6 +16,8 @@
 //!
 //! - **A piece is a box.** Where code points of one length begin and end at whole blocks of 64, each byte may be chosen by
 //!   itself. So a piece is told by its two ends, and `cutting` finds the longest one at a front.
+//! - **One branch for the first bytes that sequences share.** Those next to each other that differ in the last byte alone have
+//!   one class for it. No parentheses are needed so.
 #![tactic(auto)]
 
 mod complement;

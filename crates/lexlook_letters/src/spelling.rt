@@ -1,14 +1,14 @@
 //! The pattern of sequences.
-ghost use Rattle.std.specs.Prelude.{◌≡◌, ◌↔◌, ◌<◌, ◌≤◌, ◌+◌, [], ℕ, IfErr, IfOk, IsTrue, List, OnOk, map};
+ghost use Rattle.std.specs.Prelude.{◌≡◌, ◌↔◌, ◌<◌, ◌≤◌, [], ◌∷◌, ℕ, if◌then◌else◌, IfErr, IfOk, IsTrue, List, OnOk};
 ghost use Rattle.std.specs.List.{AllByRecursion};
-ghost use Rattle.lex_semantics.specs.Shapes.{nodes, nodes_of};
-ghost use Rattle.lex_semantics.specs.Tree.{In, trees};
+ghost use Rattle.lex_semantics.specs.Shapes.{nodes};
+ghost use Rattle.lex_semantics.specs.Tree.{In};
 ghost use Rattle.lexre.specs.Limits.{max_nodes};
 ghost use Rattle.lexlook_letters.specs.Sequences.{FollowsOne, IsSoundSequence};
-ghost use Rattle.lexlook_letters.specs.Text.{SpellsAlways, letters_text, letters_tree, sequence_tree};
+ghost use Rattle.lexlook_letters.specs.Text.{SpellsAlways, branch_tree, letters_text, letters_tree, same_front};
 
 use crate::sequence::Sequence;
-use crate::text::add_letters;
+use crate::text::{add_letters, same_front};
 use std::alloc::{AllocError, Global};
 use thiserror::Error;
 
@@ -40,9 +40,9 @@ impl From<AllocError> for LettersError {
     }
 }
 
-/// How many nodes the tree of a sequence has.
+/// How many nodes the tree of a branch has that begins with a sequence.
 fn node_count(sequence: Sequence) -> u64
-    ensures value { result ≡ nodes (sequence_tree sequence) }
+    ensures value { result ≡ nodes (branch_tree (sequence, [])) }
     ensures few { result ≤ 5 }
 {
     match sequence {
@@ -53,31 +53,38 @@ fn node_count(sequence: Sequence) -> u64
     }
 }
 
-/// Whether the trees of sequences have at most so many nodes.
-fn have_at_most(sequences: &[Sequence], most: u64) -> bool
-    ensures { IsTrue result ↔ (nodes_of (trees (map sequence_tree sequences.now)) ≤ most) }
+/// How many nodes a sequence adds behind another one.
+fn added_nodes(before: Sequence, sequence: Sequence) -> u64
+    ensures { result ≡ (if same_front before sequence then 0 else nodes (branch_tree (sequence, []))) }
 {
-    let mut left = most;
-    for sequence in sequences {
-        let nodes = node_count(*sequence);
+    if same_front(before, sequence) {
+        0
+    } else {
+        node_count(sequence)
+    }
+}
+
+/// Whether the tree of sequences has as few nodes as a pattern may have.
+fn has_few_nodes(first: Sequence, more: &[Sequence]) -> bool
+    ensures { IsTrue result ↔ (nodes (letters_tree (first ∷ more.now)) ≤ max_nodes) }
+{
+    // A choice of two or more is a node itself.
+    let mut left = MAX_NODES - 1 - node_count(first);
+    let mut before = first;
+    for sequence in more {
+        let nodes = added_nodes(before, *sequence);
         if left < nodes {
             return false;
         }
         left -= nodes;
+        before = *sequence;
     }
     true
 }
 
-/// The most nodes that the trees of so many sequences may have: a choice of two or more is a node itself.
-fn most_nodes(count: usize) -> u64
-    ensures one { count ≤ 1 → result ≡ max_nodes }
-    ensures more { 1 < count → result + 1 ≡ max_nodes }
-{
-    if count > 1 { MAX_NODES - 1 } else { MAX_NODES }
-}
-
-/// The text of a pattern whose words are those of the sequences: `[\xHH-\xHH]` for each range of bytes, and `|` between the
-/// sequences. Of `options` none matters but that letters stand for themselves.
+/// The text of a pattern whose words are those of the sequences: `[\xHH]` or `[\xHH-\xHH]` for a range of bytes, and `|`
+/// between branches. Sequences next to each other that differ in the last range alone are one branch, with one class for
+/// these ranges. Of `options` none matters but that letters stand for themselves.
 ///
 /// `NoCodePoint` where there is no sequence, and `TooBig` where the pattern has more nodes than one may have.
 pub fn spell(alloc: Global, sequences: &[Sequence]) -> Result<Vec<u8>, LettersError>
@@ -91,7 +98,7 @@ pub fn spell(alloc: Global, sequences: &[Sequence]) -> Result<Vec<u8>, LettersEr
     let Some((first, more)) = sequences.split_first() else {
         return Err(LettersError::NoCodePoint);
     };
-    if !have_at_most(sequences, most_nodes(sequences.len())) {
+    if !has_few_nodes(*first, more) {
         return Err(LettersError::TooBig);
     }
     let mut text = Vec::new(alloc);

@@ -1,9 +1,51 @@
 //! The text of a pattern.
 ghost use Rattle.std.specs.Prelude.{◌≡◌, ◌<◌, ◌++◌, List, OnOk};
-ghost use Rattle.lexlook_letters.specs.Text.{barred_text, class_text, classes_text, hex_digit, sequence_text};
+ghost use Rattle.lexlook_letters.specs.Text.{byte_escape, classes_text, front, hex_digit, last_range, next_text, open_text, range_text, rest_text, same_front, same_range};
 
 use crate::sequence::{ByteRange, Sequence};
 use std::alloc::AllocError;
+
+/// The last range.
+fn last_range(sequence: Sequence) -> ByteRange
+    ensures { result ≡ last_range sequence }
+{
+    match sequence {
+        Sequence::One(last) => last,
+        Sequence::Two(_, last) => last,
+        Sequence::Three(_, _, last) => last,
+        Sequence::Four(_, _, _, last) => last,
+    }
+}
+
+/// Whether two ranges are the same.
+fn same_range(left: ByteRange, right: ByteRange) -> bool
+    ensures { result ≡ same_range left right }
+{
+    left.first == right.first && left.last == right.last
+}
+
+/// Whether two sequences differ in the last range alone, or not at all.
+pub(crate) fn same_front(left: Sequence, right: Sequence) -> bool
+    ensures { result ≡ same_front left right }
+{
+    match left {
+        Sequence::One(_) => matches!(right, Sequence::One(_)),
+        Sequence::Two(a, _) => match right {
+            Sequence::Two(b, _) => same_range(a, b),
+            _ => false,
+        },
+        Sequence::Three(a, b, _) => match right {
+            Sequence::Three(c, d, _) => same_range(a, c) && same_range(b, d),
+            _ => false,
+        },
+        Sequence::Four(a, b, c, _) => match right {
+            Sequence::Four(d, e, f, _) => {
+                same_range(a, d) && same_range(b, e) && same_range(c, f)
+            }
+            _ => false,
+        },
+    }
+}
 
 /// A hexadecimal digit.
 fn hex_digit(value: u8) -> u8
@@ -17,23 +59,23 @@ fn hex_digit(value: u8) -> u8
     }
 }
 
-/// A class of the bytes from one to another: `[\xHH-\xHH]`.
-fn class_text(range: ByteRange) -> [u8; 11]
-    ensures { result ≡ class_text range }
+/// A byte as it is escaped: `\xHH`.
+fn byte_escape(byte: u8) -> [u8; 4]
+    ensures { result ≡ byte_escape byte }
 {
-    [
-        b'[',
-        b'\\',
-        b'x',
-        hex_digit(range.first / 16),
-        hex_digit(range.first % 16),
-        b'-',
-        b'\\',
-        b'x',
-        hex_digit(range.last / 16),
-        hex_digit(range.last % 16),
-        b']',
-    ]
+    [b'\\', b'x', hex_digit(byte / 16), hex_digit(byte % 16)]
+}
+
+/// Adds the bytes from one to another, as they stand in a class: `\xHH` or `\xHH-\xHH`.
+fn add_range(text: &mut Vec<u8>, range: ByteRange) -> Result<(), AllocError>
+    ensures { OnOk result (text.new.items ≡ text.old.items ++ range_text range) }
+{
+    text.extend_from_slice(&byte_escape(range.first))?;
+    if range.first == range.last {
+        return Ok(());
+    }
+    text.push(b'-')?;
+    text.extend_from_slice(&byte_escape(range.last))
 }
 
 /// Adds a class for each range.
@@ -41,42 +83,59 @@ fn add_classes(text: &mut Vec<u8>, ranges: &[ByteRange]) -> Result<(), AllocErro
     ensures { OnOk result (text.new.items ≡ text.old.items ++ classes_text ranges.now) }
 {
     for range in ranges {
-        text.extend_from_slice(&class_text(*range))?;
+        text.push(b'[')?;
+        add_range(text, *range)?;
+        text.push(b']')?;
     }
     Ok(())
 }
 
-/// Adds the classes of a sequence.
-fn add_sequence(text: &mut Vec<u8>, sequence: Sequence) -> Result<(), AllocError>
-    ensures { OnOk result (text.new.items ≡ text.old.items ++ sequence_text sequence) }
+/// Adds the classes of a sequence before its last one.
+fn add_front(text: &mut Vec<u8>, sequence: Sequence) -> Result<(), AllocError>
+    ensures { OnOk result (text.new.items ≡ text.old.items ++ classes_text (front sequence)) }
 {
     match sequence {
-        Sequence::One(a) => add_classes(text, &[a]),
-        Sequence::Two(a, b) => add_classes(text, &[a, b]),
-        Sequence::Three(a, b, c) => add_classes(text, &[a, b, c]),
-        Sequence::Four(a, b, c, d) => add_classes(text, &[a, b, c, d]),
+        Sequence::One(_) => Ok(()),
+        Sequence::Two(a, _) => add_classes(text, &[a]),
+        Sequence::Three(a, b, _) => add_classes(text, &[a, b]),
+        Sequence::Four(a, b, c, _) => add_classes(text, &[a, b, c]),
     }
 }
 
-/// Adds the sequences, each behind a bar.
-fn add_barred(text: &mut Vec<u8>, sequences: &[Sequence]) -> Result<(), AllocError>
-    ensures { OnOk result (text.new.items ≡ text.old.items ++ barred_text sequences.now) }
+/// Adds a sequence, with its last class left open.
+fn add_open(text: &mut Vec<u8>, sequence: Sequence) -> Result<(), AllocError>
+    ensures { OnOk result (text.new.items ≡ text.old.items ++ open_text sequence) }
 {
-    for sequence in sequences {
-        text.push(b'|')?;
-        add_sequence(text, *sequence)?;
-    }
-    Ok(())
+    add_front(text, sequence)?;
+    text.push(b'[')?;
+    add_range(text, last_range(sequence))
 }
 
-/// Adds the sequences, with bars between.
+/// Adds a sequence behind another one: its last range in the class that is open, or a branch.
+fn add_next(text: &mut Vec<u8>, before: Sequence, sequence: Sequence) -> Result<(), AllocError>
+    ensures { OnOk result (text.new.items ≡ text.old.items ++ next_text before sequence) }
+{
+    if same_front(before, sequence) {
+        return add_range(text, last_range(sequence));
+    }
+    text.extend_from_slice(b"]|")?;
+    add_open(text, sequence)
+}
+
+/// Adds the branches of the sequences, with bars between.
 pub(crate) fn add_letters(
     text: &mut Vec<u8>,
     first: Sequence,
     more: &[Sequence],
 ) -> Result<(), AllocError>
-    ensures { OnOk result (text.new.items ≡ text.old.items ++ (sequence_text first ++ barred_text more.now)) }
+    ensures { OnOk result (text.new.items ≡ text.old.items ++ (open_text first ++ rest_text first more.now)) }
 {
-    add_sequence(text, first)?;
-    add_barred(text, more)
+    add_open(text, first)?;
+    let mut before = first;
+    for sequence in more {
+        add_next(text, before, *sequence)?;
+        before = *sequence;
+    }
+    text.push(b']')?;
+    Ok(())
 }
