@@ -73,7 +73,7 @@ def table():
     yield "//! https://www.unicode.org/terms_of_use.html"
     yield ""
     yield "/// The line that tells the version of Unicode that the sets are of."
-    yield f'pub const UNICODE_VERSION: &str = "Unicode {sets.version()}\\n";'
+    yield f'pub const UNICODE: &str = "Unicode {sets.version()}\\n";'
     yield ""
     yield "/// A line for each set: its names, a colon, and its ranges, which ascend and do not touch, in hexadecimal digits."
     yield 'pub(crate) const SETS: &str = "\\'

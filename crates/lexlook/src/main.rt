@@ -24,8 +24,13 @@ use lexkit::{
     ToWrite, command_words, read_spec_file, report_failure,
 };
 use lexlook_calls::{Given, draw, tell_lines, tell_same, tell_words, trace};
+<<<<<<< ours
 use lexlook_check::{Form, tell_check};
 use lexlook_unicode::{DefinitionError, UNICODE_VERSION, definition_of};
+=======
+use lexlook_check::tell_check;
+use lexlook_unicode::{DefinitionError, UNICODE, definition_of};
+>>>>>>> theirs
 use std::alloc::AllocError;
 use std::io;
 use std::process::ExitCode;
@@ -56,7 +61,7 @@ fn show_about(rt: &HostRuntime, what: About) -> Result<ExitCode, Failure> {
     match what {
         About::Help => write_help(&mut sink)?,
         About::Version => write_version(&mut sink)?,
-        About::UnicodeVersion => sink.put(UNICODE_VERSION.as_bytes())?,
+        About::UnicodeVersion => sink.put(UNICODE.as_bytes())?,
     }
     sink.flush()?;
     Ok(ExitCode::SUCCESS)

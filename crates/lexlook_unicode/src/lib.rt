@@ -19,4 +19,4 @@ mod table;
 
 pub use definition::{DefinitionError, definition_of};
 pub use sets::{SetsError, ranges_of};
-pub use table::UNICODE_VERSION;
+pub use table::UNICODE;

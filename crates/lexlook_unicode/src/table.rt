@@ -4,7 +4,7 @@
 //! https://www.unicode.org/terms_of_use.html
 
 /// The line that tells the version of Unicode that the sets are of.
-pub const UNICODE_VERSION: &str = "Unicode 15.0.0\n";
+pub const UNICODE: &str = "Unicode 15.0.0\n";
 
 /// A line for each set: its names, a colon, and its ranges, which ascend and do not touch, in hexadecimal digits.
 pub(crate) const SETS: &str = "\
