@@ -24,13 +24,8 @@ use lexkit::{
     ToWrite, command_words, read_spec_file, report_failure,
 };
 use lexlook_calls::{Given, draw, tell_lines, tell_same, tell_words, trace};
-<<<<<<< ours
 use lexlook_check::{Form, tell_check};
-use lexlook_unicode::{DefinitionError, UNICODE_VERSION, definition_of};
-=======
-use lexlook_check::tell_check;
 use lexlook_unicode::{DefinitionError, UNICODE, definition_of};
->>>>>>> theirs
 use std::alloc::AllocError;
 use std::io;
 use std::process::ExitCode;
