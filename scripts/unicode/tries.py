@@ -22,11 +22,11 @@ POINTS = [point for point in range(sets.LAST + 1) if not sets.SURROGATES[0] <= p
 MARK = "\uf8ff"
 
 
-def written(lex, rules, text):
-    """What the program writes for a text, by the shared definitions and these rules."""
+def written(lex, rules, text, definition=""):
+    """What the program writes for a text, by the shared definitions, one more line, and these rules."""
     with tempfile.NamedTemporaryFile("w", suffix=".l") as file:
         with open(SHARE, encoding="ascii") as shared:
-            file.write(shared.read() + "%%\n" + rules)
+            file.write(shared.read() + definition + "%%\n" + rules)
         file.flush()
         ended = subprocess.run([lex, "-w", "--scan-spec", file.name], input=text, capture_output=True, check=False)
     if ended.returncode:
@@ -79,10 +79,10 @@ def try_members(lex):
     return faults
 
 
-def decoded(text):
-    """A `c` for each code point that Python's decoder finds, and a `!` for each front that does not go on."""
+def decoded(text, told=lambda point: "c"):
+    """What is told of each code point that Python's decoder finds, and a `!` for each front that does not go on."""
     codecs.register_error("mark", lambda error: (MARK, error.end))
-    return "".join("!" if char == MARK else "c" for char in text.decode("utf-8", "mark"))
+    return "".join("!" if char == MARK else told(ord(char)) for char in text.decode("utf-8", "mark"))
 
 
 def odd_text(chance):
@@ -93,10 +93,15 @@ def odd_text(chance):
     return b"".join(point[: chance.randrange(1, len(point) + 1)] for point in points)
 
 
+def odd_texts(count, seed):
+    """So many such texts, less those that have the mark."""
+    chance = random.Random(seed)
+    return [text for text in (odd_text(chance) for _ in range(count)) if MARK.encode() not in text]
+
+
 def try_odd(lex, count, seed):
     """What is no UTF-8 is taken by BAD alone, piece by piece as the Unicode Standard advises."""
-    chance = random.Random(seed)
-    texts = [text for text in (odd_text(chance) for _ in range(count)) if MARK.encode() not in text]
+    texts = odd_texts(count, seed)
     lines = written(lex, '\\n ECHO;\n{ANY} printf("c");\n{BAD} printf("!");\n', b"\n".join(texts) + b"\n").split("\n")
     wrong = [text for text, line in zip(texts, lines) if decoded(text) != line]
     for text in wrong[:10]:
