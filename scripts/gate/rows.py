@@ -143,6 +143,29 @@ def after(text, words):
     return indented(text[text.index(words):])[0]
 
 
+def hints():
+    """What is expected for each reason, by the definitions of lexlook_check."""
+    text = (ROOT / "crates/lexlook_check/specs/Hints.antt").read_text()
+    found = re.findall(r'^\w+ (?:patterns|kinds)\.(\w+) = codes "((?:[^"\\]|\\.)*)"', text, re.M)
+    return {kind: re.sub(r"\\(.)", r"\1", hint) for kind, hint in found}
+
+
+def faulty_rows(spec, line, expected):
+    """The row of what `lexlook check` writes of a specification that lex refuses by this line; none where what follows is at fault too."""
+    number, kind, at = re.fullmatch(r"lex: (?:line (\d+): )?(\w+)(?: at (\d+))?\n", line).groups()
+    if any(later not in ("", "%%") for later in spec.splitlines()[int(number or 0) :]) and number:
+        return
+    head = "".join(":" + part for part in (number, str(int(at) + 1) if at else None) if part and part != "0")
+    written = f"a.l{head}: error: {kind}\n"
+    if kind in expected:
+        shown = (spec.splitlines() + [""])[int(number) - 1]
+        blank = " " * len(number)
+        written += f"    {number} | {shown}\n" if shown else ""
+        written += f"    {blank} | {' ' * int(at)}^\n" if at else ""
+        written += f"    {blank} = {expected[kind]}\n"
+    yield row("check", ("spec", spec), ("written", written), ("told", "status 1\n"))
+
+
 def examples_of_lexlook(text):
     """The text of manual_looks.txt: what lexlook writes in the chapters on it."""
     small = after(text, "Say that `small.l` is this specification:")
@@ -168,6 +191,7 @@ def examples_of_lexlook(text):
             ("written", after(every, "Then `lexlook check draft.l`")),
             ("told", "status 1\n"),
         ),
+        *(faulty for spec, line in manual(text)[2] for faulty in faulty_rows(spec, line, hints())),
     )
 
 
