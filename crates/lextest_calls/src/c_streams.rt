@@ -67,36 +67,42 @@ fn answers(alloc: Global, stream: &mut TokenStream, wanted: Answer, ended: u8) -
     so
 }
 
-/// Whether an input in pieces of a size has these tokens, and ends so.
+/// Of some tokens those that do not come next.
+fn left<'a>(alloc: Global, stream: &mut TokenStream, rows: &'a [Row]) -> &'a [Row] {
+    let told = count_told(alloc, stream, rows);
+    match rows.get(told..) {
+        Some(rest) => rest,
+        None => &[],
+    }
+}
+
+/// Whether a stream has ended, and tells that again, also where it is fed.
+fn stays_ended(alloc: Global, stream: &mut TokenStream, status: u8) -> bool {
+    answers(alloc, stream, Answer::Ended, status)
+        && feed_stream(alloc, stream, b"1") == Answer::Ended
+        && answers(alloc, stream, Answer::Ended, status)
+}
+
+/// Whether an input in pieces of a size has these tokens, and ends with a status.
 fn streams(
     alloc: Global,
     file: &[u8],
     input: &[u8],
     size: usize,
     rows: &[Row],
-    ended: (Answer, u8),
+    status: u8,
 ) -> bool {
     let mut stream = TokenStream::closed();
     let mut so = open_stream(alloc, &mut stream, file) == Answer::Done;
-    let mut told = 0;
-    let mut rest = input;
-    while !rest.is_empty() {
-        let (piece, after) = rest.split_at(size.min(rest.len()));
-        rest = after;
+    let mut rest = rows;
+    for piece in input.chunks(size.max(1)) {
         let fed = feed_stream(alloc, &mut stream, piece);
         so = so && (fed == Answer::Done || fed == Answer::Ended);
-        if let Some(left) = rows.get(told..) {
-            told += count_told(alloc, &mut stream, left);
-        }
+        rest = left(alloc, &mut stream, rest);
     }
     so = end_stream(alloc, &mut stream) == Answer::Done && so;
-    if let Some(left) = rows.get(told..) {
-        told += count_told(alloc, &mut stream, left);
-    }
-    let (answer, status) = ended;
-    so = so && told == rows.len() && answers(alloc, &mut stream, answer, status);
-    so = so && feed_stream(alloc, &mut stream, b"1") == Answer::Ended;
-    so = so && answers(alloc, &mut stream, answer, status);
+    rest = left(alloc, &mut stream, rest);
+    so = so && rest.is_empty() && stays_ended(alloc, &mut stream, status);
     stream.close(alloc);
     so
 }
@@ -156,8 +162,7 @@ fn pieces_of_any_size_have_the_same_tokens(rt: HostRuntime) -> Result<(), Fail> 
     for &(text, input, rows, status) in SCANS {
         let file = made(rt.alloc(), text)?;
         for size in [1, 2, 7, 4_096] {
-            let ended = (Answer::Ended, status);
-            let so = streams(rt.alloc(), file.written(), input, size, rows, ended);
+            let so = streams(rt.alloc(), file.written(), input, size, rows, status);
             assert!(rt; so, "{status} {size}");
         }
     }
