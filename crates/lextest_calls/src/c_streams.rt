@@ -44,10 +44,10 @@ fn tells(alloc: Global, stream: &mut TokenStream, row: Row) -> bool {
     answer == Answer::Done && token == wanted && status == 0 && shows(alloc, stream, text)
 }
 
-/// How many of these tokens come next.
-fn count_told(alloc: Global, stream: &mut TokenStream, rows: &[Row]) -> usize {
+/// How many of these tokens have come once those come that are decided, after as many as came before.
+fn count_told(alloc: Global, stream: &mut TokenStream, rows: &[Row], before: usize) -> usize {
     for (count, &row) in rows.iter().enumerate() {
-        if !tells(alloc, stream, row) {
+        if count >= before && !tells(alloc, stream, row) {
             return count;
         }
     }
@@ -65,15 +65,6 @@ fn answers(alloc: Global, stream: &mut TokenStream, wanted: Answer, ended: u8) -
         so = so && (wanted == Answer::Closed || shows(alloc, stream, ""));
     }
     so
-}
-
-/// Of some tokens those that do not come next.
-fn left<'a>(alloc: Global, stream: &mut TokenStream, rows: &'a [Row]) -> &'a [Row] {
-    let told = count_told(alloc, stream, rows);
-    match rows.get(told..) {
-        Some(rest) => rest,
-        None => &[],
-    }
 }
 
 /// Whether a stream has ended, and tells that again, also where it is fed.
@@ -94,15 +85,15 @@ fn streams(
 ) -> bool {
     let mut stream = TokenStream::closed();
     let mut so = open_stream(alloc, &mut stream, file) == Answer::Done;
-    let mut rest = rows;
+    let mut told = 0;
     for piece in input.chunks(size.max(1)) {
         let fed = feed_stream(alloc, &mut stream, piece);
         so = so && (fed == Answer::Done || fed == Answer::Ended);
-        rest = left(alloc, &mut stream, rest);
+        told = count_told(alloc, &mut stream, rows, told);
     }
     so = end_stream(alloc, &mut stream) == Answer::Done && so;
-    rest = left(alloc, &mut stream, rest);
-    so = so && rest.is_empty() && stays_ended(alloc, &mut stream, status);
+    told = count_told(alloc, &mut stream, rows, told);
+    so = so && told == rows.len() && stays_ended(alloc, &mut stream, status);
     stream.close(alloc);
     so
 }
@@ -208,7 +199,7 @@ fn streams_or_stops(alloc: Global, file: &[u8]) -> bool {
         so = so && (!again || feed_stream(alloc, &mut stream, piece) == Answer::Done);
     }
     so = so && end_stream(alloc, &mut stream) == Answer::Done;
-    let told = count_told(alloc, &mut stream, ROWS);
+    let told = count_told(alloc, &mut stream, ROWS, 0);
     let stops = answers(alloc, &mut stream, Answer::OutOfMemory, 0);
     so = so && (stops || told == ROWS.len() && answers(alloc, &mut stream, Answer::Ended, 0));
     stream.close(alloc);
