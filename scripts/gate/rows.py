@@ -146,7 +146,7 @@ def after(text, words):
 def hints():
     """What is expected for each reason, by the definitions of lexlook_check."""
     text = (ROOT / "crates/lexlook_check/specs/Hints.antt").read_text()
-    found = re.findall(r'^\w+ (?:patterns|kinds)\.(\w+) = codes "((?:[^"\\]|\\.)*)"', text, re.M)
+    found = re.findall(r'^\w+ (?:patterns|kinds)\.(\w+) =\s+codes "((?:[^"\\]|\\.)*)"', text, re.M)
     return {kind: re.sub(r"\\(.)", r"\1", hint) for kind, hint in found}
 
 

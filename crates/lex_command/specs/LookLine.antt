@@ -52,7 +52,8 @@ check_words = json_rule ∷ needed_words_rule (codes "file") ∷ []
 -- the words begin after the program's name, and name a subcommand; clap knows no help
 abbrev pub no_subcommand : App
 no_subcommand =
-    on_top (λ s. record s { no_binary_name = true; disable_help_flag = true; disable_help_subcommand = true; subcommand_required = true })
+    on_top (λ s. record s
+    { no_binary_name = true; disable_help_flag = true; disable_help_subcommand = true; subcommand_required = true })
     (new_app (codes "lexlook"))
 
 -- the program's command line
@@ -74,7 +75,8 @@ abbrev pub told_version : List Text → About
 told_version [] = Version
 told_version (word ∷ rest) = if bytes_eq word (codes "utf8") then UnicodeVersion else Version
 
--- what the first of the words `--help`, `-h` and `--version` asks for, if it stands before any `--`, where this is the version
+-- what the first of the words `--help`, `-h` and `--version` asks for, if it stands before any `--`, where this is the
+-- version
 abbrev pub first_about : About → List Text → Option About
 first_about what [] = None
 first_about what (word ∷ rest) =
@@ -102,15 +104,16 @@ IsLookOf (Some p) (Same left right patterns) = (p.0 ≡ codes "same")
     × (Some (string_bytes left) ≡ first_of (codes "left") p.1)
     × (Some (string_bytes right) ≡ first_of (codes "right") p.1)
     × (patterns ≡ patterns_of p.1)
-IsLookOf (Some p) (Letters sets) = (p.0 ≡ codes "utf8") × (Some (map string_bytes sets.items) ≡ all_of (codes "set") p.1)
+IsLookOf (Some p) (Letters sets) =
+    (p.0 ≡ codes "utf8") × (Some (map string_bytes sets.items) ≡ all_of (codes "set") p.1)
 IsLookOf (Some p) (Check files json patterns) = (p.0 ≡ codes "check")
     × (map string_bytes files.items ≡ files_of p.1)
     × (json ≡ has_flag (codes "json") p.1)
     × (patterns ≡ patterns_of p.1)
 IsLookOf p look = ⊥
 
--- The words ask for something of the program itself if one of them does, before any `--`. Else they are a line of the program's, and
--- ask for what the subcommand does.
+-- The words ask for something of the program itself if one of them does, before any `--`. Else they are a line of the
+-- program's, and ask for what the subcommand does.
 abbrev pub AsksToShow : List Text → Look → Type 0
 AsksToShow words (OfItself what) = about_of words ≡ Some what
 AsksToShow words look = (about_of words ≡ None)

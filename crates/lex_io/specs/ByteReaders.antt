@@ -26,4 +26,8 @@ bytes_left left r = prepend_known (bytes_ahead r) (left r.reader)
 
 -- a read gave bytes that were ahead, as many as there were and there was room for, and did not touch the reader behind
 abbrev pub GivesAhead : {R E : Type 0} → ByteReader R → ByteReader R → Result ℕ E → List ℕ → Type 0
-GivesAhead old new result buf = (reader_behind new ≡ reader_behind old) × MatchResult result (λ n. (n ≡ min (length buf) (length (bytes_ahead old))) × (bytes_ahead old ≡ take n buf ++ bytes_ahead new)) (λ _. ⊥)
+GivesAhead old new result buf =
+    (reader_behind new ≡ reader_behind old)
+    × MatchResult result
+    (λ n. (n ≡ min (length buf) (length (bytes_ahead old))) × (bytes_ahead old ≡ take n buf ++ bytes_ahead new))
+    (λ _. ⊥)

@@ -11,7 +11,8 @@ writer_behind w = w.writer
 abbrev pub bytes_held : {W : Type 0} → ByteWriter W → List ℕ
 bytes_held w = take w.held.end w.held.buffer.items
 
--- what the writer behind holds and then the bytes held here, where that is known: so what has reached it is a front of this
+-- what the writer behind holds and then the bytes held here, where that is known: so what has reached it is a front of
+-- this
 abbrev pub bytes_written : {W : Type 0} → (W → Option (List ℕ)) → ByteWriter W → Option (List ℕ)
 bytes_written written w = append_known (written w.writer) (bytes_held w)
 

@@ -19,17 +19,21 @@ nothing_more all xs ys rest rest' p q whole =
     let none : length ys ≡ 0 = omega (arith, length-append xs rest, length-append ys rest', lp, lq, lw) in
     whole ∙ sym (ap (λ l. xs ++ l) (nil_from_length ys none) ∙ append-nil xs)
 
-whole_trans : (a b c : Option (List ℕ)) (e e' e'' : ℕ) (xs ys : List ℕ) → Gives a b e e' xs → Gives b c e' e'' ys → (e < e') ⊎ (e' < e'') → IfSome a (λ all. all ≡ xs ++ ys)
+whole_trans : (a b c : Option (List ℕ)) (e e' e'' : ℕ) (xs ys : List ℕ) → Gives a b e e' xs → Gives b c e' e'' ys
+    → (e < e') ⊎ (e' < e'') → IfSome a (λ all. all ≡ xs ++ ys)
 whole_trans None b c e e' e'' xs ys p q h = tt
 whole_trans (Some all) None c e e' e'' xs ys p q h = absurd p.taken
 whole_trans (Some all) (Some rest) None e e' e'' xs ys p q h = absurd q.taken
-whole_trans (Some all) (Some rest) (Some rest') e e' e'' xs ys p q (inl first) = nothing_more all xs ys rest rest' p.taken q.taken (p.whole first)
-whole_trans (Some all) (Some rest) (Some rest') e e' e'' xs ys p q (inr second) = p.taken ∙ ap (λ l. xs ++ l) (q.whole second)
+whole_trans (Some all) (Some rest) (Some rest') e e' e'' xs ys p q (inl first) =
+    nothing_more all xs ys rest rest' p.taken q.taken (p.whole first)
+whole_trans (Some all) (Some rest) (Some rest') e e' e'' xs ys p q (inr second) =
+    p.taken ∙ ap (λ l. xs ++ l) (q.whole second)
 
 earlier_or_later : (e e' e'' : ℕ) → e < e'' → (e < e') ⊎ (e' < e'')
 earlier_or_later e e' e'' h = elim (cases_lt e e') [ inl y ↦ inl y | inr n ↦ inr (omega arith) ]
 
-pub Gives-trans : (a b c : Option (List ℕ)) (e e' e'' : ℕ) (xs ys : List ℕ) → Gives a b e e' xs → Gives b c e' e'' ys → Gives a c e e'' (xs ++ ys)
+pub Gives-trans : (a b c : Option (List ℕ)) (e e' e'' : ℕ) (xs ys : List ℕ) → Gives a b e e' xs → Gives b c e' e'' ys
+    → Gives a c e e'' (xs ++ ys)
 Gives-trans a b c e e' e'' xs ys p q = record {
   taken = Consumes-trans a b c xs ys p.taken q.taken;
   later = let one = p.later in let two = q.later in omega arith;

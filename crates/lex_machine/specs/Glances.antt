@@ -35,8 +35,8 @@ Gists M s (Print bytes) = FirstDoes M s (S.Print bytes.now ∷ [])
 Gists M s (Begin c) = FirstDoes M s (S.Begin c ∷ [])
 Gists M s (Several ss) = (are_simple (map statement_of ss.now) ≡ true) × FirstDoes M s (map statement_of ss.now)
 
--- The first of these bytes lead from a state to one from which the machine does not go on, and it goes on after each of them
--- but the last.
+-- The first of these bytes lead from a state to one from which the machine does not go on, and it goes on after each of
+-- them but the last.
 pub record Leads (M : Machine) (first : ℕ) (bytes : List ℕ) (w : Way) : Type 0 where
   pub some : 1 ≤ w.count
   pub inside : w.count ≤ length bytes

@@ -35,7 +35,8 @@ act reject (Push d ∷ ss) a =
     if nat_lt (length a.stack) max_stack then act reject ss (record a { condition = d; stack = a.condition ∷ a.stack })
     else Some (record a { ended = Some StackFault })
 act reject (Pop ∷ ss) a =
-    if nat_lt 0 (length a.stack) then act reject ss (record a { condition = slice_index a.stack 0; stack = drop 1 a.stack })
+    if nat_lt 0 (length a.stack)
+    then act reject ss (record a { condition = slice_index a.stack 0; stack = drop 1 a.stack })
     else Some (record a { ended = Some StackFault })
 
 -- The matches are taken in order, up to the first that is not rejected. The text is what yymore kept, and then
@@ -44,4 +45,11 @@ unfoldable pub perform : Rules → (kept y : List ℕ) → List Candidate → (w
 perform R kept y [] written condition stack = None
 perform R kept y (m ∷ ms) written condition stack =
     act (λ a. perform R kept y ms a.written a.condition a.stack) (statements_of R m.rule)
-    (record { text = kept ++ take m.keep y; written = written; condition = condition; stack = stack; more = false; ended = None })
+    (record {
+      text = kept ++ take m.keep y;
+      written = written;
+      condition = condition;
+      stack = stack;
+      more = false;
+      ended = None;
+    })

@@ -33,7 +33,8 @@ act_result (Less n ∷ ss) a = act_result ss (record a { text = take n a.text })
 act_result (Reject ∷ ss) a = Again a
 act_result (End s ∷ ss) a = Over a (Status s)
 act_result (Push d ∷ ss) a =
-    if has_room a.stack then act_result ss (record a { condition = d; stack = a.condition ∷ a.stack }) else Over a StackFault
+    if has_room a.stack then act_result ss (record a { condition = d; stack = a.condition ∷ a.stack })
+    else Over a StackFault
 act_result (Pop ∷ ss) a = popped a.stack a (λ c cs. act_result ss (record a { condition = c; stack = cs }))
 
 -- the outcome of an action, where `next` is what follows a REJECT
@@ -44,9 +45,17 @@ settle (Over a e) next = Some (record a { ended = Some e })
 
 -- The matches are taken in order, up to the first that is not rejected. The text is what yymore kept, and then
 -- the match's part of y. What was written stays written, and the condition and the stack stay.
-unfoldable pub perform_results : Rules → (kept y : List ℕ) → List Candidate → (written : List ℕ) → ℕ → List ℕ → Option Acting
+unfoldable pub perform_results : Rules → (kept y : List ℕ) → List Candidate → (written : List ℕ) → ℕ → List ℕ
+    → Option Acting
 perform_results R kept y [] written condition stack = None
 perform_results R kept y (m ∷ ms) written condition stack =
     settle (act_result (statements_of R m.rule)
-    (record { text = kept ++ take m.keep y; written = written; condition = condition; stack = stack; more = false; ended = None }))
+    (record {
+      text = kept ++ take m.keep y;
+      written = written;
+      condition = condition;
+      stack = stack;
+      more = false;
+      ended = None;
+    }))
     (λ a. perform_results R kept y ms a.written a.condition a.stack)

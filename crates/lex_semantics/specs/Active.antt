@@ -13,7 +13,8 @@ contains cs c = list_any (λ d. d == c) cs
 -- conditions.) With `^` it is so only at the start of a line.
 abbrev pub active : Spec → ℕ → Bool → Rule → Bool
 active S c line_start r =
-    option_map_or (λ l. contains l c) r.conditions (option_map_or (λ k. not k.exclusive) (slice_get S.conditions c) false)
+    option_map_or (λ l. contains l c) r.conditions
+    (option_map_or (λ k. not k.exclusive) (slice_get S.conditions c) false)
     && (not r.anchored || line_start)
 
 -- A name that the code has for the first part of this.

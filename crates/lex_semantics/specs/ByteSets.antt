@@ -1,5 +1,5 @@
--- Bytes, and sets of bytes. A set is a number whose bit b says whether the byte b is in it. Those that are made here are below
--- 2 ^ 256, so two of them with the same members are the same number.
+-- Bytes, and sets of bytes. A set is a number whose bit b says whether the byte b is in it. Those that are made here
+-- are below 2 ^ 256, so two of them with the same members are the same number.
 -- (POSIX, lex, Regular Expressions in lex: bracket expressions in the POSIX locale.)
 use Rattle.std.specs.Prelude.{◌≡◌, ℕ, zero, suc, ◌+◌, ◌-◌, ◌*◌, ◌^◌, ◌<◌, Bool, true, false, not, ◌&&◌, ◌||◌, ◌==◌, nat_eq, nat_le, if◌then◌else◌, List, [], ◌∷◌, Option, codes}
 use Rattle.std.specs.Int.{bit_at}
@@ -82,8 +82,8 @@ named_set name = option_map set_of (lookup (same_bytes name) classes)
 abbrev pub bit_of : Bool → ℕ
 bit_of b = if b then 1 else 0
 
--- Names that the code and proofs have: for sets and for the tests of the other classes, for a set that has a byte, and for
--- the set of the numbers below n that pass the test.
+-- Names that the code and proofs have: for sets and for the tests of the other classes, for a set that has a byte, and
+-- for the set of the numbers below n that pass the test.
 
 unfoldable pub empty_set : ByteSet
 empty_set = set_of (λ b. false)

@@ -1,13 +1,13 @@
--- How much of the input the matches ask for, when a scanner sees one byte at a time. (This project's; POSIX, lex, says only
--- which match is taken.)
+-- How much of the input the matches ask for, when a scanner sees one byte at a time. (This project's; POSIX, lex, says
+-- only which match is taken.)
 use Rattle.std.specs.Prelude.{◌≡◌, ℕ, zero, suc, ◌+◌, ◌-◌, ◌≤◌, ◌<◌, Bool, cond, List, length, take, drop, max, ◌⊎◌, ◌↔◌, Option, Some, None}
 use Rattle.lex_semantics.specs.Text.{IsText, BeginsWith, at_line_start}
 use Rattle.lex_semantics.specs.Rules.{Rules}
 use Rattle.lex_semantics.specs.Acting.{Ending}
 use Rattle.lex_semantics.specs.Run.{Place, State, Turns}
 
--- A match at a place asks for byte i from there: the first one, and each one after bytes that a longer match might begin
--- with.
+-- A match at a place asks for byte i from there: the first one, and each one after bytes that a longer match might
+-- begin with.
 abbrev pub AsksAt : Rules → List ℕ → Place → ℕ → Type 0
 AsksAt R x p i = (i ≡ 0) ⊎ R.live p.condition (at_line_start x p.at) (take i (drop p.at x))
 
@@ -24,7 +24,8 @@ AsksForEnd R x p = (p.at ≡ length x) ⊎ ((p.at < length x) × AsksAt R x p (l
 abbrev pub FarFrom : Rules → List ℕ → State → Option Ending → ℕ → ℕ → Type 0
 FarFrom R x s (Some e) f g = g ≡ f
 FarFrom R x s None f g =
-    ((s.place.at ≡ length x) × (g ≡ f)) ⊎ ((s.place.at < length x) × (r : ℕ) × Reach R x s.place r × (g ≡ max f (s.place.at + r)))
+    ((s.place.at ≡ length x) × (g ≡ f))
+    ⊎ ((s.place.at < length x) × (r : ℕ) × Reach R x s.place r × (g ≡ max f (s.place.at + r)))
 
 -- the first n turns ask for just the first f bytes of the input
 abbrev pub Far : Rules → List ℕ → ℕ → ℕ → Type 0

@@ -37,22 +37,27 @@ abbrev pub string : List ℕ → Tree
 string bs = Cat (letters_of bs)
 
 abbrev pub rule : Tree → List Statement → Rule
-rule t ss = record { line = 0; conditions = None; anchored = false; head = t; trail = None; cut = Whole; statements = ss }
+rule t ss =
+    record { line = 0; conditions = None; anchored = false; head = t; trail = None; cut = Whole; statements = ss }
 
 -- a rule with trailing context
 abbrev pub rule_before : Tree → Tree → Cut → List Statement → Rule
-rule_before t u cut ss = record { line = 0; conditions = None; anchored = false; head = t; trail = Some u; cut = cut; statements = ss }
+rule_before t u cut ss =
+    record { line = 0; conditions = None; anchored = false; head = t; trail = Some u; cut = cut; statements = ss }
 
 -- a rule with `^`
 abbrev pub rule_at_line : Tree → List Statement → Rule
-rule_at_line t ss = record { line = 0; conditions = None; anchored = true; head = t; trail = None; cut = Whole; statements = ss }
+rule_at_line t ss =
+    record { line = 0; conditions = None; anchored = true; head = t; trail = None; cut = Whole; statements = ss }
 
 -- a rule with a list of conditions
 abbrev pub rule_in : List ℕ → Tree → List Statement → Rule
-rule_in cs t ss = record { line = 0; conditions = Some cs; anchored = false; head = t; trail = None; cut = Whole; statements = ss }
+rule_in cs t ss =
+    record { line = 0; conditions = Some cs; anchored = false; head = t; trail = None; cut = Whole; statements = ss }
 
 abbrev pub condition : List ℕ → Bool → List ℕ → ℕ → Condition
-condition name exclusive print status = record { name = name; exclusive = exclusive; end = record { print = print; status = status } }
+condition name exclusive print status =
+    record { name = name; exclusive = exclusive; end = record { print = print; status = status } }
 
 abbrev pub initial : Condition
 initial = condition (codes "INITIAL") false [] 0
@@ -66,11 +71,14 @@ nothing = of_rules []
 
 -- `if printf("K");` and `[0-9][0-9] printf("N");`
 abbrev pub keys : Spec
-keys = of_rules (rule (string (codes "if")) (Print (codes "K") ∷ []) ∷ rule (Cat (tree digit (tree digit no_trees))) (Print (codes "N") ∷ []) ∷ [])
+keys = of_rules
+    (rule (string (codes "if")) (Print (codes "K") ∷ [])
+    ∷ rule (Cat (tree digit (tree digit no_trees))) (Print (codes "N") ∷ []) ∷ [])
 
 -- `if printf("K");` and `[a-z]+ printf("I");`
 abbrev pub keyword_or_word : Spec
-keyword_or_word = of_rules (rule (string (codes "if")) (Print (codes "K") ∷ []) ∷ rule word (Print (codes "I") ∷ []) ∷ [])
+keyword_or_word =
+    of_rules (rule (string (codes "if")) (Print (codes "K") ∷ []) ∷ rule word (Print (codes "I") ∷ []) ∷ [])
 
 -- `mega- ECHO; yymore();` and `kludge ECHO;`
 abbrev pub mega : Spec
@@ -83,7 +91,8 @@ foobar = of_rules (rule (string (codes "foobar")) (Echo ∷ Less 3 ∷ []) ∷ r
 -- `a |`, `ab |`, `abc |`, `abcd ECHO; REJECT;` and `.|\n ;`
 abbrev pub all_fronts : Spec
 all_fronts = of_rules (rule (letter 97) (Echo ∷ Reject ∷ []) ∷ rule (string (codes "ab")) (Echo ∷ Reject ∷ [])
-    ∷ rule (string (codes "abc")) (Echo ∷ Reject ∷ []) ∷ rule (string (codes "abcd")) (Echo ∷ Reject ∷ []) ∷ rule any_byte [] ∷ [])
+    ∷ rule (string (codes "abc")) (Echo ∷ Reject ∷ []) ∷ rule (string (codes "abcd")) (Echo ∷ Reject ∷ [])
+    ∷ rule any_byte [] ∷ [])
 
 -- `aa yymore();` and `b ECHO; yyless(1);`
 abbrev pub less_of_more : Spec
@@ -99,7 +108,10 @@ trim_lines = of_rules (rule_before (Repeat (Set (union (single 32) (single 9))) 
 
 -- `ab/cd printf("[%s]", yytext);`
 abbrev pub before_cd : Spec
-before_cd = of_rules (rule_before (string (codes "ab")) (string (codes "cd")) (Head 2) (Print (codes "[") ∷ Echo ∷ Print (codes "]") ∷ []) ∷ [])
+before_cd =
+    of_rules
+    (rule_before (string (codes "ab")) (string (codes "cd")) (Head 2)
+    (Print (codes "[") ∷ Echo ∷ Print (codes "]") ∷ []) ∷ [])
 
 -- `^a printf("A");`
 abbrev pub first_a : Spec
@@ -109,7 +121,8 @@ first_a = of_rules (rule_at_line (letter 97) (Print (codes "A") ∷ []) ∷ [])
 abbrev pub comments : Spec
 comments = record {
   conditions = initial ∷ condition (codes "C") true (codes "open") 3 ∷ [];
-  rules = rule (string (codes "/*")) (Begin 1 ∷ []) ∷ rule_in (1 ∷ []) (string (codes "*/")) (Begin 0 ∷ []) ∷ rule_in (1 ∷ []) any_byte [] ∷ [];
+  rules = rule (string (codes "/*")) (Begin 1 ∷ []) ∷ rule_in (1 ∷ []) (string (codes "*/")) (Begin 0 ∷ [])
+      ∷ rule_in (1 ∷ []) any_byte [] ∷ [];
 }
 
 -- `abc printf("X");`
@@ -126,7 +139,9 @@ exit_after_bs = of_rules (rule (Cat (tree (letter 97) (tree (Star (letter 98)) n
 
 -- `ab{2} printf("X");`
 abbrev pub two_bs : Spec
-two_bs = of_rules (rule (Cat (tree (letter 97) (tree (Repeat (letter 98) 2 (Some 2)) no_trees))) (Print (codes "X") ∷ []) ∷ [])
+two_bs =
+    of_rules
+    (rule (Cat (tree (letter 97) (tree (Repeat (letter 98) 2 (Some 2)) no_trees))) (Print (codes "X") ∷ []) ∷ [])
 
 -- `[^a]+ printf("N");`, whatever the case of letters
 abbrev pub not_a : Spec
@@ -136,7 +151,8 @@ not_a = of_rules (rule (Repeat (Set (complement (fold_case (single 97)))) 1 None
 abbrev pub switched : Bool → Spec
 switched exclusive = record {
   conditions = initial ∷ condition (codes "C") exclusive [] 0 ∷ [];
-  rules = rule (letter 97) (Begin 1 ∷ []) ∷ rule (letter 98) (Print (codes "B") ∷ []) ∷ rule_in (1 ∷ []) (letter 99) (Begin 0 ∷ []) ∷ [];
+  rules = rule (letter 97) (Begin 1 ∷ []) ∷ rule (letter 98) (Print (codes "B") ∷ [])
+      ∷ rule_in (1 ∷ []) (letter 99) (Begin 0 ∷ []) ∷ [];
 }
 
 -- `ab ECHO; REJECT;` and `[a-z]+ printf("W");`
@@ -153,12 +169,14 @@ says_end = record { conditions = condition (codes "INITIAL") false (codes "end" 
 
 -- `a$b printf("X");` and `\x41 printf("Y");`
 abbrev pub dollar_inside : Spec
-dollar_inside = of_rules (rule (string (codes "a$b")) (Print (codes "X") ∷ []) ∷ rule (letter 65) (Print (codes "Y") ∷ []) ∷ [])
+dollar_inside =
+    of_rules (rule (string (codes "a$b")) (Print (codes "X") ∷ []) ∷ rule (letter 65) (Print (codes "Y") ∷ []) ∷ [])
 
 -- `a+`, with REJECT or without, and `aa`
 abbrev pub many_or_two : Bool → Spec
 many_or_two rejecting =
-    of_rules (rule (Repeat (letter 97) 1 None) (if rejecting then Reject ∷ [] else []) ∷ rule (string (codes "aa")) [] ∷ [])
+    of_rules
+    (rule (Repeat (letter 97) 1 None) (if rejecting then Reject ∷ [] else []) ∷ rule (string (codes "aa")) [] ∷ [])
 
 -- `""` and `a REJECT;`
 abbrev pub nothing_or_a : Spec
@@ -195,24 +213,31 @@ only_pushes = of_rules (rule (letter 97) (Push 0 ∷ []) ∷ [])
 abbrev pub pushes_after_begin : Spec
 pushes_after_begin = record {
   conditions = initial ∷ condition (codes "C") true [] 0 ∷ condition (codes "D") true [] 0 ∷ [];
-  rules = rule (letter 97) (Begin 1 ∷ Push 2 ∷ []) ∷ rule_in (2 ∷ []) (letter 98) (Pop ∷ []) ∷ rule_in (1 ∷ []) (letter 99) (Print (codes "C") ∷ []) ∷ [];
+  rules = rule (letter 97) (Begin 1 ∷ Push 2 ∷ []) ∷ rule_in (2 ∷ []) (letter 98) (Pop ∷ [])
+      ∷ rule_in (1 ∷ []) (letter 99) (Print (codes "C") ∷ []) ∷ [];
 }
 
--- `%x C`; `"(" printf("<"); yy_push_state(C);`, `<C>"(" printf("<"); yy_push_state(C);` and `<C>")" printf(">"); yy_pop_state();`
+-- `%x C`; `"(" printf("<"); yy_push_state(C);`, `<C>"(" printf("<"); yy_push_state(C);` and `<C>")" printf(">");
+-- yy_pop_state();`
 abbrev pub parentheses : Spec
 parentheses = record {
   conditions = initial ∷ condition (codes "C") true [] 0 ∷ [];
-  rules = rule (letter 40) (Print (codes "<") ∷ Push 1 ∷ []) ∷ rule_in (1 ∷ []) (letter 40) (Print (codes "<") ∷ Push 1 ∷ [])
+  rules = rule (letter 40) (Print (codes "<") ∷ Push 1 ∷ [])
+      ∷ rule_in (1 ∷ []) (letter 40) (Print (codes "<") ∷ Push 1 ∷ [])
       ∷ rule_in (1 ∷ []) (letter 41) (Print (codes ">") ∷ Pop ∷ []) ∷ [];
 }
 
 -- `ab yy_push_state(0); REJECT;` and `a printf("A"); yy_pop_state();`
 abbrev pub rejects_after_push : Spec
-rejects_after_push = of_rules (rule (string (codes "ab")) (Push 0 ∷ Reject ∷ []) ∷ rule (letter 97) (Print (codes "A") ∷ Pop ∷ []) ∷ [])
+rejects_after_push =
+    of_rules (rule (string (codes "ab")) (Push 0 ∷ Reject ∷ []) ∷ rule (letter 97) (Print (codes "A") ∷ Pop ∷ []) ∷ [])
 
 -- `a/bc printf("1");` and `ab printf("2");`
 abbrev pub longer_by_context : Spec
-longer_by_context = of_rules (rule_before (letter 97) (string (codes "bc")) (Head 1) (Print (codes "1") ∷ []) ∷ rule (string (codes "ab")) (Print (codes "2") ∷ []) ∷ [])
+longer_by_context =
+    of_rules
+    (rule_before (letter 97) (string (codes "bc")) (Head 1) (Print (codes "1") ∷ [])
+    ∷ rule (string (codes "ab")) (Print (codes "2") ∷ []) ∷ [])
 
 -- `x yymore();` and `^a printf("A");`
 abbrev pub line_after_more : Spec
@@ -222,12 +247,15 @@ line_after_more = of_rules (rule (letter 120) (More ∷ []) ∷ rule_at_line (le
 abbrev pub rejects_after_begin : Spec
 rejects_after_begin = record {
   conditions = initial ∷ condition (codes "C") true [] 0 ∷ [];
-  rules = rule (string (codes "ab")) (Begin 1 ∷ Reject ∷ []) ∷ rule (letter 97) (Print (codes "A") ∷ []) ∷ rule_in (1 ∷ []) (letter 98) (Print (codes "C") ∷ []) ∷ [];
+  rules = rule (string (codes "ab")) (Begin 1 ∷ Reject ∷ []) ∷ rule (letter 97) (Print (codes "A") ∷ [])
+      ∷ rule_in (1 ∷ []) (letter 98) (Print (codes "C") ∷ []) ∷ [];
 }
 
 -- `x yymore();`, `ab REJECT;` and `a ECHO;`
 abbrev pub rejects_after_more : Spec
-rejects_after_more = of_rules (rule (letter 120) (More ∷ []) ∷ rule (string (codes "ab")) (Reject ∷ []) ∷ rule (letter 97) (Echo ∷ []) ∷ [])
+rejects_after_more =
+    of_rules
+    (rule (letter 120) (More ∷ []) ∷ rule (string (codes "ab")) (Reject ∷ []) ∷ rule (letter 97) (Echo ∷ []) ∷ [])
 
 -- `ab yyless(n); ECHO;`
 abbrev pub echoes_after_less : ℕ → Spec
@@ -235,4 +263,5 @@ echoes_after_less n = of_rules (rule (string (codes "ab")) (Less n ∷ Echo ∷ 
 
 -- `ab yyless(5); printf("[%s]", yytext);`
 abbrev pub brackets_after_less : Spec
-brackets_after_less = of_rules (rule (string (codes "ab")) (Less 5 ∷ Print (codes "[") ∷ Echo ∷ Print (codes "]") ∷ []) ∷ [])
+brackets_after_less =
+    of_rules (rule (string (codes "ab")) (Less 5 ∷ Print (codes "[") ∷ Echo ∷ Print (codes "]") ∷ []) ∷ [])

@@ -1,5 +1,5 @@
--- A machine of states, the rules that it tells, and when it is one for a specification. (flex, How the Input Is Matched,
--- says what a scanner does; that a machine does it is this project's.)
+-- A machine of states, the rules that it tells, and when it is one for a specification. (flex, How the Input Is
+-- Matched, says what a scanner does; that a machine does it is this project's.)
 use Rattle.std.specs.Prelude.{◌≡◌, ℕ, ◌+◌, ◌≤◌, Bool, true, List, length, fold}
 use Rattle.lex_semantics.specs.Text.{Among}
 use Rattle.lex_semantics.specs.Spec.{Cut, Whole, Head, Trail, Statement, EndAction}

@@ -57,21 +57,29 @@ exit_after_bs = machine 1 (λ s b. if nat_eq s 1 && nat_eq b 97 then 2 else (if 
 -- 1 is the start, 2 after i, 3 after if, 4 after a digit, 5 after two
 abbrev pub keys : Machine
 keys = machine 2
-    (λ s b. if nat_eq s 1 && nat_eq b 105 then 2 else (if nat_eq s 2 && nat_eq b 102 then 3 else (if nat_eq s 1 && within 48 57 b then 4 else (if nat_eq s 4 && within 48 57 b then 5 else 0))))
-    (λ s. if nat_eq s 3 then 0 ∷ [] else (if nat_eq s 5 then 1 ∷ [] else [])) (λ s. nat_eq s 1 || nat_eq s 2 || nat_eq s 4) whole
+    (λ s b. if nat_eq s 1 && nat_eq b 105 then 2
+    else (if nat_eq s 2 && nat_eq b 102 then 3
+    else (if nat_eq s 1 && within 48 57 b then 4 else (if nat_eq s 4 && within 48 57 b then 5 else 0))))
+    (λ s. if nat_eq s 3 then 0 ∷ [] else (if nat_eq s 5 then 1 ∷ [] else []))
+    (λ s. nat_eq s 1 || nat_eq s 2 || nat_eq s 4) whole
     (λ i. if nat_eq i 0 then Print (codes "K") ∷ [] else Print (codes "N") ∷ [])
 
 -- 1 is the start, 2 after a, 3 after ab, 4 after abc
 abbrev pub abc : Machine
 abc = machine 1
-    (λ s b. if nat_eq s 1 && nat_eq b 97 then 2 else (if nat_eq s 2 && nat_eq b 98 then 3 else (if nat_eq s 3 && nat_eq b 99 then 4 else 0)))
-    (λ s. if nat_eq s 4 then 0 ∷ [] else []) (λ s. nat_eq s 1 || nat_eq s 2 || nat_eq s 3) whole (λ i. Print (codes "X") ∷ [])
+    (λ s b. if nat_eq s 1 && nat_eq b 97 then 2
+    else (if nat_eq s 2 && nat_eq b 98 then 3 else (if nat_eq s 3 && nat_eq b 99 then 4 else 0)))
+    (λ s. if nat_eq s 4 then 0 ∷ [] else []) (λ s. nat_eq s 1 || nat_eq s 2 || nat_eq s 3) whole
+    (λ i. Print (codes "X") ∷ [])
 
 -- 1 is the start, 2 to 5 after the bytes of abcd
 abbrev pub before_cd : Machine
 before_cd = machine 1
-    (λ s b. if nat_eq s 1 && nat_eq b 97 then 2 else (if nat_eq s 2 && nat_eq b 98 then 3 else (if nat_eq s 3 && nat_eq b 99 then 4 else (if nat_eq s 4 && nat_eq b 100 then 5 else 0))))
-    (λ s. if nat_eq s 5 then 0 ∷ [] else []) (λ s. nat_eq s 1 || nat_eq s 2 || nat_eq s 3 || nat_eq s 4) (λ i. Head 2) (λ i. Print (codes "[") ∷ Echo ∷ Print (codes "]") ∷ [])
+    (λ s b. if nat_eq s 1 && nat_eq b 97 then 2
+    else (if nat_eq s 2 && nat_eq b 98 then 3
+    else (if nat_eq s 3 && nat_eq b 99 then 4 else (if nat_eq s 4 && nat_eq b 100 then 5 else 0))))
+    (λ s. if nat_eq s 5 then 0 ∷ [] else []) (λ s. nat_eq s 1 || nat_eq s 2 || nat_eq s 3 || nat_eq s 4) (λ i. Head 2)
+    (λ i. Print (codes "[") ∷ Echo ∷ Print (codes "]") ∷ [])
 
 -- 1 is the start, 2 after letters
 abbrev pub one_by_one : Machine
@@ -81,6 +89,8 @@ one_by_one = machine 1 (λ s b. if (nat_eq s 1 || nat_eq s 2) && nat_le 97 b && 
 -- 1 is the start, 2 after a, 3 after two, 4 after more; the first rule has REJECT
 abbrev pub many_or_two : Machine
 many_or_two = machine 2
-    (λ s b. if nat_eq b 97 && nat_eq s 1 then 2 else (if nat_eq b 97 && nat_eq s 2 then 3 else (if nat_eq b 97 && (nat_eq s 3 || nat_eq s 4) then 4 else 0)))
-    (λ s. if nat_eq s 3 then 0 ∷ 1 ∷ [] else (if nat_eq s 2 || nat_eq s 4 then 0 ∷ [] else [])) (λ s. nat_le 1 s && nat_le s 4) whole
+    (λ s b. if nat_eq b 97 && nat_eq s 1 then 2
+    else (if nat_eq b 97 && nat_eq s 2 then 3 else (if nat_eq b 97 && (nat_eq s 3 || nat_eq s 4) then 4 else 0)))
+    (λ s. if nat_eq s 3 then 0 ∷ 1 ∷ [] else (if nat_eq s 2 || nat_eq s 4 then 0 ∷ [] else []))
+    (λ s. nat_le 1 s && nat_le s 4) whole
     (λ i. if nat_eq i 0 then Reject ∷ [] else [])

@@ -21,8 +21,8 @@ pub record MachineLaws (M : Machine) : Type 0 where
   pub goes_on : (s : ℕ) → (M.goes_on s ≡ true) ↔ ∥ LeadsToAccept M s ∥₁
   pub legal : (i : ℕ) → i < M.count → IsAction M.conditions (M.statements i)
 
--- The machine's states are the numbers below n: the dead one, those in which matches start, and those that a byte leads to
--- from one of them. No other number accepts.
+-- The machine's states are the numbers below n: the dead one, those in which matches start, and those that a byte leads
+-- to from one of them. No other number accepts.
 pub record StaysBelow (M : Machine) (n : ℕ) : Type 0 where
   pub dead : 0 < n
   pub start : (c : ℕ) (line_start : Bool) → c < M.conditions → M.start c line_start < n
@@ -54,8 +54,11 @@ MachineLaws-prop M x y = λ k. record {
   ascending = λ s. Ascending-prop (M.accepts s) (x.ascending s) (y.ascending s) k;
   dead_stays = λ b. (let p : IsProp (M.next 0 b ≡ 0) = Prim.hlevel props in p) (x.dead_stays b) (y.dead_stays b) k;
   dead_accepts = (let p : IsProp (M.accepts 0 ≡ []) = Prim.hlevel props in p) x.dead_accepts y.dead_accepts k;
-  goes_on = λ s. (let p : IsProp ((M.goes_on s ≡ true) ↔ ∥ LeadsToAccept M s ∥₁) = Prim.hlevel props in p) (x.goes_on s) (y.goes_on s) k;
-  legal = λ i h. (let p : IsProp (IsAction M.conditions (M.statements i)) = Prim.hlevel props in p) (x.legal i h) (y.legal i h) k;
+  goes_on =
+      λ s. (let p : IsProp ((M.goes_on s ≡ true) ↔ ∥ LeadsToAccept M s ∥₁) = Prim.hlevel props in p) (x.goes_on s)
+      (y.goes_on s) k;
+  legal = λ i h. (let p : IsProp (IsAction M.conditions (M.statements i)) = Prim.hlevel props in p) (x.legal i h)
+      (y.legal i h) k;
 }
 
 pub StaysBelow-prop : (M : Machine) (n : ℕ) → IsProp (StaysBelow M n)

@@ -67,7 +67,8 @@ fronts_trail (Some t) w = fronts t w
 
 -- the matches of rule i at the front of y, in any order
 abbrev pub matches_from : Rule → ℕ → List ℕ → List ℕ → List Candidate
-matches_from r i y v = map (λ z. record { len = length y - length z; rule = i; keep = length y - length v }) (fronts_trail r.trail v)
+matches_from r i y v =
+    map (λ z. record { len = length y - length z; rule = i; keep = length y - length v }) (fronts_trail r.trail v)
 
 abbrev pub matches_of_rule : Rule → ℕ → List ℕ → List Candidate
 matches_of_rule r i y = flat_map (matches_from r i y) (shorter y (fronts r.head y))
@@ -107,11 +108,13 @@ ordered (m ∷ ms) = insert_to m (ordered ms)
 
 -- all the matches at the front of y
 abbrev pub candidates_of : Spec → ℕ → Bool → List ℕ → Option (List Candidate)
-candidates_of S c line_start y = ordered (matches_of_rules S c line_start S.rules 0 y ++ default_match (length S.rules) y)
+candidates_of S c line_start y =
+    ordered (matches_of_rules S c line_start S.rules 0 y ++ default_match (length S.rules) y)
 
 abbrev pub after_match : State → Option Acting → Option State
 after_match s None = None
-after_match s (Some o) = Some (record { written = s.written ++ o.written; place = next_place s.place o; ended = o.ended })
+after_match s (Some o) =
+    Some (record { written = s.written ++ o.written; place = next_place s.place o; ended = o.ended })
 
 -- how the matches at a place are listed: condition, start of a line, and the input from there
 abbrev pub Listing : Type 0
@@ -120,7 +123,8 @@ Listing = ℕ → Bool → List ℕ → Option (List Candidate)
 abbrev pub perform_at : Rules → List ℕ → State → Option (List Candidate) → Option State
 perform_at R x s None = None
 perform_at R x s (Some ms) =
-    after_match s (perform R (part x s.place.start s.place.at) (drop s.place.at x) ms [] s.place.condition s.place.stack)
+    after_match s
+    (perform R (part x s.place.start s.place.at) (drop s.place.at x) ms [] s.place.condition s.place.stack)
 
 abbrev pub after_end : Rules → State → State
 after_end R s =

@@ -46,7 +46,9 @@ abbrev pub told : Machine → List ℕ → ℕ → ℕ → State → Option Endi
 told M x zero f s e t = []
 told M x (suc n) f s (Some e) t = []
 told M x (suc n) f s None None = []
-told M x (suc n) f s None (Some t) = (far_of M x s f, t.place.start) ∷ told M x n (far_of M x s f) t t.ended (turn_of (rules_of_machine M) (machine_candidates M) x t)
+told M x (suc n) f s None (Some t) =
+    (far_of M x s f, t.place.start)
+    ∷ told M x n (far_of M x s f) t t.ended (turn_of (rules_of_machine M) (machine_candidates M) x t)
 
 abbrev pub told_of : Machine → List ℕ → ℕ → List (ℕ × ℕ)
 told_of M x n = told M x n 0 first_state None (turn_of (rules_of_machine M) (machine_candidates M) x first_state)

@@ -28,7 +28,8 @@ abbrev mutual
   Reads (Star t) base rs = (k : ℕ) × Iterates (λ j. Reads t base) 0 k rs
   -- pass j uses copy j, and past the last copy the last again
   Reads (Repeat t m n) base rs =
-      (k : ℕ) × (m ≤ k) × IfSome n (λ n. k ≤ n) × Iterates (λ j. Reads t (base + min j (copies m n - 1) * positions t)) 0 k rs
+      (k : ℕ) × (m ≤ k) × IfSome n (λ n. k ≤ n)
+      × Iterates (λ j. Reads t (base + min j (copies m n - 1) * positions t)) 0 k rs
 
   pub ReadsEach : Trees → ℕ → List MarkedByte → Type 0
   ReadsEach no_trees base rs = rs ≡ []
@@ -43,7 +44,8 @@ abbrev mutual
 abbrev pub Matches : Tree → List ℕ → Type 0
 Matches t w = (rs : List MarkedByte) × (map (λ c. c.0) rs ≡ w) × Reads t 0 rs
 
--- Names that the code and proofs have: for the positions of all the parts, for a set of readings, for the word that is read, and for a word with a reading.
+-- Names that the code and proofs have: for the positions of all the parts, for a set of readings, for the word that is
+-- read, and for a word with a reading.
 
 abbrev pub positions_of : Trees → ℕ
 positions_of ts = weight_of (λ k. k) (λ m n k. copies m n * k) ts

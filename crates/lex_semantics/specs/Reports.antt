@@ -10,8 +10,8 @@ use Rattle.lex_semantics.specs.Fits.{Fits}
 abbrev pub HasFit : Spec → ℕ → Bool → List ℕ → ℕ → Type 0
 HasFit S c line_start w i = (k : ℕ) × Fits S c line_start w i k
 
--- The rule cannot be matched: each word that fits it fits an earlier rule too, which is taken. Where some rule has REJECT,
--- no word fits it.
+-- The rule cannot be matched: each word that fits it fits an earlier rule too, which is taken. Where some rule has
+-- REJECT, no word fits it.
 abbrev pub Useless : Spec → ℕ → Type 0
 Useless S i =
     (i < length S.rules) × ((c : ℕ) (line_start : Bool) (w : List ℕ) → c < length S.conditions → IsText w

@@ -6,7 +6,8 @@ use Rattle.lex_semantics.specs.Rules.{Rules}
 use Rattle.lex_semantics.specs.Candidates.{Candidate, Candidates}
 use Rattle.lex_semantics.specs.Acting.{Ending, Status, Acting, perform}
 
--- where the current text starts, how far the input is matched, the condition, and the stack of conditions from its top down
+-- where the current text starts, how far the input is matched, the condition, and the stack of conditions from its top
+-- down
 pub record Place : Type 0 where
   pub start : ℕ
   pub at : ℕ
@@ -35,7 +36,8 @@ pub record MatchTurn (R : Rules) (x : List ℕ) (p : Place) (s : State) : Type 0
   pub matches : List Candidate
   pub all : Candidates R p.condition (at_line_start x p.at) (drop p.at x) matches
   pub outcome : Acting
-  pub performed : perform R (take (p.at - p.start) (drop p.start x)) (drop p.at x) matches [] p.condition p.stack ≡ Some outcome
+  pub performed : perform R (take (p.at - p.start) (drop p.start x)) (drop p.at x) matches [] p.condition p.stack ≡ Some
+      outcome
   pub leaves : s ≡ record { written = outcome.written; place = next_place p outcome; ended = outcome.ended }
 
 -- the end action of the condition
@@ -47,7 +49,9 @@ pub record EndTurn (R : Rules) (x : List ℕ) (p : Place) (s : State) : Type 0 w
 -- One more turn: what it writes, where it leads, and whether it ends the scan. After the end it changes nothing.
 abbrev pub NextFrom : Rules → List ℕ → State → Option Ending → State → Type 0
 NextFrom R x s (Some e) s' = s' ≡ s
-NextFrom R x s None s' = (t : State) × (MatchTurn R x s.place t ⊎ EndTurn R x s.place t) × (s' ≡ record t { written = s.written ++ t.written })
+NextFrom R x s None s' =
+    (t : State) × (MatchTurn R x s.place t ⊎ EndTurn R x s.place t)
+    × (s' ≡ record t { written = s.written ++ t.written })
 
 -- how the scan stands after n turns
 abbrev pub Turns : Rules → List ℕ → ℕ → State → Type 0

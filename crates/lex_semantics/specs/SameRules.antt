@@ -9,5 +9,7 @@ pub record SameRules (S S' : Spec) : Type 0 where
   pub conditions : length S.conditions ≡ length S'.conditions
   pub rules : length S.rules ≡ length S'.rules
   pub ending : (c : ℕ) → end_at (slice_get S.conditions c) ≡ end_at (slice_get S'.conditions c)
-  pub actions : (i : ℕ) (r r' : Rule) → slice_get S.rules i ≡ Some r → slice_get S'.rules i ≡ Some r' → (r.cut ≡ r'.cut) × (r.statements ≡ r'.statements)
-  pub fits : (c : ℕ) (line_start : Bool) (w : List ℕ) (i k : ℕ) → c < length S.conditions → IsText w → Fits S c line_start w i k ↔ Fits S' c line_start w i k
+  pub actions : (i : ℕ) (r r' : Rule) → slice_get S.rules i ≡ Some r → slice_get S'.rules i ≡ Some r' → (r.cut ≡ r'.cut)
+      × (r.statements ≡ r'.statements)
+  pub fits : (c : ℕ) (line_start : Bool) (w : List ℕ) (i k : ℕ) → c < length S.conditions → IsText w
+      → Fits S c line_start w i k ↔ Fits S' c line_start w i k

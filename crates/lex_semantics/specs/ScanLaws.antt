@@ -12,7 +12,9 @@ use Rattle.lex_semantics.specs.PlainMachine.{told_of}
 
 -- the matches at a place are listed in one way
 abbrev pub OneList : Rules → Type 0
-OneList R = (c : ℕ) (line_start : Bool) (y : List ℕ) (ms ns : List Candidate) → Candidates R c line_start y ms → Candidates R c line_start y ns → ms ≡ ns
+OneList R =
+    (c : ℕ) (line_start : Bool) (y : List ℕ) (ms ns : List Candidate) → Candidates R c line_start y ms
+    → Candidates R c line_start y ns → ms ≡ ns
 
 -- and in some way
 abbrev pub SomeList : Rules → Type 0
@@ -48,22 +50,28 @@ OneReach R = (x : List ℕ) (p : Place) (q r : ℕ) → Reach R x p q → Reach 
 
 -- and in some way
 abbrev pub SomeReach : Rules → Type 0
-SomeReach R = (x : List ℕ) (p : Place) → IsText x → p.at < length x → p.condition < R.conditions → (r : ℕ) × Reach R x p r
+SomeReach R =
+    (x : List ℕ) (p : Place) → IsText x → p.at < length x → p.condition < R.conditions → (r : ℕ) × Reach R x p r
 
 -- After n turns a scan stands in one way, and they ask for one number of bytes, and for the end or not.
 abbrev pub OneDemand : Rules → Type 0
-OneDemand R = (x : List ℕ) (n : ℕ) (s t : State) (f g : ℕ) (d e : Bool) → AfterTurns R x n s f d → AfterTurns R x n t g e → (s ≡ t) × (f ≡ g) × (d ≡ e)
+OneDemand R =
+    (x : List ℕ) (n : ℕ) (s t : State) (f g : ℕ) (d e : Bool) → AfterTurns R x n s f d → AfterTurns R x n t g e
+    → (s ≡ t) × (f ≡ g) × (d ≡ e)
 
 -- and there are such
 abbrev pub SomeDemand : Rules → Type 0
-SomeDemand R = (x : List ℕ) (n : ℕ) → IsText x → (s : State) × (far : ℕ) × (end_asked : Bool) × AfterTurns R x n s far end_asked
+SomeDemand R =
+    (x : List ℕ) (n : ℕ) → IsText x → (s : State) × (far : ℕ) × (end_asked : Bool) × AfterTurns R x n s far end_asked
 
 -- The same where nothing decides which words are live: it is never so that there is no reach, and no such state.
 abbrev pub NeverNoReach : Rules → Type 0
 NeverNoReach R = (x : List ℕ) (p : Place) → IsText x → p.at < length x → ((r : ℕ) → Reach R x p r → ⊥) → ⊥
 
 abbrev pub NeverNoDemand : Rules → Type 0
-NeverNoDemand R = (x : List ℕ) (n : ℕ) → IsText x → ((s : State) (far : ℕ) (end_asked : Bool) → AfterTurns R x n s far end_asked → ⊥) → ⊥
+NeverNoDemand R =
+    (x : List ℕ) (n : ℕ) → IsText x → ((s : State) (far : ℕ) (end_asked : Bool) → AfterTurns R x n s far end_asked → ⊥)
+    → ⊥
 
 -- The text starts at or before the place, and the place is not past what the turns asked for.
 abbrev pub StaysCovered : Rules → Type 0
@@ -71,16 +79,20 @@ StaysCovered R = (x : List ℕ) (n : ℕ) (s : State) (f : ℕ) → IsText x →
 
 -- Turns that ask for nothing after the bytes of `front`, and not for the end, are the same whatever follows.
 abbrev pub SameWhateverFollows : Rules → Type 0
-SameWhateverFollows R = (front a b : List ℕ) → IsText (front ++ a) → IsText (front ++ b) → (n : ℕ) (s : State) (f : ℕ) → f ≤ length front →
+SameWhateverFollows R =
+    (front a b : List ℕ) → IsText (front ++ a) → IsText (front ++ b) → (n : ℕ) (s : State) (f : ℕ) → f ≤ length front →
     AfterTurns R (front ++ a) n s f false → AfterTurns R (front ++ b) n s f false
 
 -- What n turns write is a front of what the run writes.
 abbrev pub BeginsTheRun : Rules → Type 0
-BeginsTheRun R = (x : List ℕ) (n : ℕ) (s : State) (w : List ℕ) (d : Ending) → Turns R x n s → Run R x w d → BeginsWith w s.written
+BeginsTheRun R =
+    (x : List ℕ) (n : ℕ) (s : State) (w : List ℕ) (d : Ending) → Turns R x n s → Run R x w d → BeginsWith w s.written
 
 -- So is what they write and a front of what the next turn writes.
 abbrev pub PartBeginsTheRun : Rules → Type 0
-PartBeginsTheRun R = (x : List ℕ) (n : ℕ) (s t : State) (v w : List ℕ) (d : Ending) → Turns R x n s → s.ended ≡ None → Turn R x s.place t →
+PartBeginsTheRun R =
+    (x : List ℕ) (n : ℕ) (s t : State) (v w : List ℕ) (d : Ending) → Turns R x n s → s.ended ≡ None → Turn R x s.place t
+    →
     BeginsWith t.written v → Run R x w d → BeginsWith w (s.written ++ v)
 
 -- n turns and one more, of a scanner that sees one byte at a time
@@ -91,31 +103,40 @@ KnownAtFirst R = Scanned R [] false 0 first_state
 
 -- A turn that takes `more` bytes from the source, and whose match asks for r bytes and then for no more.
 abbrev pub KnownAfterMatch : Rules → Type 0
-KnownAfterMatch R = (given more : List ℕ) (at_end : Bool) (n : ℕ) (s : State) (r : ℕ) → s.ended ≡ None → Scanned R given at_end n s →
+KnownAfterMatch R =
+    (given more : List ℕ) (at_end : Bool) (n : ℕ) (s : State) (r : ℕ) → s.ended ≡ None → Scanned R given at_end n s →
     (at_end ≡ true → more ≡ []) → (h : Seen R (given ++ more) s.place r) → (AsksAt R (given ++ more) s.place r → ⊥) →
-    length (given ++ more) ≡ max (length given) (s.place.at + r) → Scanned R (given ++ more) at_end (suc n) (then_turn s (seen_turn s.place h.outcome))
+    length (given ++ more) ≡ max (length given) (s.place.at + r)
+    → Scanned R (given ++ more) at_end (suc n) (then_turn s (seen_turn s.place h.outcome))
 
 -- The same where the match asks for a byte after them, and the source answers its end.
 abbrev pub KnownAfterMatchAtEnd : Rules → Type 0
-KnownAfterMatchAtEnd R = (given more : List ℕ) (at_end : Bool) (n : ℕ) (s : State) (r : ℕ) → s.ended ≡ None → Scanned R given at_end n s →
-    (at_end ≡ true → more ≡ []) → (h : Seen R (given ++ more) s.place r) → AsksAt R (given ++ more) s.place r → s.place.at + r ≡ length (given ++ more) →
+KnownAfterMatchAtEnd R =
+    (given more : List ℕ) (at_end : Bool) (n : ℕ) (s : State) (r : ℕ) → s.ended ≡ None → Scanned R given at_end n s →
+    (at_end ≡ true → more ≡ []) → (h : Seen R (given ++ more) s.place r) → AsksAt R (given ++ more) s.place r
+    → s.place.at + r ≡ length (given ++ more) →
     Scanned R (given ++ more) true (suc n) (then_turn s (seen_turn s.place h.outcome))
 
 -- A turn at the end of the input, for which the source has answered its end.
 abbrev pub KnownAfterEnd : Rules → Type 0
-KnownAfterEnd R = (given : List ℕ) (at_end : Bool) (n : ℕ) (s t : State) → s.ended ≡ None → Scanned R given at_end n s → s.place.at ≡ length given →
+KnownAfterEnd R =
+    (given : List ℕ) (at_end : Bool) (n : ℕ) (s t : State) → s.ended ≡ None → Scanned R given at_end n s
+    → s.place.at ≡ length given →
     EndTurn R given s.place t → Scanned R given true (suc n) (then_turn s t)
 
 -- A turn of a scan that has ended.
 abbrev pub KnownOnceEnded : Rules → Type 0
-KnownOnceEnded R = (given : List ℕ) (at_end : Bool) (n : ℕ) (s : State) (e : Ending) → s.ended ≡ Some e → Scanned R given at_end n s → Scanned R given at_end (suc n) s
+KnownOnceEnded R =
+    (given : List ℕ) (at_end : Bool) (n : ℕ) (s : State) (e : Ending) → s.ended ≡ Some e → Scanned R given at_end n s
+    → Scanned R given at_end (suc n) s
 
 -- two sets of rules with the same turns, demand and run over an input
 pub record SameOver (R Q : Rules) (x : List ℕ) : Type 0 where
   pub turns : (n : ℕ) (s : State) → Turns R x n s ↔ Turns Q x n s
   pub far : (n f : ℕ) → Far R x n f ↔ Far Q x n f
   pub end_asked : (n : ℕ) → EndAsked R x n ↔ EndAsked Q x n
-  pub after : (n : ℕ) (s : State) (far : ℕ) (end_asked : Bool) → AfterTurns R x n s far end_asked ↔ AfterTurns Q x n s far end_asked
+  pub after : (n : ℕ) (s : State) (far : ℕ) (end_asked : Bool) → AfterTurns R x n s far end_asked
+      ↔ AfterTurns Q x n s far end_asked
   pub run : (w : List ℕ) (d : Ending) → Run R x w d ↔ Run Q x w d
 
 -- over each input
@@ -127,8 +148,12 @@ abbrev pub IsTold : Rules → List ℕ → ℕ → ℕ × ℕ → Type 0
 IsTold R x n row = (t : State) × Turns R x n t × Far R x n row.0 × (t.place.start ≡ row.1)
 
 abbrev pub RowsAreTold : Machine → Type 0
-RowsAreTold M = (x : List ℕ) (n i : ℕ) (row : ℕ × ℕ) → IsText x → slice_get (told_of M x n) i ≡ Some row → IsTold (rules_of_machine M) x (suc i) row
+RowsAreTold M =
+    (x : List ℕ) (n i : ℕ) (row : ℕ × ℕ) → IsText x → slice_get (told_of M x n) i ≡ Some row
+    → IsTold (rules_of_machine M) x (suc i) row
 
 -- what a listing of matches makes of an input is the run
 abbrev pub AnswersTheRun : Rules → (List ℕ → ℕ → Option (List ℕ × Ending)) → Type 0
-AnswersTheRun R program = (x : List ℕ) (n : ℕ) (w : List ℕ) (d : Ending) → ◌≡◌ {A = Option (List ℕ × Ending)} (program x n) (Some (w, d)) → Run R x w d
+AnswersTheRun R program =
+    (x : List ℕ) (n : ℕ) (w : List ℕ) (d : Ending) → ◌≡◌ {A = Option (List ℕ × Ending)} (program x n) (Some (w, d))
+    → Run R x w d

@@ -32,7 +32,8 @@ pub record Seen (R : Rules) (given : List ℕ) (p : Place) (r : ℕ) : Type 0 wh
   pub all : Candidates R p.condition (at_line_start given p.at) (take r (drop p.at given)) matches
   pub outcome : Acting
   pub performed :
-      perform_results R (part given p.start p.at) (take r (drop p.at given)) matches [] p.condition p.stack ≡ Some outcome
+      perform_results R (part given p.start p.at) (take r (drop p.at given)) matches [] p.condition p.stack ≡ Some
+      outcome
 
 abbrev pub seen_turn : (p : Place) → Acting → State
 seen_turn p o = record { written = o.written; place = next_place p o; ended = o.ended }

@@ -19,8 +19,8 @@ abbrev mutual
   AreSoundTrees no_trees = ⊤
   AreSoundTrees (tree t ts) = IsSoundTree t × AreSoundTrees ts
 
--- What a tree counts: 1 for a set, and for another node what `node` makes of the count of its parts. Of the inner tree of a
--- repetition first `times` makes the count of all copies.
+-- What a tree counts: 1 for a set, and for another node what `node` makes of the count of its parts. Of the inner tree
+-- of a repetition first `times` makes the count of all copies.
 abbrev mutual
   pub weight : (ℕ → ℕ) → (ℕ → Option ℕ → ℕ → ℕ) → Tree → ℕ
   weight node times Empty = node 0

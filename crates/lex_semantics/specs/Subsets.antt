@@ -73,7 +73,8 @@ abbrev pub IsActive : Spec → ℕ → Bool → ℕ → Type 0
 IsActive S c line_start i = (r : Rule) × (slice_get S.rules i ≡ Some r) × (active S c line_start r ≡ true)
 
 abbrev pub AreStarts : Spec → List (List ℕ) → Type 0
-AreStarts S ls = AreAll (λ l. (c : ℕ) × (line_start : Bool) × (c < length S.conditions) × ListsSet l (IsActive S c line_start)) ls
+AreStarts S ls =
+    AreAll (λ l. (c : ℕ) × (line_start : Bool) × (c < length S.conditions) × ListsSet l (IsActive S c line_start)) ls
 
 abbrev pub AreLasts : Spec → List (List ℕ) → Type 0
 AreLasts S ls =

@@ -1,4 +1,5 @@
--- When a machine is a table for a specification. (This project's; flex, How the Input Is Matched, says what it must do.)
+-- When a machine is a table for a specification. (This project's; flex, How the Input Is Matched, says what it must
+-- do.)
 use Rattle.std.specs.Prelude.{◌≡◌, ℕ, ◌<◌, Bool, true, false, List, length, ◌↔◌, Some, slice_get}
 use Rattle.lex_semantics.specs.Text.{IsText, Among, Pairwise}
 use Rattle.lex_semantics.specs.Spec.{Spec, Rule, rejects, statements_at, end_at}
@@ -16,10 +17,12 @@ Accepted S c line_start w i =
 pub record TableFor (M : Machine) (S : Spec) : Type 0 where
   pub conditions : M.conditions ≡ length S.conditions
   pub count : M.count ≡ length S.rules
-  pub ascending : (c : ℕ) (line_start : Bool) (w : List ℕ) → c < length S.conditions → IsText w → Pairwise ◌<◌ (M.accepts (state_after M c line_start w))
+  pub ascending : (c : ℕ) (line_start : Bool) (w : List ℕ) → c < length S.conditions → IsText w
+      → Pairwise ◌<◌ (M.accepts (state_after M c line_start w))
   pub accepts : (c : ℕ) (line_start : Bool) (w : List ℕ) (i : ℕ) → c < length S.conditions → IsText w →
       Among (M.accepts (state_after M c line_start w)) i ↔ Accepted S c line_start w i
-  pub goes_on : (c : ℕ) (line_start : Bool) (w : List ℕ) → c < length S.conditions → IsText w → (M.goes_on (state_after M c line_start w) ≡ true) ↔ Live S c line_start w
+  pub goes_on : (c : ℕ) (line_start : Bool) (w : List ℕ) → c < length S.conditions → IsText w
+      → (M.goes_on (state_after M c line_start w) ≡ true) ↔ Live S c line_start w
   pub cut : (i : ℕ) (r : Rule) → slice_get S.rules i ≡ Some r → M.cut i ≡ r.cut
   pub statements : (i : ℕ) → i < length S.rules → M.statements i ≡ statements_at (slice_get S.rules i)
   pub ending : (c : ℕ) → c < length S.conditions → M.ending c ≡ end_at (slice_get S.conditions c)

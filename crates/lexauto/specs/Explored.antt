@@ -35,7 +35,8 @@ abbrev pub key_at : List Key → ℕ → Key
 key_at keys i = slice_index_or keys i []
 
 -- the keys so far are reached, and the moves so far are the steps, in order of key and byte
-pub record Exploring (step : Key → ℕ → Key) (roots : List Key) (find : Key → Option ℕ) (keys : List Key) (next : List ℕ) (limit : ℕ) : Type 0 where
+pub record Exploring (step : Key → ℕ → Key) (roots : List Key) (find : Key → Option ℕ) (keys : List Key) (next : List ℕ)
+    (limit : ℕ) : Type 0 where
   pub finds : Finds find keys
   pub starts : (i : ℕ) (k : Key) → At roots i k → At keys i k
   pub only : (i : ℕ) (k : Key) → At keys i k → Reached step roots k
@@ -61,9 +62,11 @@ Held follow keys next held = 0 < length next % 256 → held ≡ follow (key_at k
 
 -- the bytes among which are all that what follows reads otherwise than the byte before
 abbrev pub Changes : (Key → ℕ → Key) → Key → ℕ → Type 0
-Changes read followers changes = (b : ℕ) → 1 ≤ b → b < 256 → has changes b ≡ false → read followers (b - 1) ≡ read followers b
+Changes read followers changes =
+    (b : ℕ) → 1 ≤ b → b < 256 → has changes b ≡ false → read followers (b - 1) ≡ read followers b
 
 -- for each key that has some of its moves, what f tells of it
-pub record TellsSoFar {A : Type 0} (none : A) (f : Key → A) (keys : List Key) (next : List ℕ) (told : List A) : Type 0 where
+pub record TellsSoFar {A : Type 0} (none : A) (f : Key → A) (keys : List Key) (next : List ℕ)
+    (told : List A) : Type 0 where
   pub len : length told ≡ (length next + 255) / 256
   pub each : (i : ℕ) → i < length told → slice_index_or told i none ≡ f (key_at keys i)

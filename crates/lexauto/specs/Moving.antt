@@ -32,7 +32,8 @@ pub record AreMasks (letters : List ByteSet) (masks : List (List Bool)) : Type 0
 
 -- among these are, for each position, all bytes of which it reads just one, that or the byte before
 abbrev pub AreChanges : (ℕ → ℕ → Bool) → List ByteSet → Type 0
-AreChanges reads changes = (q b : ℕ) → 1 ≤ b → b < 256 → has (slice_index_or changes q empty_set) b ≡ false → reads (b - 1) q ≡ reads b q
+AreChanges reads changes =
+    (q b : ℕ) → 1 ≤ b → b < 256 → has (slice_index_or changes q empty_set) b ≡ false → reads (b - 1) q ≡ reads b q
 
 -- for each byte, a set without the bytes after it
 abbrev pub HaveNoneAfter : List ByteSet → Type 0

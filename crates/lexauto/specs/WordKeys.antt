@@ -20,7 +20,8 @@ step_in S = step_by (followers_in S.rules (all_positions S.rules)) (reading_in S
 -- the key lists the last positions of the word
 abbrev pub LastKey : Spec → ℕ → Bool → List ℕ → Key → Type 0
 LastKey S c line_start w k =
-    (l : List ℕ) × (k ≡ tagged 1 l) × ListsSet l (IsLast (ReadsActive S c line_start) w) × ((p : ℕ) → Among l p → p < all_positions S.rules)
+    (l : List ℕ) × (k ≡ tagged 1 l) × ListsSet l (IsLast (ReadsActive S c line_start) w)
+    × ((p : ℕ) → Among l p → p < all_positions S.rules)
 
 -- the dead state's key, or that of a start
 abbrev pub IsRoot : Spec → Key → Type 0
@@ -34,13 +35,15 @@ pub record AreRoots (S : Spec) (find : Key → Option ℕ) (keys : List Key) : T
 
 -- the places of the starts of each condition
 abbrev pub AreStartPlaces : Spec → Bool → List Key → List ℕ → Type 0
-AreStartPlaces S line_start keys places = (c : ℕ) → c < length places → At keys (slice_index places c) (start_key S c line_start)
+AreStartPlaces S line_start keys places =
+    (c : ℕ) → c < length places → At keys (slice_index places c) (start_key S c line_start)
 
 -- what stands in the one list stands in the other at the same place
 abbrev pub Grows : List Key → List Key → Type 0
 Grows old new = (i : ℕ) (k : Key) → At old i k → At new i k
 
--- The keys are all that are reached from the starts, each once, with the moves between them, and the places of the starts.
+-- The keys are all that are reached from the starts, each once, with the moves between them, and the places of the
+-- starts.
 pub record Surveys (S : Spec) (keys : List Key) (next starts line_starts : List ℕ) : Type 0 where
   pub roots : List Key
   pub only : (i : ℕ) (k : Key) → At roots i k → IsRoot S k

@@ -43,7 +43,8 @@ pub record Arrangement (order place block first middle end : List ℕ) : Type 0 
   pub numbered : (x : ℕ) → x < length block → slice_index block x < length first
   pub after : (x : ℕ) → x < length block → slice_index first (slice_index block x) ≤ slice_index place x
   pub before : (x : ℕ) → x < length block → slice_index place x < slice_index end (slice_index block x)
-  pub own : (c i : ℕ) → c < length first → slice_index first c ≤ i → i < slice_index end c → slice_index block (slice_index order i) ≡ c
+  pub own : (c i : ℕ) → c < length first → slice_index first c ≤ i → i < slice_index end c
+      → slice_index block (slice_index order i) ≡ c
   pub some : (c : ℕ) → c < length first → slice_index first c < slice_index end c
   pub from : (c : ℕ) → c < length first → slice_index first c ≤ slice_index middle c
   pub to : (c : ℕ) → c < length first → slice_index middle c ≤ slice_index end c
@@ -76,7 +77,8 @@ pub record IsDivision (old : Blocks) (c piece piece_end : ℕ) (new : Blocks) : 
   pub same_states : states new ≡ states old
   pub grown : count new ≡ count old + 1
   pub piece_is : (slice_index new.first.items (count old) ≡ piece) × (slice_index new.end.items (count old) ≡ piece_end)
-  pub moved : (x : ℕ) → x < states old → piece ≤ place_of old x → place_of old x < piece_end → block_of new x ≡ count old
+  pub moved : (x : ℕ) → x < states old → piece ≤ place_of old x → place_of old x < piece_end
+      → block_of new x ≡ count old
   pub rest : (x : ℕ) → ((piece ≤ place_of old x) × (place_of old x < piece_end) → ⊥) → block_of new x ≡ block_of old x
   pub others : (d : ℕ) → d < count old → d ≢ c → (slice_index new.first.items d ≡ slice_index old.first.items d)
       × (slice_index new.middle.items d ≡ slice_index old.middle.items d)
@@ -88,8 +90,11 @@ pub record IsCut (old : Blocks) (c : ℕ) (new : Blocks) (done : Bool) : Type 0 
   pub grown : count new ≡ cond done (count old + 1) (count old)
   pub kept : (x : ℕ) → x < states old → block_of old x ≢ c → block_of new x ≡ block_of old x
   pub marks : (x : ℕ) → x < states old → block_of old x ≢ c → IsMarked new x ↔ IsMarked old x
-  pub either : (x : ℕ) → x < states old → block_of old x ≡ c → (block_of new x ≡ c) ⊎ ((done ≡ true) × (block_of new x ≡ count old))
-  pub together : (x y : ℕ) → x < states old → y < states old → block_of old x ≡ c → block_of old y ≡ c → IsMarked old x ↔ IsMarked old y → block_of new x ≡ block_of new y
-  pub apart : (x y : ℕ) → x < states old → y < states old → block_of old x ≡ c → block_of old y ≡ c → block_of new x ≡ block_of new y → IsMarked old x ↔ IsMarked old y
+  pub either : (x : ℕ) → x < states old → block_of old x ≡ c → (block_of new x ≡ c)
+      ⊎ ((done ≡ true) × (block_of new x ≡ count old))
+  pub together : (x y : ℕ) → x < states old → y < states old → block_of old x ≡ c → block_of old y ≡ c → IsMarked old x
+      ↔ IsMarked old y → block_of new x ≡ block_of new y
+  pub apart : (x y : ℕ) → x < states old → y < states old → block_of old x ≡ c → block_of old y ≡ c
+      → block_of new x ≡ block_of new y → IsMarked old x ↔ IsMarked old y
   pub touched : (d : ℕ) → d < count new → IsTouched new d → (d < count old) × (d ≢ c) × IsTouched old d
   pub remains : (d : ℕ) → d < count old → d ≢ c → IsTouched old d → IsTouched new d

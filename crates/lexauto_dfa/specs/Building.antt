@@ -23,5 +23,6 @@ pub record ArePartsOf (p : Parts) (t : ClassTable) (q : Parts) : Type 0 where
   pub next : q.next.items ≡ t.table.items
   pub count : length q.goes_on.items ≡ length t.members.items
   pub lists_len : length q.accepts.items ≡ length t.members.items
-  pub lists : (k : ℕ) → k < length t.members.items → list_at q.accepts.items k ≡ list_at p.accepts.items (slice_index t.members.items k)
+  pub lists : (k : ℕ) → k < length t.members.items
+      → list_at q.accepts.items k ≡ list_at p.accepts.items (slice_index t.members.items k)
   pub flags : (k : ℕ) → k < length t.members.items → goes_on q k ≡ goes_on p (slice_index t.members.items k)

@@ -7,12 +7,16 @@ use Rattle.lexauto_dfa.specs.Sources.{Has}
 -- Some of the blocks with marked states were cut: those that are still touched are to be cut. `m` says which states
 -- are marked, and the lists which blocks wait.
 pub record Going (old : Blocks) (waited : List ℕ) (now : Blocks) (waiting : List ℕ) (m : ℕ → Bool) : Type 0 where
-  pub finer : (x y : ℕ) → x < states old → y < states old → block_of now x ≡ block_of now y → block_of old x ≡ block_of old y
-  pub done : (x y : ℕ) → x < states old → y < states old → block_of now x ≡ block_of now y → (IsTouched now (block_of now x) → ⊥) → m x ≡ m y
+  pub finer : (x y : ℕ) → x < states old → y < states old → block_of now x ≡ block_of now y
+      → block_of old x ≡ block_of old y
+  pub done : (x y : ℕ) → x < states old → y < states old → block_of now x ≡ block_of now y
+      → (IsTouched now (block_of now x) → ⊥) → m x ≡ m y
   pub rest : (x : ℕ) → x < states old → IsTouched now (block_of now x) → IsMarked now x ↔ (m x ≡ true)
-  pub no_finer : (x y : ℕ) → x < states old → y < states old → block_of old x ≡ block_of old y → m x ≡ m y → block_of now x ≡ block_of now y
+  pub no_finer : (x y : ℕ) → x < states old → y < states old → block_of old x ≡ block_of old y → m x ≡ m y
+      → block_of now x ≡ block_of now y
   pub waits : (x : ℕ) → x < states old → Has waited (block_of old x) → Has waiting (block_of now x)
-  pub one_waits : (x y : ℕ) → x < states old → y < states old → block_of old x ≡ block_of old y → block_of now x ≢ block_of now y
+  pub one_waits : (x y : ℕ) → x < states old → y < states old → block_of old x ≡ block_of old y
+      → block_of now x ≢ block_of now y
       → Has waiting (block_of now x) ⊎ Has waiting (block_of now y)
 
 -- what holds between two cuts: each block is a stretch, none has marked states, and what waits are blocks

@@ -15,6 +15,8 @@ pub record IsOneBlock (n : ℕ) (b : Blocks) : Type 0 where
 pub record AreAlike (labels : List ℕ) (l : ℕ) (b : Blocks) (waiting : List ℕ) : Type 0 where
   pub same : (x y : ℕ) → x < states b → y < states b → block_of b x ≡ block_of b y
       → (slice_index labels x ≡ slice_index labels y) ⊎ ((l ≤ slice_index labels x) × (l ≤ slice_index labels y))
-  pub one : (x y : ℕ) → x < states b → y < states b → slice_index labels x ≡ slice_index labels y → block_of b x ≡ block_of b y
-  pub rest : (x y : ℕ) → x < states b → y < states b → l ≤ slice_index labels x → l ≤ slice_index labels y → block_of b x ≡ block_of b y
+  pub one : (x y : ℕ) → x < states b → y < states b → slice_index labels x ≡ slice_index labels y
+      → block_of b x ≡ block_of b y
+  pub rest : (x y : ℕ) → x < states b → y < states b → l ≤ slice_index labels x → l ≤ slice_index labels y
+      → block_of b x ≡ block_of b y
   pub wait : (x : ℕ) → x < states b → Has waiting (block_of b x)

@@ -9,4 +9,6 @@ use Rattle.lexauto_dfa.specs.declared.dfa.Dfa.{Dfa}
 
 -- an automaton that accepts rules of a sound specification keeps to the laws of machines with its actions
 abbrev pub AutomataAreMachines : Type 0
-AutomataAreMachines = (d : Dfa) (S : Spec) → IsSound S → ((s i : ℕ) → s < states_of d → Among (accepts_of d s) i → i < length S.rules) → MachineLaws (machine_of d S)
+AutomataAreMachines =
+    (d : Dfa) (S : Spec) → IsSound S → ((s i : ℕ) → s < states_of d → Among (accepts_of d s) i → i < length S.rules)
+    → MachineLaws (machine_of d S)

@@ -29,7 +29,9 @@ AcceptsAs p q = (c : ℕ) (line_start : Bool) → SameFuture p (start p c line_s
 
 -- after each word from each start both go on, or neither does
 abbrev pub GoesOnAs : Parts → Parts → Type 0
-GoesOnAs p q = (c : ℕ) (line_start : Bool) (w : List ℕ) → IsText w → goes_on p (after p (start p c line_start) w) ≡ goes_on q (after q (start q c line_start) w)
+GoesOnAs p q =
+    (c : ℕ) (line_start : Bool) (w : List ℕ) → IsText w
+    → goes_on p (after p (start p c line_start) w) ≡ goes_on q (after q (start q c line_start) w)
 
 -- the same starts, moves, rules and flags
 pub record AreSame (p q : Parts) : Type 0 where
@@ -41,5 +43,6 @@ pub record AreSame (p q : Parts) : Type 0 where
 
 -- the law by which there is one least automaton at most, numbered so, that accepts alike
 abbrev pub OneAutomaton : Type 0
-OneAutomaton = (d e : Dfa) → IsLeast (lists_of d) → IsLeast (lists_of e) → IsNumbered (lists_of d) → IsNumbered (lists_of e)
+OneAutomaton =
+    (d e : Dfa) → IsLeast (lists_of d) → IsLeast (lists_of e) → IsNumbered (lists_of d) → IsNumbered (lists_of e)
     → conditions_of d ≡ conditions_of e → AcceptsAs (lists_of d) (lists_of e) → AreSame (lists_of d) (lists_of e)

@@ -1,4 +1,5 @@
--- Worked examples of least automata: that of the rule `a`, one with two states too many, and one with its states exchanged.
+-- Worked examples of least automata: that of the rule `a`, one with two states too many, and one with its states
+-- exchanged.
 use Rattle.std.specs.Prelude.{◌≡◌, ℕ, true, false, List, [], ◌∷◌, ◌++◌, replicate}
 use Rattle.lexauto_dfa.specs.Parts.{lists_in}
 use Rattle.lexauto_dfa.specs.declared.dfa.Parts.{Parts}

@@ -7,7 +7,8 @@ use Rattle.lexauto_dfa.specs.Numbering.{InOrder}
 
 -- some word leads to the state from a start
 abbrev pub IsReached : Machine → ℕ → Type 0
-IsReached M s = (c : ℕ) × (line_start : Bool) × (w : List ℕ) × (c < M.conditions) × IsText w × (state_after M c line_start w ≡ s)
+IsReached M s =
+    (c : ℕ) × (line_start : Bool) × (w : List ℕ) × (c < M.conditions) × IsText w × (state_after M c line_start w ≡ s)
 
 -- some continuation, perhaps the empty one, after which other rules are accepted
 abbrev pub AreToldApart : Machine → ℕ → ℕ → Type 0
@@ -19,7 +20,8 @@ pub record IsLeastMachine (M : Machine) (n : ℕ) : Type 0 where
   pub apart : (s t : ℕ) → s < n → t < n → s ≢ t → AreToldApart M s t
 
 -- The n states but the dead one are numbered from 1 in the order of their first calls. They are called by the starts,
--- condition by condition, elsewhere and then at the start of a line, and then by the states in order of number, byte by byte.
+-- condition by condition, elsewhere and then at the start of a line, and then by the states in order of number, byte by
+-- byte.
 abbrev pub IsNumberedMachine : Machine → ℕ → Type 0
 IsNumberedMachine M n =
     InOrder 0 (flat_map (λ c. M.start c false ∷ M.start c true ∷ []) (range_with_len 0 M.conditions)

@@ -52,7 +52,8 @@ pub record IsLeast (A : Automaton) : Type 0 where
   pub reached : (s : ℕ) → s < A.states → s ≢ 0 → IsReached A s
   pub apart : (s t : ℕ) → s < A.states → t < A.states → s ≢ t → AreToldApart A s t
 
--- Numbers from 1 in the order of the first call: by the starts, and then by the states in order of number, byte by byte.
+-- Numbers from 1 in the order of the first call: by the starts, and then by the states in order of number, byte by
+-- byte.
 abbrev pub IsNumbered : Automaton → Type 0
 IsNumbered A = InOrder 0 (A.starts ++ A.table) (A.states - 1)
 

@@ -16,8 +16,10 @@ look m k = get_by (λ v. slice_cmp nat_cmp k v.items) m
 pub record AreLabels (vs : List (Vec ℕ Global)) (labels : List ℕ) : Type 0 where
   pub len : length labels ≡ length vs
   pub low : (x : ℕ) → x < length vs → slice_index labels x < length vs
-  pub same : (x y : ℕ) → x < length vs → y < length vs → slice_index labels x ≡ slice_index labels y → list_at vs x ≡ list_at vs y
-  pub one : (x y : ℕ) → x < length vs → y < length vs → list_at vs x ≡ list_at vs y → slice_index labels x ≡ slice_index labels y
+  pub same : (x y : ℕ) → x < length vs → y < length vs → slice_index labels x ≡ slice_index labels y
+      → list_at vs x ≡ list_at vs y
+  pub one : (x y : ℕ) → x < length vs → y < length vs → list_at vs x ≡ list_at vs y
+      → slice_index labels x ≡ slice_index labels y
 
 -- up to the state n
 pub record Labelled (vs : List (Vec ℕ Global)) (find : List ℕ → Option ℕ) (labels : List ℕ) (n : ℕ) : Type 0 where

@@ -23,7 +23,9 @@ machine_with S start next accepts goes_on = record {
 
 -- the state is the dead one, or some word leads to it from some start
 abbrev pub IsDeadOrReached : Machine → Spec → ℕ → Type 0
-IsDeadOrReached M S p = (p ≡ 0) ⊎ ((c : ℕ) × (line_start : Bool) × (w : List ℕ) × (c < length S.conditions) × IsText w × (state_after M c line_start w ≡ p))
+IsDeadOrReached M S p =
+    (p ≡ 0) ⊎ ((c : ℕ) × (line_start : Bool) × (w : List ℕ) × (c < length S.conditions) × IsText w
+    × (state_after M c line_start w ≡ p))
 
 -- the state after one byte more; any other number leads to the dead state
 abbrev pub moving : List ℕ → ℕ → ℕ → ℕ

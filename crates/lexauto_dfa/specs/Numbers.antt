@@ -10,7 +10,8 @@ pub record Numbering (classes of_class members : List ℕ) : Type 0 where
   pub known : (k : ℕ) → k < length members → slice_index members k < length classes
   pub back : (k : ℕ) → k < length members → slice_index of_class (slice_index classes (slice_index members k)) ≡ k
   pub forth : (c : ℕ) → c < length classes → slice_index of_class c < length classes
-      → (slice_index of_class c < length members) × (slice_index classes (slice_index members (slice_index of_class c)) ≡ c)
+      → (slice_index of_class c < length members)
+      × (slice_index classes (slice_index members (slice_index of_class c)) ≡ c)
 
 abbrev pub AreNumbers : List ℕ → Numbers → Type 0
 AreNumbers classes numbers = Numbering classes numbers.of_class.items numbers.members.items
@@ -34,12 +35,15 @@ pub record Keeps (old new : List ℕ) : Type 0 where
 pub record AreCalled (s : ℕ) (members calls : List ℕ) : Type 0 where
   pub some : 0 < length members
   pub order : InOrder 0 calls (length members - 1)
-  pub called : (k : ℕ) → 0 < k → k < length members → (i : ℕ) × (i < length calls) × (slice_index calls i ≡ k) × ((i < s) ⊎ ((i - s) / 256 < k))
+  pub called : (k : ℕ) → 0 < k → k < length members → (i : ℕ) × (i < length calls) × (slice_index calls i ≡ k)
+      × ((i < s) ⊎ ((i - s) / 256 < k))
 
 -- each place of the rows has the number of where the row's state goes by its byte
 abbrev pub AreRows : List ℕ → List ℕ → List ℕ → List ℕ → Type 0
 AreRows classes table members rows = (j : ℕ) → j < length rows
-    → (j / 256 < length members) × IsNumberOf classes members (slice_index rows j) (slice_index table (slice_index members (j / 256) * 256 + j % 256))
+    → (j / 256 < length members)
+    × IsNumberOf classes members (slice_index rows j)
+    (slice_index table (slice_index members (j / 256) * 256 + j % 256))
 
 -- a class for each state, and a row of 256 states for each, where it goes by each byte
 pub record HasRows (classes table : List ℕ) : Type 0 where
@@ -53,12 +57,14 @@ pub record RowAdded (classes table : List ℕ) (old new : Numbers) (rows rows' :
   pub numbers : AreNumbers classes new
   pub len : length rows' ≡ length rows + 256
   pub each : AreRows classes table new.members.items rows'
-  pub called : (starts : List ℕ) → AreCalled (length starts) old.members.items (starts ++ rows) → AreCalled (length starts) new.members.items (starts ++ rows')
+  pub called : (starts : List ℕ) → AreCalled (length starts) old.members.items (starts ++ rows)
+      → AreCalled (length starts) new.members.items (starts ++ rows')
   pub keeps : Keeps old.members.items new.members.items
 
 -- each start has the number of its state
 abbrev pub AreStarts : List ℕ → List ℕ → List ℕ → List ℕ → Type 0
-AreStarts classes starts members numbers = (i : ℕ) → i < length numbers → IsNumberOf classes members (slice_index numbers i) (slice_index starts i)
+AreStarts classes starts members numbers =
+    (i : ℕ) → i < length numbers → IsNumberOf classes members (slice_index numbers i) (slice_index starts i)
 
 -- The numbers of the starts were found. Classes that are called by them have numbers.
 pub record StartsAdded (classes starts : List ℕ) (old new : Numbers) (numbers_of : List ℕ) : Type 0 where
@@ -72,7 +78,8 @@ pub record StartsAdded (classes starts : List ℕ) (old new : Numbers) (numbers_
 pub record AreMade (classes starts table members numbered rows : List ℕ) : Type 0 where
   pub few : length members ≤ length classes
   pub known : (k : ℕ) → k < length members → slice_index members k < length classes
-  pub one : (j k : ℕ) → j < length members → k < length members → slice_index classes (slice_index members j) ≡ slice_index classes (slice_index members k) → j ≡ k
+  pub one : (j k : ℕ) → j < length members → k < length members
+      → slice_index classes (slice_index members j) ≡ slice_index classes (slice_index members k) → j ≡ k
   pub zero_is : slice_index members 0 ≡ 0
   pub starts_len : length numbered ≡ length starts
   pub starts_are : AreStarts classes starts members numbered

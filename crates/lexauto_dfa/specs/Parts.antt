@@ -26,7 +26,9 @@ goes_on p s = slice_index_or p.goes_on.items s false
 
 -- some word leads to the state from a start
 abbrev pub IsReachedIn : Parts → ℕ → Type 0
-IsReachedIn p s = (c : ℕ) × (line_start : Bool) × (w : List ℕ) × (c < conditions p) × IsText w × (fold (next p) (start p c line_start) w ≡ s)
+IsReachedIn p s =
+    (c : ℕ) × (line_start : Bool) × (w : List ℕ) × (c < conditions p) × IsText w
+    × (fold (next p) (start p c line_start) w ≡ s)
 
 -- Names that proofs have for the lists of accepted rules, and for the state after a word.
 abbrev pub lists_in : Parts → List (List ℕ)

@@ -17,7 +17,8 @@ known_of known t = slice_index_or known t P.None
 
 -- each of n states may be among those that go where it goes
 abbrev pub AllowMoves : List Letter → ℕ → List Predecessors → Type 0
-AllowMoves letters n known = (a x : ℕ) → a < length letters → x < n → Allows (known_of known (slice_index (row_of letters a) x)) x
+AllowMoves letters n known =
+    (a x : ℕ) → a < length letters → x < n → Allows (known_of known (slice_index (row_of letters a) x)) x
 
 -- where there is one, it is one of n states
 abbrev pub AreBelow : ℕ → List Predecessors → Type 0

@@ -6,14 +6,17 @@ use Rattle.lexauto_dfa.specs.Numbers.{AreCalled, AreRows, AreStarts}
 -- states of one class have equal futures, and of two classes they are told apart
 pub record AreClasses (A : Automaton) (classes : List ℕ) : Type 0 where
   pub all : length classes ≡ A.states
-  pub same : (x y : ℕ) → x < A.states → y < A.states → slice_index classes x ≡ slice_index classes y → SameFuture A x A y
-  pub apart : (x y : ℕ) → x < A.states → y < A.states → slice_index classes x ≢ slice_index classes y → AreToldApart A x y
+  pub same : (x y : ℕ) → x < A.states → y < A.states → slice_index classes x ≡ slice_index classes y
+      → SameFuture A x A y
+  pub apart : (x y : ℕ) → x < A.states → y < A.states → slice_index classes x ≢ slice_index classes y
+      → AreToldApart A x y
 
 -- B has a state for each class that is called, with a member, from the dead state's on
 pub record IsQuotient (A : Automaton) (classes members : List ℕ) (B : Automaton) : Type 0 where
   pub count : B.states ≡ length members
   pub known : (k : ℕ) → k < length members → slice_index members k < A.states
-  pub one : (j k : ℕ) → j < length members → k < length members → slice_index classes (slice_index members j) ≡ slice_index classes (slice_index members k) → j ≡ k
+  pub one : (j k : ℕ) → j < length members → k < length members
+      → slice_index classes (slice_index members j) ≡ slice_index classes (slice_index members k) → j ≡ k
   pub zero_is : slice_index members 0 ≡ 0
   pub starts_len : length B.starts ≡ length A.starts
   pub starts : AreStarts classes A.starts members B.starts

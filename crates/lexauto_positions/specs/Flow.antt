@@ -15,13 +15,15 @@ has_no_number (Some n) = false
 -- after `needed` of them the others may be left out. `out`: they are left by now.
 abbrev pub passes : (ℕ → Bool → Bool) → ℕ → ℕ → ℕ → Bool → Bool → ℕ → Bool
 passes leave base step needed out i zero = out || (is_zero needed && i)
-passes leave base step needed out i (suc n) = passes leave (base + step) step (needed - 1) (out || (is_zero needed && i)) (leave base i) n
+passes leave base step needed out i (suc n) =
+    passes leave (base + step) step (needed - 1) (out || (is_zero needed && i)) (leave base i) n
 
 -- Whether a copy of these is entered so that `come` holds. The last one is entered from its own end too, if it loops.
 abbrev pub comes : (ℕ → Bool → Bool) → (ℕ → Bool → Bool) → Bool → ℕ → ℕ → Bool → ℕ → Bool
 comes come leave loops base step i zero = false
 comes come leave loops base step i (suc n) =
-    come base (i || (loops && (is_zero n && leave base false))) || comes come leave loops (base + step) step (leave base i) n
+    come base (i || (loops && (is_zero n && leave base false)))
+    || comes come leave loops (base + step) step (leave base i) n
 
 -- The tree is left, if it is entered where i holds and S has the last positions.
 abbrev mutual
@@ -49,7 +51,8 @@ abbrev mutual
   enters (Cat ts) S q base i = enters_each ts S q base i
   enters (Alt ts) S q base i = enters_some ts S q base i
   enters (Star t) S q base i = enters t S q base (i || exits t S base false)
-  enters (Repeat t m n) S q base i = comes (enters t S q) (exits t S) (has_no_number n) base (positions t) i (copies m n)
+  enters (Repeat t m n) S q base i =
+      comes (enters t S q) (exits t S) (has_no_number n) base (positions t) i (copies m n)
 
   pub enters_each : Trees → (ℕ → Bool) → ℕ → ℕ → Bool → Bool
   enters_each no_trees S q base i = false

@@ -5,7 +5,8 @@ use Rattle.lex_semantics.specs.ByteSets.{ByteSet, IsIn}
 use Rattle.lex_semantics.specs.Tree.{Tree, Trees, Empty, Set, Cat, Alt, Star, Repeat, no_trees, tree}
 use Rattle.lex_semantics.specs.Positions.{MarkedByte, Readings, positions}
 
--- the empty word is read, the positions that can be first and last, those that follow one another, and the bytes of each
+-- the empty word is read, the positions that can be first and last, those that follow one another, and the bytes of
+-- each
 pub record Quad : Type 1 where
   pub null : Type 0
   pub first : ℕ → Type 0
@@ -20,7 +21,14 @@ abbrev pub skip : Quad
 skip = record { null = Unit {0}; first = λ p. ⊥; last = λ p. ⊥; follow = λ p q. ⊥; letter = λ c. ⊥ }
 
 abbrev pub leaf : ByteSet → ℕ → Quad
-leaf s base = record { null = ⊥; first = λ p. p ≡ base; last = λ p. p ≡ base; follow = λ p q. ⊥; letter = λ c. (c.1 ≡ base) × IsIn s c.0 }
+leaf s base =
+    record {
+      null = ⊥;
+      first = λ p. p ≡ base;
+      last = λ p. p ≡ base;
+      follow = λ p q. ⊥;
+      letter = λ c. (c.1 ≡ base) × IsIn s c.0;
+    }
 
 abbrev pub cat : Quad → Quad → Quad
 cat x y = record {
@@ -42,7 +50,14 @@ alt x y = record {
 
 -- one pass or more
 abbrev pub plus : Quad → Quad
-plus x = record { null = x.null; first = x.first; last = x.last; follow = λ p q. x.follow p q ⊎ (x.last p × x.first q); letter = x.letter }
+plus x =
+    record {
+      null = x.null;
+      first = x.first;
+      last = x.last;
+      follow = λ p q. x.follow p q ⊎ (x.last p × x.first q);
+      letter = x.letter;
+    }
 
 abbrev pub opt : Quad → Quad
 opt x = record { null = Unit {0}; first = x.first; last = x.last; follow = x.follow; letter = x.letter }

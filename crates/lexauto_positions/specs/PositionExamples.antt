@@ -1,5 +1,5 @@
--- Worked examples of positions, of readings, and of the count of subsets, by the rule `aa ECHO;` and by single patterns. (This
--- project's.)
+-- Worked examples of positions, of readings, and of the count of subsets, by the rule `aa ECHO;` and by single
+-- patterns. (This project's.)
 use Rattle.std.specs.Prelude.{◌≡◌, false, [], ◌∷◌, Some, None, codes}
 use Rattle.lex_semantics.specs.Tree.{Alt, Star, Repeat, trees}
 use Rattle.lex_semantics.specs.Spec.{Spec}
@@ -26,7 +26,8 @@ pub record ReadsBytes : Type 0 where
   pub star_read : Reads (Star (letter 97)) 0 ((97, 0) ∷ (97, 0) ∷ [])
   pub copies_read : Reads (Repeat (letter 97) 2 None) 0 ((97, 0) ∷ (97, 1) ∷ (97, 1) ∷ [])
 
--- The place that reads the last byte of a word. Of `aa` there are four states: the dead one, the start, and one for each byte.
+-- The place that reads the last byte of a word. Of `aa` there are four states: the dead one, the start, and one for
+-- each byte.
 pub record CountsSubsets : Type 0 where
   pub last_of_one : IsLast (ReadsActive two_as 0 false) (codes "a") 0
   pub last_of_two : IsLast (ReadsActive two_as 0 false) (codes "aa") 1

@@ -25,7 +25,8 @@ gated false x = fail
 -- the automata of the rules side by side; `on` are the active ones, counted from i
 abbrev pub active_quad : (ℕ → Bool) → ℕ → ℕ → List Rule → Quad
 active_quad on i base [] = fail
-active_quad on i base (r ∷ rules) = alt (gated (on i) (rule_quad r base)) (active_quad on (suc i) (base + positions_of_rule r) rules)
+active_quad on i base (r ∷ rules) =
+    alt (gated (on i) (rule_quad r base)) (active_quad on (suc i) (base + positions_of_rule r) rules)
 
 -- Moves don't depend on which rules are active: from a position of an active rule they are those of all rules.
 abbrev pub every : ℕ → Bool

@@ -21,17 +21,21 @@ rule_exits r S base = trail_exits r.trail S (base + positions r.head) (exits r.h
 
 -- The position q of the rule is next, if the rule is entered where i holds.
 abbrev pub rule_enters : Rule → (ℕ → Bool) → ℕ → ℕ → Bool → Bool
-rule_enters r S q base i = enters r.head S q base i || trail_enters r.trail S q (base + positions r.head) (exits r.head S base false)
+rule_enters r S q base i =
+    enters r.head S q base i || trail_enters r.trail S q (base + positions r.head) (exits r.head S base false)
 
 -- The position q of some rule is next; `on` are the rules that are entered, counted from i.
 abbrev pub rules_enter : List Rule → (ℕ → Bool) → (ℕ → Bool) → ℕ → ℕ → ℕ → Bool
 rules_enter [] on S q i base = false
-rules_enter (r ∷ rs) on S q i base = rule_enters r S q base (on i) || rules_enter rs on S q (suc i) (base + positions_of_rule r)
+rules_enter (r ∷ rs) on S q i base =
+    rule_enters r S q base (on i) || rules_enter rs on S q (suc i) (base + positions_of_rule r)
 
 -- the rules that are left at their ends, counted from i
 abbrev pub rules_left : List Rule → (ℕ → Bool) → ℕ → ℕ → List ℕ
 rules_left [] S i base = []
-rules_left (r ∷ rs) S i base = cond (rule_exits r S base) (i ∷ rules_left rs S (suc i) (base + positions_of_rule r)) (rules_left rs S (suc i) (base + positions_of_rule r))
+rules_left (r ∷ rs) S i base =
+    cond (rule_exits r S base) (i ∷ rules_left rs S (suc i) (base + positions_of_rule r))
+    (rules_left rs S (suc i) (base + positions_of_rule r))
 
 -- all of the rules, or the first of them alone
 abbrev pub chosen : Bool → List ℕ → List ℕ
@@ -62,4 +66,6 @@ trail_reads (Some t) b q base = reads t b q base
 
 abbrev pub rules_read : List Rule → ℕ → ℕ → ℕ → Bool
 rules_read [] b q base = false
-rules_read (r ∷ rs) b q base = (reads r.head b q base || trail_reads r.trail b q (base + positions r.head)) || rules_read rs b q (base + positions_of_rule r)
+rules_read (r ∷ rs) b q base =
+    (reads r.head b q base || trail_reads r.trail b q (base + positions r.head))
+    || rules_read rs b q (base + positions_of_rule r)

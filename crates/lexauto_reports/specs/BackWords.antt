@@ -20,7 +20,8 @@ Precedes w v = (length w < length v) ⊎ ((length w ≡ length v) × Smaller w v
 
 -- a word of two bytes or more leads to the state from a start
 abbrev pub IsWordTo : Machine → ℕ → List ℕ → Type 0
-IsWordTo M s w = (c : ℕ) × (line_start : Bool) × (c < M.conditions) × IsText w × (2 ≤ length w) × (state_after M c line_start w ≡ s)
+IsWordTo M s w =
+    (c : ℕ) × (line_start : Bool) × (c < M.conditions) × IsText w × (2 ≤ length w) × (state_after M c line_start w ≡ s)
 
 -- of the words of two bytes or more that lead to the state, it is the shortest, and of these the first in byte order
 abbrev pub IsFirstWord : Machine → ℕ → List ℕ → Type 0
@@ -32,7 +33,8 @@ BacksUp p s = (goes_on p s ≡ true) × (accepts p s ≡ []) × (w : List ℕ) �
 
 -- the machine is in the state after some back word of the specification
 abbrev pub IsAfterBackWord : Machine → Spec → ℕ → Type 0
-IsAfterBackWord M S s = (c : ℕ) × (line_start : Bool) × (w : List ℕ) × BackWord S c line_start w × (state_after M c line_start w ≡ s)
+IsAfterBackWord M S s =
+    (c : ℕ) × (line_start : Bool) × (w : List ℕ) × BackWord S c line_start w × (state_after M c line_start w ≡ s)
 
 -- Names that proofs have for the states of a report, and for words in order.
 abbrev pub states_in : List BackUp → List ℕ

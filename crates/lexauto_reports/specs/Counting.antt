@@ -1,5 +1,5 @@
--- An automaton whose states also tell how many bytes were read: 3 s + n is the state s after n bytes, where n is 2 for two
--- bytes and more. (This project's.)
+-- An automaton whose states also tell how many bytes were read: 3 s + n is the state s after n bytes, where n is 2 for
+-- two bytes and more. (This project's.)
 use Rattle.std.specs.Prelude.{◌≡◌, ℕ, ◌+◌, ◌*◌, ◌/◌, ◌%◌, ◌<◌, min, Bool, List, [], ◌∷◌}
 use Rattle.lex_semantics.specs.Text.{IsText}
 use Rattle.lexauto_dfa.specs.Parts.{conditions, start, next}

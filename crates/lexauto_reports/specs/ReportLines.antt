@@ -10,7 +10,8 @@ warning_words true = codes "code skipped"
 warning_words false = codes "rule cannot be matched"
 
 abbrev pub warning_line : Warning → List ℕ
-warning_line w = concat (codes "lex: line " ∷ decimal w.line ∷ codes ": warning: " ∷ warning_words w.code ∷ codes "\n" ∷ [])
+warning_line w =
+    concat (codes "lex: line " ∷ decimal w.line ∷ codes ": warning: " ∷ warning_words w.code ∷ codes "\n" ∷ [])
 
 abbrev pub warning_lines : List Warning → List ℕ
 warning_lines warnings = flat_map warning_line warnings
@@ -20,7 +21,8 @@ abbrev pub shown : ℕ → List ℕ
 shown b = if (b == 34) || (b == 92) then 92 ∷ b ∷ [] else if nat_le 32 b && nat_le b 126 then b ∷ [] else octal b
 
 abbrev pub backup_line : BackUp → List ℕ
-backup_line e = concat (codes "state " ∷ decimal e.state ∷ codes " after \"" ∷ flat_map shown e.word.items ∷ codes "\"\n" ∷ [])
+backup_line e =
+    concat (codes "state " ∷ decimal e.state ∷ codes " after \"" ∷ flat_map shown e.word.items ∷ codes "\"\n" ∷ [])
 
 abbrev pub count_line : ℕ → List ℕ
 count_line n = concat (codes "states that back up: " ∷ decimal n ∷ codes "\n" ∷ [])

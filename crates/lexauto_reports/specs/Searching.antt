@@ -1,5 +1,5 @@
--- A search for the first word that leads to each state, in groups: a word, and the states that it is the first to lead to.
--- (This project's.)
+-- A search for the first word that leads to each state, in groups: a word, and the states that it is the first to lead
+-- to. (This project's.)
 use Rattle.std.specs.Prelude.{◌≡◌, ℕ, suc, ◌⊎◌, ◌+◌, ◌-◌, ◌*◌, ◌<◌, ◌≤◌, List, [], ◌∷◌, ◌++◌, length, map, take, drop, Option, Some, None, slice_index_or}
 use Rattle.lex_semantics.specs.Text.{Among}
 use Rattle.lexauto_dfa.specs.Parts.{states}
@@ -48,7 +48,8 @@ pub record IsSound (p : Parts) (words found : List (List ℕ)) (places : List (O
 
 -- where the states of the first k groups go by each byte is found
 abbrev pub IsPast : Parts → List (List ℕ) → List (List ℕ) → List (Option ℕ) → ℕ → Type 0
-IsPast p words found places k = (i x b : ℕ) → i < k → Among (at found i) x → b < 256 → IsPlaced words places (step p x b) (at words i ++ b ∷ [])
+IsPast p words found places k =
+    (i x b : ℕ) → i < k → Among (at found i) x → b < 256 → IsPlaced words places (step p x b) (at words i ++ b ∷ [])
 
 -- each word is before the one of group k with this byte more
 abbrev pub AllBefore : List (List ℕ) → ℕ → ℕ → Type 0
@@ -77,7 +78,8 @@ pub record AreFound (p : Parts) (words : List (List ℕ)) (places : List (Option
   pub rising : (i j : ℕ) → i < j → j < length words → Precedes (at words i) (at words j)
 
 -- Where the first i of some states go by a byte was looked at: those that had no place got the place n.
-pub record AreSeen (p : Parts) (from : List ℕ) (i b n : ℕ) (old places : List (Option ℕ)) (fresh : List ℕ) : Type 0 where
+pub record AreSeen (p : Parts) (from : List ℕ) (i b n : ℕ) (old places : List (Option ℕ))
+    (fresh : List ℕ) : Type 0 where
   pub len : length places ≡ length old
   pub kept : (x j : ℕ) → place_of old x ≡ Some j → place_of places x ≡ Some j
   pub only : (x j : ℕ) → place_of places x ≡ Some j → (place_of old x ≡ Some j) ⊎ ((j ≡ n) × Among fresh x)

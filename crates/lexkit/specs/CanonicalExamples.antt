@@ -18,7 +18,8 @@ table_of_two_as = record {
   class_of = replicate 97 0 ++ 1 ∷ replicate 158 0;
   rows =
       record { default_target = 0; base = 0; rules = [] } ∷ record { default_target = 0; base = 0; rules = [] }
-      ∷ record { default_target = 0; base = 1; rules = [] } ∷ record { default_target = 0; base = 0; rules = 0 ∷ [] } ∷ [];
+      ∷ record { default_target = 0; base = 1; rules = [] } ∷ record { default_target = 0; base = 0; rules = 0 ∷ [] }
+      ∷ [];
   slots = record { check = 0; next = 0 } ∷ record { check = 1; next = 2 } ∷ record { check = 2; next = 3 } ∷ [];
 }
 

@@ -37,7 +37,9 @@ place_words (kinds.Pattern e) = codes " at " ++ decimal e.at
 place_words other = []
 
 abbrev pub spec_words : SpecError → List ℕ
-spec_words e = if lacks_memory e.kind then codes "out of memory" else concat (codes "line " ∷ decimal e.line ∷ codes ": " ∷ kind_name e.kind ∷ place_words e.kind ∷ [])
+spec_words e =
+    if lacks_memory e.kind then codes "out of memory"
+    else concat (codes "line " ∷ decimal e.line ∷ codes ": " ∷ kind_name e.kind ∷ place_words e.kind ∷ [])
 
 abbrev pub run_words : RunError → List ℕ
 run_words runs.Read = codes "read fault"
@@ -80,8 +82,8 @@ fault_words faults.Output = codes "write fault"
 abbrev pub line_of : List ℕ → List ℕ
 line_of words = codes "lex: " ++ words ++ (10 ∷ [])
 
--- The statuses: 64 a command line, 65 a specification, its automaton or a table, 66 a file that cannot be read, 70 a fault of the stack of
--- conditions, 71 want of memory, 74 a read, a write or too many reads.
+-- The statuses: 64 a command line, 65 a specification, its automaton or a table, 66 a file that cannot be read, 70 a
+-- fault of the stack of conditions, 71 want of memory, 74 a read, a write or too many reads.
 abbrev pub spec_status : SpecError → ℕ
 spec_status e = if lacks_memory e.kind then 71 else 65
 

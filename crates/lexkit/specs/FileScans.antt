@@ -1,5 +1,5 @@
--- A scan by the table file of a specification is a scan by the specification. (POSIX, lex: the scanner that is made does what
--- the specification says.)
+-- A scan by the table file of a specification is a scan by the specification. (POSIX, lex: the scanner that is made
+-- does what the specification says.)
 use Rattle.std.specs.Prelude.{ℕ, Bool, List, Result, slice_index_or, false}
 use Rattle.lex_semantics.specs.Spec.{Spec}
 use Rattle.lex_semantics.specs.Rules.{rules_of}

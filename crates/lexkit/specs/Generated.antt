@@ -1,5 +1,5 @@
--- What is made of the text of a specification. (Rules that cannot be matched: flex's warnings; states that back up: flex,
--- Scanner Options: -b; the least automaton, its tables and the counts are this project's.)
+-- What is made of the text of a specification. (Rules that cannot be matched: flex's warnings; states that back up:
+-- flex, Scanner Options: -b; the least automaton, its tables and the counts are this project's.)
 use Rattle.std.specs.Prelude.{◌≡◌, ◌↔◌, ℕ, ◌<◌, true, false, slice_index_or, List, ◌++◌, length, map, Result, Ok, Err, ⊤}
 use Rattle.std.specs.List.Sorted.{IsPermutation}
 use Rattle.lex_semantics.specs.Text.{Among, Pairwise}
@@ -66,7 +66,8 @@ pub record AreBackUps (M : Machine) (S : Spec) (entries : List BackUp) : Type 0 
 pub record AreTablesOf (limits : Limits) (S : Spec) (t : Tables) : Type 0 where
   pub sound : IsSound S
   pub within : IsWithin limits S
-  pub canonical : IsCanonicalFor S (table_of t.parts) (λ s. slice_index_or t.goes_on.items s false) (file_of (table_of t.parts))
+  pub canonical : IsCanonicalFor S (table_of t.parts) (λ s. slice_index_or t.goes_on.items s false)
+      (file_of (table_of t.parts))
 
 -- such tables with the lines of the rules, warnings and counts; `skipped` are the lines of skipped code
 pub record AreMadeOf (limits : Limits) (S : Spec) (skipped : List ℕ) (m : Made) : Type 0 where
@@ -91,11 +92,15 @@ MakesTablesBy limits S skipped (Err e) = SpecRefusal limits S e
 
 -- what is made of a text
 abbrev pub Makes : Options → List ℕ → Result Generated GenError → Type 0
-Makes options text (Ok g) = (S : Spec) × SpellsSpec (reading options) text S × (skipped : List ℕ) × AreSkipped text skipped × IsMadeOf options.limits S skipped g
+Makes options text (Ok g) =
+    (S : Spec) × SpellsSpec (reading options) text S × (skipped : List ℕ) × AreSkipped text skipped
+    × IsMadeOf options.limits S skipped g
 Makes options text (Err e) = Refusal options text e
 
 abbrev pub MakesTables : Options → List ℕ → Result Made GenError → Type 0
-MakesTables options text (Ok m) = (S : Spec) × SpellsSpec (reading options) text S × (skipped : List ℕ) × AreSkipped text skipped × MakesTablesBy options.limits S skipped (Ok m)
+MakesTables options text (Ok m) =
+    (S : Spec) × SpellsSpec (reading options) text S × (skipped : List ℕ) × AreSkipped text skipped
+    × MakesTablesBy options.limits S skipped (Ok m)
 MakesTables options text (Err e) = Refusal options text e
 
 -- the tables are those of the specification that the text spells

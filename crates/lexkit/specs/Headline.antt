@@ -1,5 +1,5 @@
--- What a scan by the text of a specification leaves. (What is written is that of POSIX and flex; what is taken from the source,
--- the limits and the refusals are this project's.)
+-- What a scan by the text of a specification leaves. (What is written is that of POSIX and flex; what is taken from the
+-- source, the limits and the refusals are this project's.)
 use Rattle.std.specs.Prelude.{◌≡◌, ℕ, ◌+◌, ◌<◌, ◌≤◌, Bool, false, cond, List, length, Result, Ok, Err, Some, ⊤, slice_index_or}
 use Rattle.lex_semantics.specs.Spec.{Spec}
 use Rattle.lex_semantics.specs.Rules.{Rules, rules_of}
@@ -46,8 +46,8 @@ BuildRefusal limits S builds.OutOfMemory = ⊤
 abbrev pub reading : Options → ReadOptions
 reading options = record { fold = options.fold; posix = options.posix }
 
--- A text is refused only where it spells no specification, or the automaton of the one that it spells passes a limit, or
--- memory ran out.
+-- A text is refused only where it spells no specification, or the automaton of the one that it spells passes a limit,
+-- or memory ran out.
 abbrev pub Refusal : Options → List ℕ → GenError → Type 0
 Refusal options text (gens.Spec e) = UnlessMemory e.kind ((S : Spec) → SpellsSpec (reading options) text S → ⊥)
 Refusal options text (gens.Build e) = (S : Spec) × SpellsSpec (reading options) text S × BuildRefusal options.limits S e
@@ -63,12 +63,14 @@ abbrev pub TellsFault : List ℕ → ScanError → Type 0
 TellsFault bytes (scans.Table e) = is_out_of_memory e ≡ false → read_refusal bytes ≡ Some e
 TellsFault bytes other = ⊤
 
--- What the calls of the source from s to s' give, and what those of the sink from t to t' write; whether the source has answered its
--- end, and how often it failed.
-module _ {A B : Type 0} (gave : A → List ℕ → A → Type 0) (wrote : B → List ℕ → B → Type 0) (s s' : A) (t t' : B) (at_end : Bool) (faults : ℕ) where
-  -- The source gave, and the sink was given, what the scan by the rules asks for. It came to its end: they are the bytes of the run. Or it
-  -- stopped: what was written is a front of what the run writes; where the stack of conditions was at fault, it is all of it, and the run
-  -- ends so. The bytes given, the answer of the end and the reads that failed are no more than are allowed.
+-- What the calls of the source from s to s' give, and what those of the sink from t to t' write; whether the source has
+-- answered its end, and how often it failed.
+module _ {A B : Type 0} (gave : A → List ℕ → A → Type 0) (wrote : B → List ℕ → B → Type 0) (s s' : A) (t t' : B)
+    (at_end : Bool) (faults : ℕ) where
+  -- The source gave, and the sink was given, what the scan by the rules asks for. It came to its end: they are the
+  -- bytes of the run. Or it stopped: what was written is a front of what the run writes; where the stack of conditions
+  -- was at fault, it is all of it, and the run ends so. The bytes given, the answer of the end and the reads that
+  -- failed are no more than are allowed.
   pub record Scans (R : Rules) (answer : Result ℕ RunError) : Type 0 where
     pub given : List ℕ
     pub out : List ℕ
@@ -82,7 +84,8 @@ module _ {A B : Type 0} (gave : A → List ℕ → A → Type 0) (wrote : B → 
   ScansSpec options text answer =
       (S : Spec) × SpellsSpec (reading options) text S × IsWithin options.limits S × Scans (rules_of S) answer
 
-  -- The headline: the scan is that of the specification that the text spells. A text that is refused leaves both ends as they were.
+  -- The headline: the scan is that of the specification that the text spells. A text that is refused leaves both ends
+  -- as they were.
   abbrev pub Headline : Options → List ℕ → Result ℕ ScanError → Type 0
   Headline options text (Ok status) = ScansSpec options text (Ok status)
   Headline options text (Err (scans.Run e)) = ScansSpec options text (Err e)
@@ -105,7 +108,8 @@ module _ {A B : Type 0} (gave : A → List ℕ → A → Type 0) (wrote : B → 
     pub leads : GoesOn table goes_on
     pub scans : Scans (rules_of_machine (machine_of_table table (λ state. slice_index_or goes_on state false))) answer
 
-  -- The scan is that by the rules of the table whose file the bytes are. Bytes that are refused leave both ends as they were.
+  -- The scan is that by the rules of the table whose file the bytes are. Bytes that are refused leave both ends as they
+  -- were.
   abbrev pub TableHeadline : List ℕ → Result ℕ ScanError → Type 0
   TableHeadline bytes (Ok status) = ScansTable bytes (Ok status)
   TableHeadline bytes (Err (scans.Run e)) = ScansTable bytes (Err e)

@@ -20,9 +20,10 @@ HandedOnAtEnd flushed (Ok status) = flushed ≡ true
 HandedOnAtEnd flushed (Err (Run runs.Stack)) = flushed ≡ true
 HandedOnAtEnd flushed other = ⊤
 
--- What a scan adds to the counts of its source and of its sink. Where it has ended, what was written has been handed on. It is never
--- answered that a turn had failed before.
-pub record ScanCounts {S K : Type 0} (ends_of reads_of : S → ℕ) (writes_of : K → ℕ) (is_flushed : K → Bool) (s s' : S) (t t' : K)
+-- What a scan adds to the counts of its source and of its sink. Where it has ended, what was written has been handed
+-- on. It is never answered that a turn had failed before.
+pub record ScanCounts {S K : Type 0} (ends_of reads_of : S → ℕ) (writes_of : K → ℕ) (is_flushed : K → Bool) (s s' : S)
+    (t t' : K)
     (answer : Result ℕ ScanError) : Type 0 where
   pub ends_stay : ends_of s ≤ ends_of s'
   pub one_end : ends_of s' ≤ ends_of s + 1

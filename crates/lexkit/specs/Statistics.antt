@@ -6,6 +6,8 @@ use Rattle.lexkit.specs.declared.stats.Stats.{Stats}
 -- a line for each count: its name and the number
 abbrev pub stats_lines : Stats → List ℕ
 stats_lines z = concat (
-    codes "rules " ∷ decimal z.rules ∷ codes "\nconditions " ∷ decimal z.conditions ∷ codes "\npositions " ∷ decimal z.positions
-    ∷ codes "\nsubsets " ∷ decimal z.subsets ∷ codes "\nstates " ∷ decimal z.states ∷ codes "\nclasses " ∷ decimal z.classes
+    codes "rules " ∷ decimal z.rules ∷ codes "\nconditions " ∷ decimal z.conditions ∷ codes "\npositions "
+    ∷ decimal z.positions
+    ∷ codes "\nsubsets " ∷ decimal z.subsets ∷ codes "\nstates " ∷ decimal z.states ∷ codes "\nclasses "
+    ∷ decimal z.classes
     ∷ codes "\nslots " ∷ decimal z.slots ∷ codes "\nbytes " ∷ decimal z.bytes ∷ codes "\n" ∷ [])

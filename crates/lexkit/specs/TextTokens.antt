@@ -1,5 +1,5 @@
--- Tokens by the tables that are made of a text are those of the specification that it spells. (POSIX, lex: the scanner that is made does
--- what the specification says.)
+-- Tokens by the tables that are made of a text are those of the specification that it spells. (POSIX, lex: the scanner
+-- that is made does what the specification says.)
 use Rattle.std.specs.Prelude.{◌≡◌, ℕ, List, Ok}
 use Rattle.lex_semantics.specs.Spec.{Spec}
 use Rattle.lex_semantics.specs.Rules.{rules_of}
@@ -14,5 +14,8 @@ use Rattle.lexkit.specs.declared.making.Generated.{Generated}
 
 -- The lines that are told are those of its rules.
 abbrev pub TextTokens : Type 0
-TextTokens = (options : Options) (text : List ℕ) (g : Generated) → Makes options text (Ok g) → (S : Spec) × SpellsSpec (reading options) text S
-    × (g.made.rule_lines.items ≡ lines_of S.rules) × SameTokens (rules_of_machine (table_machine g.made.tables)) (rules_of S)
+TextTokens =
+    (options : Options) (text : List ℕ) (g : Generated) → Makes options text (Ok g) → (S : Spec)
+    × SpellsSpec (reading options) text S
+    × (g.made.rule_lines.items ≡ lines_of S.rules)
+    × SameTokens (rules_of_machine (table_machine g.made.tables)) (rules_of S)

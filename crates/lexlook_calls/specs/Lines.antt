@@ -53,7 +53,8 @@ side_words name given rules = name ++ taken given rules
 
 abbrev pub text_place : Option Spec → Difference → List ℕ
 text_place given d = concat (
-    codes "in " ∷ condition_words given d.condition ∷ start_words d.line_start ∷ codes " after \"" ∷ flat_map in_quotes d.text.items
+    codes "in " ∷ condition_words given d.condition ∷ start_words d.line_start ∷ codes " after \""
+    ∷ flat_map in_quotes d.text.items
     ∷ codes "\": " ∷ [])
 
 abbrev pub both : List ℕ → List ℕ → List ℕ
@@ -73,7 +74,8 @@ abbrev pub IsLabelled : Side → Type 0
 IsLabelled a = IfSome a.given (λ S. (length S.conditions ≡ a.machine.conditions) × (length S.rules ≡ a.machine.count))
 
 abbrev pub taken_by : Side → Bool → ℕ → Difference → List ℕ
-taken_by a all c d = side_words a.name a.given (rules_at all a.machine (state_after a.machine c d.line_start d.text.items))
+taken_by a all c d =
+    side_words a.name a.given (rules_at all a.machine (state_after a.machine c d.line_start d.text.items))
 
 -- the line of what is told, and none where they do the same
 abbrev pub told_line : Side → Side → List ℕ → Bool → Comparison → List ℕ
@@ -83,5 +85,6 @@ told_line a b order all (Ends c) = concat (
     codes "in " ∷ condition_words (naming a.given b.given) c ∷ codes " at the end of the input " ∷ both a.name b.name
     ∷ codes " do different things" ∷ codes "\n" ∷ [])
 told_line a b order all (Texts d) = concat (
-    text_place (naming a.given b.given) d ∷ taken_by a all d.condition d ∷ codes ", " ∷ taken_by b all (number_in order d.condition) d
+    text_place (naming a.given b.given) d ∷ taken_by a all d.condition d ∷ codes ", "
+    ∷ taken_by b all (number_in order d.condition) d
     ∷ codes "\n" ∷ [])

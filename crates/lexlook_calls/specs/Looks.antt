@@ -28,7 +28,8 @@ pub record IsPictureOf (limits : Limits) (S : Spec) (bytes : List ℕ) : Type 0 
   pub drawn : bytes ≡ picture_of automaton S
 
 -- the picture of the specification that the text spells was written: all of it at `Ok`, a front of it at `Err`
-pub record Drew {K : Type 0} (wrote : K → List ℕ → K → Type 0) (options : Options) (text : List ℕ) (s t : K) (answer : Result (Unit {0}) LookError) : Type 0 where
+pub record Drew {K : Type 0} (wrote : K → List ℕ → K → Type 0) (options : Options) (text : List ℕ) (s t : K)
+    (answer : Result (Unit {0}) LookError) : Type 0 where
   pub spec : Spec
   pub spells : SpellsSpec (reading options) text spec
   pub bytes : List ℕ
@@ -36,7 +37,8 @@ pub record Drew {K : Type 0} (wrote : K → List ℕ → K → Type 0) (options 
   pub written : Appended (λ xs. wrote s xs t) bytes answer
 
 -- What was drawn of a text. One that is refused leaves the sink as it was.
-abbrev pub Draws : {K : Type 0} → (K → List ℕ → K → Type 0) → Options → List ℕ → K → K → Result (Unit {0}) LookError → Type 0
+abbrev pub Draws : {K : Type 0} → (K → List ℕ → K → Type 0) → Options → List ℕ → K → K → Result (Unit {0}) LookError
+    → Type 0
 Draws wrote options text s t (Ok v) = Drew wrote options text s t (Ok v)
 Draws wrote options text s t (Err (Refused e)) = Refusal options text e × (t ≡ s)
 Draws wrote options text s t (Err (Table e)) = ⊥
@@ -45,4 +47,5 @@ Draws wrote options text s t (Err Write) = Drew wrote options text s t (Err Writ
 
 -- a specification has one picture at most
 abbrev pub OnePicture : Type 0
-OnePicture = (limits limits' : Limits) (S : Spec) (a b : List ℕ) → IsPictureOf limits S a → IsPictureOf limits' S b → a ≡ b
+OnePicture =
+    (limits limits' : Limits) (S : Spec) (a b : List ℕ) → IsPictureOf limits S a → IsPictureOf limits' S b → a ≡ b

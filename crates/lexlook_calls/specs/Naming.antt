@@ -9,7 +9,8 @@ pub record AreNamed (names others : List (List ℕ)) (order : List ℕ) : Type 0
   pub each : length names ≡ length others
   pub named : (c : ℕ) → c < length names → slice_get others (number_in order c) ≡ slice_get names c
 
--- The conditions of two specifications are paired by their names. Where one is a table file, they are so by their numbers.
+-- The conditions of two specifications are paired by their names. Where one is a table file, they are so by their
+-- numbers.
 abbrev pub ArePaired : Option Spec → Option Spec → List ℕ → Type 0
 ArePaired (Some S) (Some T) order = AreNamed (names_of S.conditions) (names_of T.conditions) order
 ArePaired (Some S) None order = order ≡ []

@@ -19,8 +19,8 @@ use Rattle.lexkit.specs.declared.options.Options.{Options}
 use Rattle.lexlook_calls.specs.declared.error.LookError.{LookError}
 use Rattle.lexlook_calls.specs.declared.error.LookError.TheVariants.{Refused, Table as NoTable, OutOfMemory, Write}
 
--- The bytes are taken for those of a table file: they begin with LEXTAB, and then a byte that is 0, as each table file does and no
--- specification can.
+-- The bytes are taken for those of a table file: they begin with LEXTAB, and then a byte that is 0, as each table file
+-- does and no specification can.
 abbrev pub is_table_file : List ℕ → Bool
 is_table_file bytes = starts_with (λ a b. a == b) bytes (magic ++ 0 ∷ [])
 
@@ -28,12 +28,15 @@ is_table_file bytes = starts_with (λ a b. a == b) bytes (magic ++ 0 ∷ [])
 abbrev pub read_as : Option Read → Option Spec
 read_as spec = option_map spec_of spec
 
--- The machine of the table whose file the bytes are; or that of the least automaton of the specification that they spell.
+-- The machine of the table whose file the bytes are; or that of the least automaton of the specification that they
+-- spell.
 abbrev pub StandsFor : Options → List ℕ → Machine → Option Spec → Type 0
 StandsFor options bytes M None = (is_table_file bytes ≡ true)
-    × (t : Table) × IsFileOf t bytes × (goes_on : List Bool) × GoesOn t goes_on × (M ≡ machine_of_table t (λ s. flag goes_on s))
+    × (t : Table) × IsFileOf t bytes × (goes_on : List Bool) × GoesOn t goes_on
+    × (M ≡ machine_of_table t (λ s. flag goes_on s))
 StandsFor options bytes M (Some S) = (is_table_file bytes ≡ false)
-    × SpellsSpec (reading options) bytes S × (d : Dfa) × (subsets : ℕ) × IsLeastOf options.limits S subsets d × (M ≡ machine_of d S)
+    × SpellsSpec (reading options) bytes S × (d : Dfa) × (subsets : ℕ) × IsLeastOf options.limits S subsets d
+    × (M ≡ machine_of d S)
 
 -- the bytes are refused rightly
 abbrev pub IsRefused : Options → List ℕ → LookError → Type 0

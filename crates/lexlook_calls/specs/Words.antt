@@ -1,4 +1,5 @@
--- What is told of the texts that rules take. (flex tells of a rule that cannot be matched, and by -s of a default rule that can be.)
+-- What is told of the texts that rules take. (flex tells of a rule that cannot be matched, and by -s of a default rule
+-- that can be.)
 use Rattle.std.specs.Prelude.{◌≡◌, ℕ, ◌<◌, List, [], ◌∷◌, ◌++◌, length, Option, Some, None, Result, Ok, Err, codes, decimal, slice_get, slice_index, slice_index_or}
 use Rattle.std.specs.List.{concat, flat_map, range_with_len}
 use Rattle.lex_io.specs.Sink.{Appended}
@@ -27,13 +28,16 @@ line_words lines i = codes " line " ++ decimal (slice_index lines i)
 -- a text, in which condition, and where a match of it is at the start of a line
 abbrev pub shown_place : List (List ℕ) → ShownText → List ℕ
 shown_place names p = concat (
-    codes ": \"" ∷ flat_map in_quotes p.text.items ∷ codes "\" in " ∷ slice_index_or names p.condition [] ∷ start_words p.line_start
+    codes ": \"" ∷ flat_map in_quotes p.text.items ∷ codes "\" in " ∷ slice_index_or names p.condition []
+    ∷ start_words p.line_start
     ∷ codes "\n" ∷ [])
 
 -- why a rule takes no text
 abbrev pub never_words : List ℕ → List ℕ → List ℕ
 never_words lines [] = codes ": rule cannot be matched, no text fits it\n"
-never_words lines (j ∷ js) = concat (codes ": rule cannot be matched, its texts are taken at" ∷ flat_map (line_words lines) (j ∷ js) ∷ codes "\n" ∷ [])
+never_words lines (j ∷ js) =
+    concat (codes ": rule cannot be matched, its texts are taken at" ∷ flat_map (line_words lines) (j ∷ js) ∷ codes "\n"
+    ∷ [])
 
 abbrev pub told_words : List (List ℕ) → List ℕ → Word → List ℕ
 told_words names lines (Taken p) = shown_place names p
@@ -51,7 +55,8 @@ default_line names (Some p) = codes "default rule" ++ shown_place names p
 
 -- a line for each rule, in the order of the file, and that of the default rule
 abbrev pub word_lines : List (List ℕ) → List ℕ → Words → List ℕ
-word_lines names lines v = flat_map (λ i. word_line names lines i (slice_get v.rules.items i)) (range_with_len 0 (length v.rules.items))
+word_lines names lines v =
+    flat_map (λ i. word_line names lines i (slice_get v.rules.items i)) (range_with_len 0 (length v.rules.items))
     ++ default_line names v.default
 
 -- the texts that the rules of a specification take, whose automaton is within the limits
@@ -60,7 +65,8 @@ pub record AreWordsOf (limits : Limits) (S : Spec) (v : Words) : Type 0 where
   pub words : AreWords (matches_of S) v
 
 -- the lines of the specification that the text spells were written: all of them at `Ok`, a front of them at `Err`
-pub record WordsTold {K : Type 0} (wrote : K → List ℕ → K → Type 0) (options : Options) (text : List ℕ) (s t : K) (answer : Result (Unit {0}) LookError) : Type 0 where
+pub record WordsTold {K : Type 0} (wrote : K → List ℕ → K → Type 0) (options : Options) (text : List ℕ) (s t : K)
+    (answer : Result (Unit {0}) LookError) : Type 0 where
   pub spec : Spec
   pub spells : SpellsSpec (reading options) text spec
   pub found : Words
@@ -68,7 +74,8 @@ pub record WordsTold {K : Type 0} (wrote : K → List ℕ → K → Type 0) (opt
   pub written : Appended (λ xs. wrote s xs t) (word_lines (names_of spec.conditions) (lines_of spec.rules) found) answer
 
 -- What was told of a text. One that is refused leaves the sink as it was, and so does want of memory.
-abbrev pub TellsWords : {K : Type 0} → (K → List ℕ → K → Type 0) → Options → List ℕ → K → K → Result (Unit {0}) LookError → Type 0
+abbrev pub TellsWords : {K : Type 0} → (K → List ℕ → K → Type 0) → Options → List ℕ → K → K
+    → Result (Unit {0}) LookError → Type 0
 TellsWords wrote options text s t (Ok v) = WordsTold wrote options text s t (Ok v)
 TellsWords wrote options text s t (Err Write) = WordsTold wrote options text s t (Err Write)
 TellsWords wrote options text s t (Err OutOfMemory) = t ≡ s

@@ -1,5 +1,5 @@
--- The lines that tell what was found. (This project's: POSIX leaves messages to the implementation. `FILE:LINE:` is what compilers of C
--- write, and what editors read.)
+-- The lines that tell what was found. (This project's: POSIX leaves messages to the implementation. `FILE:LINE:` is
+-- what compilers of C write, and what editors read.)
 use Rattle.std.specs.Prelude.{ℕ, ◌+◌, ◌==◌, if◌then◌else◌, List, [], ◌∷◌, ◌++◌, Option, Some, None, is_none, codes, decimal}
 use Rattle.std.specs.List.{concat}
 use Rattle.lexre_bytes.specs.RefusalNames.{kind_name}
@@ -59,7 +59,9 @@ detail_words number line at (Some hint) = source_words number line at ++ hint_wo
 
 -- the first line of what was found: its place, whether it is an error, and what it is called
 abbrev pub head_words : List SourceFile → Finding → Option ℕ → List ℕ
-head_words files f at = concat (file_line_words files f.line ∷ column_words at ∷ codes ": " ∷ severity_words f.what ∷ codes ": " ∷ what_words f.what ∷ codes "\n" ∷ [])
+head_words files f at =
+    concat (file_line_words files f.line ∷ column_words at ∷ codes ": " ∷ severity_words f.what ∷ codes ": "
+    ∷ what_words f.what ∷ codes "\n" ∷ [])
 
 -- the line of what was found, where it is shown
 abbrev pub shown_line : List ℕ → Finding → List ℕ

@@ -15,11 +15,14 @@ use Rattle.lexlook_check.specs.Notices.{max_notices, notices_of}
 use Rattle.lexlook_check.specs.declared.checking.Checked.{Checked}
 use Rattle.lexlook_check.specs.declared.notices.Notice.{Notice}
 
--- of the text that is left: the limit that its automaton passes, or else its warnings, and what is warned of beside them, 100 of that at most
+-- of the text that is left: the limit that its automaton passes, or else its warnings, and what is warned of beside
+-- them, 100 of that at most
 abbrev pub IsFoundOf : Options → Option (List ℕ) → Option BuildError → List Warning → List Notice → Type 0
 IsFoundOf options None limit warnings notices = (limit ≡ None) × (warnings ≡ []) × (notices ≡ [])
-IsFoundOf options (Some left) (Some e) warnings notices = (e ≢ builds.OutOfMemory) × Refusal options left (gens.Build e) × (warnings ≡ []) × (notices ≡ [])
-IsFoundOf options (Some left) None warnings notices = (m : Made) × MakesTables options left (Ok m) × (warnings ≡ m.warnings.items)
+IsFoundOf options (Some left) (Some e) warnings notices =
+    (e ≢ builds.OutOfMemory) × Refusal options left (gens.Build e) × (warnings ≡ []) × (notices ≡ [])
+IsFoundOf options (Some left) None warnings notices =
+    (m : Made) × MakesTables options left (Ok m) × (warnings ≡ m.warnings.items)
     × (notices ≡ take max_notices (notices_of m.rule_lines.items left))
 
 -- the faults of a text, and what is found of the text that is left without them

@@ -5,19 +5,24 @@ use Rattle.lex_semantics.specs.Reading.{begins, starts_name}
 use Rattle.lexlook_check.specs.declared.definitions.Within.{Within}
 use Rattle.lexlook_check.specs.declared.definitions.Within.TheVariants.{Nothing, Block, Comment}
 
--- for each line its number, and the text from its first byte on; the first has the number n, and a line begins the text where `fresh`
+-- for each line its number, and the text from its first byte on; the first has the number n, and a line begins the text
+-- where `fresh`
 abbrev pub lines_from : ℕ → Bool → List ℕ → List (ℕ × List ℕ)
 lines_from n fresh [] = []
-lines_from n fresh (c ∷ t) = (if fresh then (n, c ∷ t) ∷ [] else []) ++ lines_from (if c == 10 then suc n else n) (c == 10) t
+lines_from n fresh (c ∷ t) =
+    (if fresh then (n, c ∷ t) ∷ [] else []) ++ lines_from (if c == 10 then suc n else n) (c == 10) t
 
 -- `*/` stands in the line that begins the text
 abbrev pub ends_comment : List ℕ → Bool
 ends_comment [] = false
 ends_comment (c ∷ t) = not (c == 10) && ((c == 42 && begins (codes "/") t) || ends_comment t)
 
--- within what the line behind this one begins: `%{` opens a block and `%}` ends it, `/*` opens a comment and `*/` ends it
+-- within what the line behind this one begins: `%{` opens a block and `%}` ends it, `/*` opens a comment and `*/` ends
+-- it
 abbrev pub behind_line : Within → List ℕ → Within
-behind_line Nothing text = if begins (codes "%{") text then Block else if begins (codes "/*") text && not (ends_comment (drop 2 text)) then Comment else Nothing
+behind_line Nothing text =
+    if begins (codes "%{") text then Block else if begins (codes "/*") text && not (ends_comment (drop 2 text))
+    then Comment else Nothing
 behind_line Block text = if begins (codes "%}") text then Nothing else Block
 behind_line Comment text = if ends_comment text then Nothing else Comment
 

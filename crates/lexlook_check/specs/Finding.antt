@@ -13,9 +13,10 @@ use Rattle.lexlook_check.specs.Leaving.{without_rule_at}
 abbrev pub max_faults : ℕ
 max_faults = 100
 
--- The faults of a text, n at most, by what a reader answers: the first, and then those of the text without its rule. Where nothing can
--- be left out, the fault is the last. And the text that is left, where the reader takes it.
-abbrev pub AreFaultsOf : (List ℕ → Result (Unit {0}) SpecError → Type 0) → ℕ → List ℕ → List SpecError → Option (List ℕ) → Type 0
+-- The faults of a text, n at most, by what a reader answers: the first, and then those of the text without its rule.
+-- Where nothing can be left out, the fault is the last. And the text that is left, where the reader takes it.
+abbrev pub AreFaultsOf : (List ℕ → Result (Unit {0}) SpecError → Type 0) → ℕ → List ℕ → List SpecError → Option (List ℕ)
+    → Type 0
 AreFaultsOf reads n text [] (Some left) = (left ≡ text) × reads text (Ok tt)
 AreFaultsOf reads n text [] None = n ≡ 0
 AreFaultsOf reads n text (e ∷ es) left =

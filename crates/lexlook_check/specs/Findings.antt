@@ -36,7 +36,8 @@ notice_finding n = record { line = n.line; at = Some n.at; size = n.size; what =
 -- all that was found of a text, as it was found
 abbrev pub findings_of : Checked → List Finding
 findings_of c =
-    map fault_finding c.faults.items ++ limit_findings c.limit ++ map warning_finding c.warnings.items ++ map notice_finding c.notices.items
+    map fault_finding c.faults.items ++ limit_findings c.limit ++ map warning_finding c.warnings.items
+    ++ map notice_finding c.notices.items
 
 -- it has an earlier line, or the same and no later place; where no place is told it is the first of the line
 abbrev pub IsNotBehind : Finding → Finding → Type 0
@@ -45,4 +46,5 @@ IsNotBehind f g = (f.line < g.line) ⊎ ((f.line ≡ g.line) × (unwrap_or f.at 
 -- what was found, in order of place
 pub record AreInOrder (found told : List Finding) : Type 0 where
   pub same : IsPermutation found told
-  pub ordered : (k : ℕ) (d : Finding) → k + 1 < length told → IsNotBehind (slice_index_or told k d) (slice_index_or told (k + 1) d)
+  pub ordered : (k : ℕ) (d : Finding) → k + 1 < length told
+      → IsNotBehind (slice_index_or told k d) (slice_index_or told (k + 1) d)

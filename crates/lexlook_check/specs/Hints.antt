@@ -15,22 +15,28 @@ pattern_hint patterns.UnclosedQuote = codes "a quote ends on its line"
 pattern_hint patterns.UnclosedClass = codes "a class ends with `]` on its line; a `]` of its bytes stands first"
 pattern_hint patterns.BadRange = codes "a range goes from a byte to the same or a greater one"
 pattern_hint patterns.EmptyClass = codes "a class has a byte"
-pattern_hint patterns.UnknownClassName = codes "classes are alpha, digit, alnum, upper, lower, space, blank, cntrl, graph, print, punct and xdigit"
+pattern_hint patterns.UnknownClassName =
+    codes "classes are alpha, digit, alnum, upper, lower, space, blank, cntrl, graph, print, punct and xdigit"
 pattern_hint patterns.UnsupportedBracket = codes "[=a=], [.a.] and [:^alpha:] are not read"
 pattern_hint patterns.BadEscape = codes "octal digits are 377 at most, and no backslash stands at the end of a line"
-pattern_hint patterns.BadInterval = codes "an interval has numbers up to 255, the lesser first; a `{` that is a byte stands in quotes or behind a backslash"
-pattern_hint patterns.UnbalancedParen = codes "a parenthesis has its other; one that is a byte stands in quotes or behind a backslash"
-pattern_hint patterns.MissingOperand = codes "something to repeat or to choose stands there; a sign that is a byte stands in quotes or behind a backslash"
+pattern_hint patterns.BadInterval =
+    codes "an interval has numbers up to 255, the lesser first; a `{` that is a byte stands in quotes or behind a backslash"
+pattern_hint patterns.UnbalancedParen =
+    codes "a parenthesis has its other; one that is a byte stands in quotes or behind a backslash"
+pattern_hint patterns.MissingOperand =
+    codes "something to repeat or to choose stands there; a sign that is a byte stands in quotes or behind a backslash"
 pattern_hint patterns.UndefinedName = codes "a name is defined before the first `%%`"
 pattern_hint patterns.DefinitionCycle = codes "no definition leads back to its name"
 pattern_hint patterns.TooDeep = codes "64 parentheses and names are open at most, and 64 signs stand on an item"
 pattern_hint patterns.TooBig = codes "a pattern has 65536 nodes at most"
-pattern_hint patterns.MisplacedSlash = codes "a `/` stands outside of parentheses and definitions; one that is a byte stands in quotes or behind a backslash"
+pattern_hint patterns.MisplacedSlash =
+    codes "a `/` stands outside of parentheses and definitions; one that is a byte stands in quotes or behind a backslash"
 pattern_hint patterns.OutOfMemory = codes "memory ran out"
 
 -- of an action
 abbrev pub action_hint : SpecErrorKind → List ℕ
-action_hint kinds.UnknownStatement = codes "statements are ECHO, BEGIN, printf, fputs, puts, yymore, yyless, REJECT, exit, yyterminate and more, each with its `;`: see lex(1)"
+action_hint kinds.UnknownStatement =
+    codes "statements are ECHO, BEGIN, printf, fputs, puts, yymore, yyless, REJECT, exit, yyterminate and more, each with its `;`: see lex(1)"
 action_hint kinds.LessAndMore = codes "yyless stands once in an action, and without yymore"
 action_hint kinds.RejectCombination = codes "REJECT stands without yymore and yyless"
 action_hint kinds.NotLast = codes "REJECT, yyterminate and exit stand last"
@@ -43,7 +49,8 @@ action_hint other = codes "memory ran out"
 -- of a rule
 abbrev pub rule_hint : SpecErrorKind → List ℕ
 rule_hint kinds.UnknownCondition = codes "%s and %x declare conditions, and a list of them ends with `>` on its line"
-rule_hint kinds.VariableTrailing = codes "one side of a trailing context has texts of one length, of 65535 bytes at most"
+rule_hint kinds.VariableTrailing =
+    codes "one side of a trailing context has texts of one length, of 65535 bytes at most"
 rule_hint kinds.TwoTrailing = codes "a rule has one trailing context, by `/` or by a `$` at its end"
 rule_hint kinds.BadEofRule = codes "<<EOF>> stands alone before its action"
 rule_hint kinds.DuplicateEof = codes "a condition has one <<EOF>> rule"
@@ -56,18 +63,22 @@ rule_hint other = action_hint other
 -- of the definitions section, and of a file
 abbrev pub definition_hint : SpecErrorKind → List ℕ
 definition_hint kinds.NoRulesSection = codes "a line `%%` stands between definitions and rules"
-definition_hint kinds.BadDefinitionLine = codes "a definition is a name, blanks and a pattern; %s, %x and %option declare"
+definition_hint kinds.BadDefinitionLine =
+    codes "a definition is a name, blanks and a pattern; %s, %x and %option declare"
 definition_hint kinds.DuplicateName = codes "each name is defined once"
 definition_hint kinds.DuplicateCondition = codes "each condition is declared once, and INITIAL always is"
 definition_hint kinds.AnchoredDefinition = codes "`^` and `$` stand in rules, and in no definition"
-definition_hint kinds.UnsupportedOption = codes "options are case-insensitive, stack, and some that do nothing: see lex(1)"
+definition_hint kinds.UnsupportedOption =
+    codes "options are case-insensitive, stack, and some that do nothing: see lex(1)"
 definition_hint kinds.TooManyConditions = codes "there are 255 conditions at most, INITIAL among them"
 definition_hint other = rule_hint other
 
 -- of what is warned of
 abbrev pub notice_hint : NoticeKind → List ℕ
-notice_hint LettersAsBytes = codes "a class has bytes, and a letter beyond ASCII is several of them: `lexlook utf8` and share/utf8.l have patterns of letters"
-notice_hint LetterAlone = codes "`\\d`, `\\s` and `\\w` are the letters themselves, and so are `\\D`, `\\S` and `\\W`: [0-9], [ \\t\\n] and [A-Za-z0-9_] are classes"
+notice_hint LettersAsBytes =
+    codes "a class has bytes, and a letter beyond ASCII is several of them: `lexlook utf8` and share/utf8.l have patterns of letters"
+notice_hint LetterAlone =
+    codes "`\\d`, `\\s` and `\\w` are the letters themselves, and so are `\\D`, `\\S` and `\\W`: [0-9], [ \\t\\n] and [A-Za-z0-9_] are classes"
 
 -- the line of it, below a line with this number
 abbrev pub hint_words : ℕ → List ℕ → List ℕ

@@ -1,4 +1,5 @@
--- What was found as JSON, an object a line. (RFC 8259, Strings: a quote, a backslash and control characters are escaped.)
+-- What was found as JSON, an object a line. (RFC 8259, Strings: a quote, a backslash and control characters are
+-- escaped.)
 use Rattle.std.specs.Prelude.{ℕ, ◌+◌, ◌/◌, ◌%◌, ◌==◌, ◌&&◌, ◌||◌, Bool, true, false, not, nat_lt, nat_le, if◌then◌else◌, List, [], ◌∷◌, ◌++◌, flat_map, slice_index, Option, Some, None, option_map, codes, decimal}
 use Rattle.std.specs.List.{concat}
 use Rattle.std.specs.Str.{is_utf8}
@@ -15,7 +16,9 @@ use Rattle.lexlook_check.specs.declared.places.SourceFile.{SourceFile}
 
 -- the code point of this number below 256, as an escape
 abbrev pub escape : ℕ → List ℕ
-escape b = codes "\\u00" ++ slice_index (codes "0123456789abcdef") (b / 16) ∷ slice_index (codes "0123456789abcdef") (b % 16) ∷ []
+escape b =
+    codes "\\u00" ++ slice_index (codes "0123456789abcdef") (b / 16) ∷ slice_index (codes "0123456789abcdef") (b % 16)
+    ∷ []
 
 -- a byte of a string; `whole` where the string is UTF-8, and then bytes from 128 on stand as they are
 abbrev pub string_byte : Bool → ℕ → List ℕ

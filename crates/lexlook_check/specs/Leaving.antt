@@ -1,8 +1,10 @@
--- The text without a rule: of its lines the newlines stay, so that the other lines keep their numbers. (This project's.)
+-- The text without a rule: of its lines the newlines stay, so that the other lines keep their numbers. (This
+-- project's.)
 use Rattle.std.specs.Prelude.{ℕ, ◌-◌, ◌==◌, ◌||◌, Bool, false, if◌then◌else◌, List, [], ◌∷◌}
 use Rattle.lex_semantics.specs.ByteSets.{is_blank}
 
--- the line that begins here belongs to the rule before it: it is empty (10 and 13), or begins with a blank or a `}` (125)
+-- the line that begins here belongs to the rule before it: it is empty (10 and 13), or begins with a blank or a `}`
+-- (125)
 abbrev pub continues_rule : List ℕ → Bool
 continues_rule [] = false
 continues_rule (c ∷ t) = is_blank c || (c == 10) || (c == 13) || (c == 125)

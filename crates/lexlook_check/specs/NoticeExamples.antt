@@ -18,4 +18,5 @@ pub record NoticeExamples : Type 0 where
   pub inside : notice_of (codes "[a\\D]") ≡ Some LetterAlone
   pub escaped : notice_of (codes "[\\\\d]") ≡ None
   -- lines of a block and of a comment are no definitions
-  pub definitions : definition_lines (codes "%{\nx a\n%}\n/* y\nz b */\nD c\n%%\ne f\n") ≡ (6, codes "D c\n%%\ne f\n") ∷ []
+  pub definitions : definition_lines (codes "%{\nx a\n%}\n/* y\nz b */\nD c\n%%\ne f\n") ≡ (6, codes "D c\n%%\ne f\n")
+      ∷ []

@@ -18,18 +18,22 @@ max_notices = 100
 abbrev pub has_letters : List ℕ → Bool
 has_letters piece = begins (codes "[") piece && is_utf8 piece && list_any (λ b. nat_le 128 b) piece
 
--- a backslash before d, D, s, S, w or W, which stand for themselves; `escaped` where a backslash that counts stands before the text
+-- a backslash before d, D, s, S, w or W, which stand for themselves; `escaped` where a backslash that counts stands
+-- before the text
 abbrev pub escapes_letter : Bool → List ℕ → Bool
 escapes_letter escaped [] = false
 escapes_letter escaped (c ∷ t) = (escaped && contains (codes "dDsSwW") c) || escapes_letter (not escaped && c == 92) t
 
 -- what is warned of in a piece
 abbrev pub notice_of : List ℕ → Option NoticeKind
-notice_of piece = if has_letters piece then Some LettersAsBytes else if escapes_letter false piece then Some LetterAlone else None
+notice_of piece =
+    if has_letters piece then Some LettersAsBytes else if escapes_letter false piece then Some LetterAlone else None
 
 -- of a piece at its place in a line
 abbrev pub piece_notices : ℕ → ℕ × List ℕ → List Notice
-piece_notices line p = elim (notice_of p.1) [ None ↦ [] | Some kind ↦ record { line = line; at = p.0; size = length p.1; kind = kind } ∷ [] ]
+piece_notices line p =
+    elim (notice_of p.1)
+    [ None ↦ [] | Some kind ↦ record { line = line; at = p.0; size = length p.1; kind = kind } ∷ [] ]
 
 -- of the pattern that begins the text, before which so many bytes of the line stand
 abbrev pub pattern_notices : ℕ → ℕ → List ℕ → List Notice
@@ -37,7 +41,8 @@ pattern_notices line before text = flat_map (piece_notices line) (pieces_from be
 
 -- of the definition whose line begins the text: its pattern stands behind its name and blanks
 abbrev pub definition_notices : ℕ × List ℕ → List Notice
-definition_notices l = let text = after_blanks (take_run goes_on_name l.1).1 in pattern_notices l.0 (length l.1 - length text) text
+definition_notices l = let text =
+    after_blanks (take_run goes_on_name l.1).1 in pattern_notices l.0 (length l.1 - length text) text
 
 -- of the rule that begins a line, where there is one
 abbrev pub line_notices : Option (ℕ × List ℕ) → List Notice
@@ -50,4 +55,5 @@ rule_notices lines n = line_notices (slice_get lines (n - 1))
 
 -- of the definitions of a text, and then of its rules, which stand at these lines
 abbrev pub notices_of : List ℕ → List ℕ → List Notice
-notices_of rules text = flat_map definition_notices (definition_lines text) ++ flat_map (rule_notices (lines_from 1 true text)) rules
+notices_of rules text =
+    flat_map definition_notices (definition_lines text) ++ flat_map (rule_notices (lines_from 1 true text)) rules

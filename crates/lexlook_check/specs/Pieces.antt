@@ -1,5 +1,5 @@
--- The pieces of a pattern, as they stand: classes, texts in quotes, names and intervals in braces, escapes, and single bytes. (POSIX, lex,
--- Regular Expressions in lex.)
+-- The pieces of a pattern, as they stand: classes, texts in quotes, names and intervals in braces, escapes, and single
+-- bytes. (POSIX, lex, Regular Expressions in lex.)
 use Rattle.std.specs.Prelude.{ℕ, zero, suc, ◌-◌, ◌==◌, Bool, false, if◌then◌else◌, List, [], ◌∷◌, length, take, drop, unwrap_or}
 use Rattle.lex_semantics.specs.Reading.{is_white}
 use Rattle.lexre_bytes.specs.Lexical.{class_at}
@@ -12,7 +12,8 @@ behind_quote escaped [] = []
 behind_quote escaped (c ∷ t) =
     if escaped then behind_quote false t else if c == 34 then t else behind_quote (c == 92) t
 
--- what follows the piece that begins the text: a quote (34), a `[` (91), a `{` (123) and a backslash (92) begin one of several bytes
+-- what follows the piece that begins the text: a quote (34), a `[` (91), a `{` (123) and a backslash (92) begin one of
+-- several bytes
 abbrev pub behind_piece : List ℕ → List ℕ
 behind_piece [] = []
 behind_piece (c ∷ t) =
@@ -22,11 +23,12 @@ behind_piece (c ∷ t) =
     else if c == 92 then drop 1 t
     else t
 
--- The pieces of the pattern that begins the text, up to the first blank or newline outside of them, each with its place in the line: n bytes stand
--- before the text, and the first k of it belong to a piece before.
+-- The pieces of the pattern that begins the text, up to the first blank or newline outside of them, each with its place
+-- in the line: n bytes stand before the text, and the first k of it belong to a piece before.
 abbrev pub pieces_from : ℕ → ℕ → List ℕ → List (ℕ × List ℕ)
 pieces_from n k [] = []
 pieces_from n (suc k) (c ∷ t) = pieces_from (suc n) k t
 pieces_from n zero (c ∷ t) =
     if is_white c then []
-    else let more = length t - length (behind_piece (c ∷ t)) in (n, take (suc more) (c ∷ t)) ∷ pieces_from (suc n) more t
+    else let more =
+    length t - length (behind_piece (c ∷ t)) in (n, take (suc more) (c ∷ t)) ∷ pieces_from (suc n) more t

@@ -1,4 +1,5 @@
--- The files of a specification, and where its lines stand. (This project's; POSIX, lex: files are read in order, as one.)
+-- The files of a specification, and where its lines stand. (This project's; POSIX, lex: files are read in order, as
+-- one.)
 use Rattle.std.specs.Prelude.{ℕ, ◌-◌, ◌==◌, ◌||◌, ◌&&◌, Bool, not, nat_le, if◌then◌else◌, List, [], ◌∷◌, flat_map, length}
 use Rattle.lexspec_lines.specs.Lines.{newlines}
 use Rattle.lexspec_lines.specs.Sections.{ends_line}
@@ -12,7 +13,8 @@ joined_text files = flat_map (λ f. f.bytes.now) files
 abbrev pub begins_in : List ℕ → ℕ → Bool
 begins_in text n = nat_le n (newlines text) || ((n - newlines text == 1) && not (ends_line text))
 
--- the name of the file in which a line of the whole text begins, and its number there; in the last file stands what begins in none
+-- the name of the file in which a line of the whole text begins, and its number there; in the last file stands what
+-- begins in none
 abbrev pub line_place : List SourceFile → ℕ → List ℕ × ℕ
 line_place [] n = ([], n)
 line_place (f ∷ fs) n =

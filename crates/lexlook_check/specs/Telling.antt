@@ -25,22 +25,26 @@ told_bytes Lines files text findings = flat_map (finding_lines files text) findi
 told_bytes Json files text findings = flat_map (finding_json files text) findings
 
 -- of files these bytes are to be written: all that was found, in order of place
-pub record IsTellingOf (options : Options) (form : Form) (files : List SourceFile) (bytes : List ℕ) (checked : Checked) : Type 0 where
+pub record IsTellingOf (options : Options) (form : Form) (files : List SourceFile) (bytes : List ℕ)
+    (checked : Checked) : Type 0 where
   pub is_checked : IsChecked options (joined_text files) checked
   pub told : List Finding
   pub in_order : AreInOrder (findings_of checked) told
   pub bytes_are : bytes ≡ told_bytes form files (without_returns (joined_text files)) told
 
 -- what was found was written: all of it at `Ok`, a front of it at `Err`
-pub record CheckTold {K : Type 0} (wrote : K → List ℕ → K → Type 0) (options : Options) (form : Form) (files : List SourceFile) (s t : K) (answer : Result Bool CheckError) : Type 0 where
+pub record CheckTold {K : Type 0} (wrote : K → List ℕ → K → Type 0) (options : Options) (form : Form)
+    (files : List SourceFile) (s t : K) (answer : Result Bool CheckError) : Type 0 where
   pub checked : Checked
   pub bytes : List ℕ
   pub telling : IsTellingOf options form files bytes checked
   pub written : Appended (λ xs. wrote s xs t) bytes answer
 
 -- What was told of files: the answer says whether nothing is wrong. Where memory runs out the sink is as it was.
-abbrev pub TellsCheck : {K : Type 0} → (K → List ℕ → K → Type 0) → Options → Form → List SourceFile → K → K → Result Bool CheckError → Type 0
-TellsCheck wrote options form files s t (Ok well) = (x : CheckTold wrote options form files s t (Ok well)) × (well ≡ is_well x.checked)
+abbrev pub TellsCheck : {K : Type 0} → (K → List ℕ → K → Type 0) → Options → Form → List SourceFile → K → K
+    → Result Bool CheckError → Type 0
+TellsCheck wrote options form files s t (Ok well) =
+    (x : CheckTold wrote options form files s t (Ok well)) × (well ≡ is_well x.checked)
 TellsCheck wrote options form files s t (Err Write) = CheckTold wrote options form files s t (Err Write)
 TellsCheck wrote options form files s t (Err OutOfMemory) = t ≡ s
 

@@ -2,7 +2,8 @@
 use Rattle.std.specs.Prelude.{ℕ, ◌+◌, ◌-◌, ◌≤◌, nat_lt, if◌then◌else◌, List, [], ◌∷◌, ⊤}
 use Rattle.lexlook_letters.specs.declared.ranges.CodeRange.{CodeRange}
 
--- each has a code point, the first begins at this number or above it, and each other one two or more above the end of the one before
+-- each has a code point, the first begins at this number or above it, and each other one two or more above the end of
+-- the one before
 abbrev pub AreApartFrom : ℕ → List CodeRange → Type 0
 AreApartFrom least [] = ⊤
 AreApartFrom least (r ∷ rs) = (least ≤ r.first) × (r.first ≤ r.last) × AreApartFrom (r.last + 2) rs

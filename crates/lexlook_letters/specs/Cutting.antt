@@ -9,12 +9,14 @@ IsWhole first last = (first / 64 ≡ last / 64) ⊎ ((first % 64 ≡ 0) × (last
 -- both have one, two, three or four bytes
 abbrev pub HaveOneLength : ℕ → ℕ → Type 0
 HaveOneLength first last = (last < 0x80)
-    ⊎ (((0x80 ≤ first) × (last < 0x800)) ⊎ (((0x800 ≤ first) × (last < 0x10000)) ⊎ ((0x10000 ≤ first) × (last ≤ 0x10FFFF))))
+    ⊎ (((0x80 ≤ first) × (last < 0x800))
+    ⊎ (((0x800 ≤ first) × (last < 0x10000)) ⊎ ((0x10000 ≤ first) × (last ≤ 0x10FFFF))))
 
 -- each byte of an encoding may be any one from that of the first code point to that of the last
 abbrev pub IsPiece : ℕ → ℕ → Type 0
 IsPiece first last = HaveOneLength first last
-    × ((last < 0x80) ⊎ (IsWhole first last × IsWhole (first / 64) (last / 64) × IsWhole (first / 64 / 64) (last / 64 / 64)))
+    × ((last < 0x80)
+    ⊎ (IsWhole first last × IsWhole (first / 64) (last / 64) × IsWhole (first / 64 / 64) (last / 64 / 64)))
 
 -- the encoding of a number from the first to the last
 abbrev pub IsEncodingWithin : ℕ → ℕ → List ℕ → Type 0

@@ -1,4 +1,5 @@
--- Worked examples of encodings, and of ranges. (RFC 3629, section 7: its examples. The others are the ends of each length.)
+-- Worked examples of encodings, and of ranges. (RFC 3629, section 7: its examples. The others are the ends of each
+-- length.)
 use Rattle.std.specs.Prelude.{◌≡◌, ℕ, [], ◌∷◌}
 use Rattle.lexlook_letters.specs.Apart.{AreApart}
 use Rattle.lexlook_letters.specs.Encoding.{IsEncoded, encoding}
@@ -27,7 +28,9 @@ EndsOfLengths = (encoding 0 ≡ 0 ∷ [])
 
 -- surrogates, and what is beside them
 abbrev pub Surrogates : Type 0
-Surrogates = IsEncoded 0xD7FF × (IsEncoded 0xD800 → ⊥) × (IsEncoded 0xDFFF → ⊥) × IsEncoded 0xE000 × IsEncoded 0x10FFFF × (IsEncoded 0x110000 → ⊥)
+Surrogates =
+    IsEncoded 0xD7FF × (IsEncoded 0xD800 → ⊥) × (IsEncoded 0xDFFF → ⊥) × IsEncoded 0xE000 × IsEncoded 0x10FFFF
+    × (IsEncoded 0x110000 → ⊥)
 
 abbrev pub points_between : ℕ → ℕ → CodeRange
 points_between first last = record { first = first; last = last }

@@ -1,5 +1,6 @@
--- The pattern of sequences, as a text and as a tree. Sequences next to each other that have the same first bytes, and differ in the last one alone,
--- are one branch of it. (POSIX, lex, Regular Expressions in lex; escapes as in C. The branches are this project's.)
+-- The pattern of sequences, as a text and as a tree. Sequences next to each other that have the same first bytes, and
+-- differ in the last one alone, are one branch of it. (POSIX, lex, Regular Expressions in lex; escapes as in C. The
+-- branches are this project's.)
 use Rattle.std.specs.Prelude.{◌≡◌, ◌↔◌, ℕ, ◌+◌, ◌/◌, ◌%◌, ◌==◌, ◌&&◌, nat_lt, if◌then◌else◌, Bool, true, false, List, [], ◌∷◌, ◌++◌, map, codes}
 use Rattle.lex_semantics.specs.ByteSets.{ByteSet, range_set, union}
 use Rattle.lex_semantics.specs.Tree.{Tree, Set, Cat, Alt, In}
@@ -88,7 +89,8 @@ byte_escape b = codes "\\x" ++ hex_digit (b / 16) ∷ hex_digit (b % 16) ∷ []
 
 -- `\xHH`, or `\xHH-\xHH`
 abbrev pub range_text : ByteRange → List ℕ
-range_text r = if r.first == r.last then byte_escape r.first else byte_escape r.first ++ (codes "-" ++ byte_escape r.last)
+range_text r =
+    if r.first == r.last then byte_escape r.first else byte_escape r.first ++ (codes "-" ++ byte_escape r.last)
 
 -- a class of one range, for each
 abbrev pub classes_text : List ByteRange → List ℕ
@@ -117,8 +119,10 @@ letters_text (s ∷ ss) = open_text s ++ rest_text s ss
 
 -- The text spells the tree, whatever is defined and however intervals are read, where letters stand for themselves.
 abbrev pub SpellsAlways : List ℕ → Tree → Type 0
-SpellsAlways text tree = (how : ReadOptions) (definitions : Definitions) → how.fold ≡ false → Spells how definitions text tree
+SpellsAlways text tree =
+    (how : ReadOptions) (definitions : Definitions) → how.fold ≡ false → Spells how definitions text tree
 
 -- it spells a pattern whose words are the encodings of the code points of the ranges
 abbrev pub SpellsEncodings : List ℕ → List CodeRange → Type 0
-SpellsEncodings text ranges = (tree : Tree) × SpellsAlways text tree × ((w : List ℕ) → In tree w ↔ IsEncodingOf (InOneOf ranges) w)
+SpellsEncodings text ranges =
+    (tree : Tree) × SpellsAlways text tree × ((w : List ℕ) → In tree w ↔ IsEncodingOf (InOneOf ranges) w)

@@ -1,5 +1,5 @@
--- The lines of the matches of a scan. (flex, Scanner Options: `-d`; POSIX, Actions in lex: the longest match, then the earliest rule, REJECT goes
--- on to the next.)
+-- The lines of the matches of a scan. (flex, Scanner Options: `-d`; POSIX, Actions in lex: the longest match, then the
+-- earliest rule, REJECT goes on to the next.)
 use Rattle.std.specs.Prelude.{◌≡◌, ℕ, zero, suc, List, [], ◌∷◌, ◌++◌, ◌⊎◌, drop, take, Option, Some, None, slice_get}
 use Rattle.lex_semantics.specs.Acting.{Ending, Acting}
 use Rattle.lex_semantics.specs.Candidates.{Candidate}
@@ -45,4 +45,6 @@ LinesFrom S x s None before lines = (more : List ℕ) × TurnLines S x s.place m
 -- the lines of the first n turns of the specification's scan
 abbrev pub Lines : Spec → List ℕ → ℕ → List ℕ → Type 0
 Lines S x zero lines = lines ≡ []
-Lines S x (suc n) lines = (s : State) × (before : List ℕ) × Turns (rules_of S) x n s × Lines S x n before × LinesFrom S x s s.ended before lines
+Lines S x (suc n) lines =
+    (s : State) × (before : List ℕ) × Turns (rules_of S) x n s × Lines S x n before
+    × LinesFrom S x s s.ended before lines

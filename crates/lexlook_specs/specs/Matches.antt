@@ -38,20 +38,22 @@ pub record IsInput (m : RuleMatches) (c : ℕ) (w : List ℕ) : Type 0 where
   pub text : IsText w
   pub some : 1 ≤ length w
 
--- The rule takes the text: it fits, and each earlier rule that fits gives it up by REJECT. (POSIX, lex, Actions in lex: the rule
--- that was given first; REJECT goes on to the next.)
+-- The rule takes the text: it fits, and each earlier rule that fits gives it up by REJECT. (POSIX, lex, Actions in lex:
+-- the rule that was given first; REJECT goes on to the next.)
 abbrev pub TakesText : RuleMatches → ℕ → Bool → List ℕ → ℕ → Type 0
 TakesText m c line w i = m.fits c line w i × ((j : ℕ) → j < i → m.fits c line w j → m.gives_up j ≡ true)
 
 -- Some text fits rule i, but rule j takes it and does not give it up.
 abbrev pub TakesOf : RuleMatches → ℕ → ℕ → Type 0
-TakesOf m i j = (c : ℕ) × (line : Bool) × (w : List ℕ) × IsInput m c w × m.fits c line w i × TakesText m c line w j × (m.gives_up j ≡ false)
+TakesOf m i j =
+    (c : ℕ) × (line : Bool) × (w : List ℕ) × IsInput m c w × m.fits c line w i × TakesText m c line w j
+    × (m.gives_up j ≡ false)
 
 -- each rule that fits the text gives it up
 abbrev pub IsGivenUp : RuleMatches → ℕ → Bool → List ℕ → Type 0
 IsGivenUp m c line w = (i : ℕ) → m.fits c line w i → m.gives_up i ≡ true
 
--- The default rule copies the first byte of the text: no rule keeps a front of it. (POSIX, lex, Actions in lex: input that matches
--- no pattern is copied.)
+-- The default rule copies the first byte of the text: no rule keeps a front of it. (POSIX, lex, Actions in lex: input
+-- that matches no pattern is copied.)
 abbrev pub IsCopied : RuleMatches → ℕ → Bool → List ℕ → Type 0
 IsCopied m c line y = (n : ℕ) → 1 ≤ n → n ≤ length y → IsGivenUp m c line (take n y)

@@ -46,7 +46,8 @@ node_line lines s (i ∷ is) = accepting_line lines s (i ∷ is)
 
 abbrev pub edge : ℕ → ℕ → (ℕ → Bool) → List ℕ
 edge s t set = concat (
-    codes "  " ∷ decimal s ∷ codes " -> " ∷ decimal t ∷ codes " [label=\"" ∷ quoted (class_of set) ∷ codes "\"];\n" ∷ [])
+    codes "  " ∷ decimal s ∷ codes " -> " ∷ decimal t ∷ codes " [label=\"" ∷ quoted (class_of set) ∷ codes "\"];\n"
+    ∷ [])
 
 -- one of the first n bytes leads to the state
 abbrev pub leads_below : (ℕ → ℕ) → ℕ → ℕ → Bool

@@ -51,4 +51,5 @@ IsFirstStart p rejects w wish n (Some s) =
 -- the rule takes texts of another in one of the first n states
 abbrev pub TakesBelow : Parts → List Bool → List (Option ℕ) → ℕ → ℕ → ℕ → Type 0
 TakesBelow p rejects places n i j =
-    (s k : ℕ) × (s < n) × IsPlacedAt places s k × Among (accepts p s) i × Among (takers rejects (accepts p s)) j × (flag rejects j ≡ false)
+    (s k : ℕ) × (s < n) × IsPlacedAt places s k × Among (accepts p s) i × Among (takers rejects (accepts p s)) j
+    × (flag rejects j ≡ false)

@@ -1,4 +1,5 @@
--- The specification that tells its matches. (flex, Scanner Options: `-d`. What becomes of statements that write is this project's.)
+-- The specification that tells its matches. (flex, Scanner Options: `-d`. What becomes of statements that write is this
+-- project's.)
 use Rattle.std.specs.Prelude.{ℕ, suc, ◌&&◌, Bool, true, false, nat_lt, List, [], ◌∷◌, ◌++◌, length, map, Some, None, codes, decimal}
 use Rattle.std.specs.List.{concat, filter}
 use Rattle.lex_semantics.specs.ByteSets.{complement, empty_set}
@@ -50,7 +51,8 @@ default_rule n = record {
 -- the conditions from number c on
 abbrev pub traced_conditions : ℕ → List Condition → List Condition
 traced_conditions c [] = []
-traced_conditions c (k ∷ ks) = record k { end = record { print = end_line c; status = k.end.status } } ∷ traced_conditions (suc c) ks
+traced_conditions c (k ∷ ks) =
+    record k { end = record { print = end_line c; status = k.end.status } } ∷ traced_conditions (suc c) ks
 
 -- The rules of the specification with actions that tell, and after them the default rule.
 abbrev pub traced : Spec → Spec

@@ -1,5 +1,5 @@
--- What is shown of rules: a text that each takes. (flex tells by -s of a default rule that is taken, and warns of a rule that
--- cannot be matched; the rest is this project's.)
+-- What is shown of rules: a text that each takes. (flex tells by -s of a default rule that is taken, and warns of a
+-- rule that cannot be matched; the rest is this project's.)
 use Rattle.std.specs.Prelude.{◌≡◌, ◌⊎◌, ◌↔◌, ℕ, ◌<◌, Bool, true, List, length, Option, Some, None, slice_get}
 use Rattle.lex_semantics.specs.Text.{Among, Ascending}
 use Rattle.lexauto_reports.specs.BackWords.{Precedes}

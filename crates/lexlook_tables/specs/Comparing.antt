@@ -17,7 +17,8 @@ abbrev pub HaveEnds : List ℕ → Machine → Machine → Option ℕ → Type 0
 HaveEnds order M N None = (c : ℕ) → c < M.conditions → M.ending c ≡ N.ending (number_in order c)
 HaveEnds order M N (Some c) = (c < M.conditions) × (M.ending c ≡ N.ending (number_in order c) → ⊥)
 
--- They do the same of each match, and at the end of the input; and where both begin in the same condition they scan alike.
+-- They do the same of each match, and at the end of the input; and where both begin in the same condition they scan
+-- alike.
 pub record DoSame (order : List ℕ) (M N : Machine) : Type 0 where
   pub conditions : M.conditions ≡ N.conditions
   pub ends : HaveEnds order M N None
@@ -30,4 +31,5 @@ abbrev pub Compares : List ℕ → Machine → Machine → Comparison → Type 0
 Compares order M N Same = DoSame order M N
 Compares order M N Conditions = M.conditions ≡ N.conditions → ⊥
 Compares order M N (Ends c) = (M.conditions ≡ N.conditions) × HaveEnds order M N (Some c)
-Compares order M N (Texts d) = (M.conditions ≡ N.conditions) × HaveEnds order M N None × (all : Bool) × Counts all M N × Differs order all M N d
+Compares order M N (Texts d) =
+    (M.conditions ≡ N.conditions) × HaveEnds order M N None × (all : Bool) × Counts all M N × Differs order all M N d

@@ -8,10 +8,12 @@ use Rattle.lex_semantics.specs.Machine.{Machine, state_after}
 use Rattle.lex_semantics.specs.Acting.{Ending}
 use Rattle.lex_semantics.specs.Run.{Run}
 
--- The run over two pieces, the first of which ends with a newline, writes what the runs over each of them write, and ends as the
--- second one does.
+-- The run over two pieces, the first of which ends with a newline, writes what the runs over each of them write, and
+-- ends as the second one does.
 abbrev pub ScansApart : Rules → Type 0
-ScansApart R = (x y v w : List ℕ) (d e : Ending) → IsText x → IsText y → Run R (x ++ 10 ∷ []) v d → Run R y w e → Run R ((x ++ 10 ∷ []) ++ y) (v ++ w) e
+ScansApart R =
+    (x y v w : List ℕ) (d e : Ending) → IsText x → IsText y → Run R (x ++ 10 ∷ []) v d → Run R y w e
+    → Run R ((x ++ 10 ∷ []) ++ y) (v ++ w) e
 
 -- the last byte of a match may be one of its text (flex, Patterns: trailing context)
 abbrev pub may_keep_last : Cut → Bool
@@ -54,7 +56,9 @@ after_line M c line w = state_after M c line (w ++ 10 ∷ [])
 
 -- each rule that takes the newline after this text leaves the scan in INITIAL
 abbrev pub EndsLineAfter : Machine → ℕ → Bool → List ℕ → Type 0
-EndsLineAfter M c line w = (i : ℕ) → Among (M.accepts (after_line M c line w)) i → may_keep_last (M.cut i) ≡ true → leaves_line c (M.statements i) ≡ true
+EndsLineAfter M c line w =
+    (i : ℕ) → Among (M.accepts (after_line M c line w)) i → may_keep_last (M.cut i) ≡ true
+    → leaves_line c (M.statements i) ≡ true
 
 -- a newline alone is taken by some rule, and not by the default rule (POSIX, Actions in lex)
 pub record TakesLine (M : Machine) (c : ℕ) (line : Bool) : Type 0 where

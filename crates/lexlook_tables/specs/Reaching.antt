@@ -5,7 +5,8 @@ use Rattle.lex_semantics.specs.Machine.{Machine, walk}
 use Rattle.lexauto_reports.specs.BackWords.{Precedes, NotAfter}
 use Rattle.lexlook_tables.specs.Searching.{KeyAt}
 
--- A key is the number of a start, among those from which the search begins, and behind it a text. It leads to this state.
+-- A key is the number of a start, among those from which the search begins, and behind it a text. It leads to this
+-- state.
 abbrev pub LeadsTo : Machine → List ℕ → List ℕ → ℕ → Type 0
 LeadsTo M from [] s = ⊥
 LeadsTo M from (j ∷ w) s = (j < length from) × IsText w × (s ≡ walk M (get_or from j 0) w)
@@ -21,13 +22,15 @@ pub record InOrder (M : Machine) (n : ℕ) (from found : List ℕ) (keys : List 
 abbrev pub FoundBy : List ℕ → List (List ℕ) → ℕ → List ℕ → Type 0
 FoundBy found keys s u = (i : ℕ) × (v : List ℕ) × KeyAt keys i v × (get_or found i 0 ≡ s) × NotAfter v u
 
--- These are the states, each below n, that texts lead to from those: each once, in the order of the first texts that lead to them.
+-- These are the states, each below n, that texts lead to from those: each once, in the order of the first texts that
+-- lead to them.
 pub record IsReached (M : Machine) (n : ℕ) (from found : List ℕ) : Type 0 where
   pub keys : List (List ℕ)
   pub order : InOrder M n from found keys
   pub all : (j : ℕ) (w : List ℕ) → j < length from → IsText w → FoundBy found keys (walk M (get_or from j 0) w) (j ∷ w)
 
--- The states found so far, which are marked. Of those before this place each byte was followed, and of the one there each below b.
+-- The states found so far, which are marked. Of those before this place each byte was followed, and of the one there
+-- each below b.
 pub record Found (M : Machine) (n : ℕ) (from found : List ℕ) (marks : List Bool) (place b : ℕ) : Type 0 where
   pub keys : List (List ℕ)
   pub order : InOrder M n from found keys
@@ -35,7 +38,8 @@ pub record Found (M : Machine) (n : ℕ) (from found : List ℕ) (marks : List B
   pub marked : (s : ℕ) → flag marks s ≡ true → Among found s
   pub ahead : (t u : List ℕ) (j : ℕ) → KeyAt keys place t → KeyAt keys j u → Precedes u (t ++ b ∷ [])
   pub starts : (j : ℕ) → j < length from → FoundBy found keys (get_or from j 0) (j ∷ [])
-  pub closed : (i c : ℕ) (t : List ℕ) → KeyAt keys i t → c < 256 → (i < place) ⊎ ((i ≡ place) × (c < b)) → FoundBy found keys (M.next (get_or found i 0) c) (t ++ c ∷ [])
+  pub closed : (i c : ℕ) (t : List ℕ) → KeyAt keys i t → c < 256 → (i < place) ⊎ ((i ≡ place) × (c < b))
+      → FoundBy found keys (M.next (get_or found i 0) c) (t ++ c ∷ [])
 
 -- the search from these starts, before any byte was followed: the text of each key is empty
 pub record Begun (M : Machine) (n : ℕ) (from found : List ℕ) (marks : List Bool) : Type 0 where
@@ -50,7 +54,8 @@ Added found marks s found' marks' =
 
 -- the search begins from these states too
 abbrev pub BegunFrom : List ℕ → List ℕ → List Bool → List ℕ → List Bool → Type 0
-BegunFrom states found marks found' marks' = (M : Machine) (n : ℕ) (from : List ℕ) → Begun M n from found marks → Begun M n (from ++ states) found' marks'
+BegunFrom states found marks found' marks' =
+    (M : Machine) (n : ℕ) (from : List ℕ) → Begun M n from found marks → Begun M n (from ++ states) found' marks'
 
 -- how many states are not marked
 abbrev pub unmarked : List Bool → ℕ

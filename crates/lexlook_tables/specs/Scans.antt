@@ -8,7 +8,9 @@ use Rattle.lexlook_tables.specs.Same.{number_in}
 
 -- Over each input the two runs write the same bytes, and end alike.
 abbrev pub ScanAlike : Machine → Machine → Type 0
-ScanAlike M N = (x written : List ℕ) (e : Ending) → IsText x → Run (rules_of_machine M) x written e ↔ Run (rules_of_machine N) x written e
+ScanAlike M N =
+    (x written : List ℕ) (e : Ending) → IsText x → Run (rules_of_machine M) x written e
+    ↔ Run (rules_of_machine N) x written e
 
 -- Condition 0, in which a scan begins, has the number 0 in the second machine too (POSIX, Actions in lex: BEGIN).
 abbrev pub BeginTogether : List ℕ → Type 0

@@ -58,7 +58,8 @@ unseen (true ∷ seen) = unseen seen
 unseen (false ∷ seen) = suc (unseen seen)
 
 -- a pair that a byte leads to from the one at this place was found, by a text that is not after
-pub record IsFound (M N : Machine) (n : ℕ) (ps : List Pair) (keys : List (List ℕ)) (seen : List Bool) (i : ℕ) (p : Pair) (b : ℕ) : Type 0 where
+pub record IsFound (M N : Machine) (n : ℕ) (ps : List Pair) (keys : List (List ℕ)) (seen : List Bool) (i : ℕ) (p : Pair)
+    (b : ℕ) : Type 0 where
   pub place : ℕ
   pub pair : Pair
   pub at : HasAt ps place pair
@@ -68,8 +69,10 @@ pub record IsFound (M N : Machine) (n : ℕ) (ps : List Pair) (keys : List (List
   pub was_seen : IsSeen seen n pair.left pair.right
   pub first : (t u : List ℕ) → KeyAt keys i t → KeyAt keys place u → NotAfter u (t ++ b ∷ [])
 
--- The pairs found so far, where those before this place were widened by each byte, and the one at this place by the bytes below b.
-pub record Searched (order : List ℕ) (all : Bool) (M N : Machine) (m n : ℕ) (ps : List Pair) (seen : List Bool) (at b : ℕ) : Type 0 where
+-- The pairs found so far, where those before this place were widened by each byte, and the one at this place by the
+-- bytes below b.
+pub record Searched (order : List ℕ) (all : Bool) (M N : Machine) (m n : ℕ) (ps : List Pair) (seen : List Bool)
+    (at b : ℕ) : Type 0 where
   pub linked : AreLinked order M N ps
   pub within : (i : ℕ) (p : Pair) → HasAt ps i p → (p.left < m) × (p.right < n)
   pub few : (i : ℕ) (p : Pair) → HasAt ps i p → p.far ≤ i
@@ -80,22 +83,29 @@ pub record Searched (order : List ℕ) (all : Bool) (M N : Machine) (m n : ℕ) 
   pub keyed : AreKeyed keys ps
   pub ascending : (i j : ℕ) (u v : List ℕ) → KeyAt keys i u → KeyAt keys j v → i < j → Precedes u v
   pub ahead : (t : List ℕ) (j : ℕ) (u : List ℕ) → KeyAt keys at t → KeyAt keys j u → Precedes u (t ++ b ∷ [])
-  pub starts : (c : ℕ) (line : Bool) → c < M.conditions → (i : ℕ) × (p : Pair) × HasAt ps i p × IsStart order M N c line p × KeyAt keys i (key c line [])
+  pub starts : (c : ℕ) (line : Bool) → c < M.conditions → (i : ℕ) × (p : Pair) × HasAt ps i p
+      × IsStart order M N c line p × KeyAt keys i (key c line [])
   pub size : length seen ≡ m * n
-  pub known : (s t : ℕ) → s < m → t < n → IsSeen seen n s t → (i : ℕ) × (p : Pair) × HasAt ps i p × (p.left ≡ s) × (p.right ≡ t)
+  pub known : (s t : ℕ) → s < m → t < n → IsSeen seen n s t → (i : ℕ) × (p : Pair) × HasAt ps i p × (p.left ≡ s)
+      × (p.right ≡ t)
   pub agree : (s t : ℕ) → s < m → t < n → IsSeen seen n s t → deeds_in order all M s ≡ deeds_at all N t
-  pub closed : (i : ℕ) (p : Pair) (c : ℕ) → HasAt ps i p → c < 256 → (i < at) ⊎ ((i ≡ at) × (c < b)) → IsFound M N n ps keys seen i p c
+  pub closed : (i : ℕ) (p : Pair) (c : ℕ) → HasAt ps i p → c < 256 → (i < at) ⊎ ((i ≡ at) × (c < b))
+      → IsFound M N n ps keys seen i p c
 
 -- the pairs in which matches start, in the first k conditions
 pub record AreStarts (order : List ℕ) (M N : Machine) (m n : ℕ) (ps : List Pair) (k : ℕ) : Type 0 where
-  pub each : (i : ℕ) (p : Pair) → HasAt ps i p → (c : ℕ) × (line : Bool) × (p.from ≡ Start c line) × (c < k) × IsStart order M N c line p
+  pub each : (i : ℕ) (p : Pair) → HasAt ps i p → (c : ℕ) × (line : Bool) × (p.from ≡ Start c line) × (c < k)
+      × IsStart order M N c line p
   pub within : (i : ℕ) (p : Pair) → HasAt ps i p → (p.left < m) × (p.right < n)
-  pub all : (c : ℕ) (line : Bool) → c < k → (i : ℕ) × (p : Pair) × HasAt ps i p × IsStart order M N c line p × (p.from ≡ Start c line)
-  pub ascending : (i j : ℕ) (p q : Pair) → HasAt ps i p → HasAt ps j q → i < j → Precedes (start_key p.from) (start_key q.from)
+  pub all : (c : ℕ) (line : Bool) → c < k → (i : ℕ) × (p : Pair) × HasAt ps i p × IsStart order M N c line p
+      × (p.from ≡ Start c line)
+  pub ascending : (i j : ℕ) (p q : Pair) → HasAt ps i p → HasAt ps j q → i < j
+      → Precedes (start_key p.from) (start_key q.from)
 
 -- of a match that the byte ends, after a text that leads to the pair at this place, they do not do the same
 abbrev pub DifferAt : List ℕ → Bool → Machine → Machine → List Pair → ℕ → ℕ → Type 0
-DifferAt order all M N ps at b = (p : Pair) → HasAt ps at p → deeds_in order all M (M.next p.left b) ≡ deeds_at all N (N.next p.right b) → ⊥
+DifferAt order all M N ps at b =
+    (p : Pair) → HasAt ps at p → deeds_in order all M (M.next p.left b) ≡ deeds_at all N (N.next p.right b) → ⊥
 
 -- one list goes on where the other ends
 abbrev pub GoesOn : List Pair → List Pair → Type 0

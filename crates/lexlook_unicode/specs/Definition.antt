@@ -1,4 +1,5 @@
--- The line that defines a name for code points. (POSIX, lex, Definitions in lex. How the name is made is this project's.)
+-- The line that defines a name for code points. (POSIX, lex, Definitions in lex. How the name is made is this
+-- project's.)
 use Rattle.std.specs.Prelude.{◌≡◌, ℕ, ◌==◌, if◌then◌else◌, List, [], ◌∷◌, ◌++◌, codes}
 use Rattle.std.specs.List.{flat_map}
 use Rattle.lexlook_letters.specs.Text.{SpellsEncodings}

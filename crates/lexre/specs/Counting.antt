@@ -29,7 +29,8 @@ frames_nodes (f ∷ fs) = frame_nodes f + frames_nodes fs
 abbrev pub state_nodes : State → ℕ
 state_nodes (state here outer d) = frame_nodes here + frames_nodes outer
 
--- how many nodes the next item brings besides its own: 1 where it is the second of a series, or the first after the first bar
+-- how many nodes the next item brings besides its own: 1 where it is the second of a series, or the first after the
+-- first bar
 abbrev pub extra : Frame → ℕ
 extra (frame done [] (Some t) k) = 1
 extra (frame done (p ∷ ps) (Some t) k) = 0

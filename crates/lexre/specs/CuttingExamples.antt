@@ -1,5 +1,5 @@
--- Worked examples of where the pattern of a rule ends, and what stands at its end. (POSIX, lex, Rules in lex; flex, Patterns:
--- `r/s`, `r$`.)
+-- Worked examples of where the pattern of a rule ends, and what stands at its end. (POSIX, lex, Rules in lex; flex,
+-- Patterns: `r/s`, `r$`.)
 use Rattle.std.specs.Prelude.{ℕ, Bool, true, false, List, Option, Some, None, codes}
 use Rattle.lexre.specs.Cutting.{IsCutting}
 
@@ -12,8 +12,8 @@ pub record Ends : Type 0 where
   pub in_class : IsCutting (codes "[ a] c") 4 None false false
   pub behind_backslash : IsCutting (codes "a\\ b c") 4 None false false
 
--- A slash counts, unless it stands in quotes, in a class or behind a backslash; it is told where the first stands, and whether
--- there is a second.
+-- A slash counts, unless it stands in quotes, in a class or behind a backslash; it is told where the first stands, and
+-- whether there is a second.
 pub record Slashes : Type 0 where
   pub slash : IsCutting (codes "a/b c") 3 (Some 1) false false
   pub two_slashes : IsCutting (codes "a/b/c d") 5 (Some 1) true false

@@ -36,9 +36,12 @@ abbrev pub special_with : Bool → List (Piece × ℕ) → Bool
 special_with special [] = special
 special_with special (p ∷ ps) = ends_with_dollar (p ∷ ps)
 
--- the first slash, whether there is a second, and whether the last piece is a `$`; or none where a slash is inside parentheses
+-- the first slash, whether there is a second, and whether the last piece is a `$`; or none where a slash is inside
+-- parentheses
 abbrev pub Ending : Type 0
 Ending = Option (Option ℕ × Bool × Bool)
 
 unfoldable pub ending : CuttingSoFar → List (Piece × ℕ) → Ending
-ending p ps = slashes p.depth ps >>= λ places. Some (first_with p.slash places, two_with p.two p.slash places, special_with p.dollar ps)
+ending p ps =
+    slashes p.depth ps >>= λ places. Some
+    (first_with p.slash places, two_with p.two p.slash places, special_with p.dollar ps)

@@ -9,11 +9,15 @@ use Rattle.lexre.specs.declared.options.ReadOptions.{ReadOptions}
 
 -- where the name m stands for a tree, so does the name n, where fewer may be opened
 abbrev pub LeadsTo : ReadOptions → Definitions → List ℕ → List ℕ → Type 0
-LeadsTo how definitions m n = (d : ℕ) (t : Tree) → StandsIn how definitions d m t → (below : ℕ) × (u : Tree) × (below < d) × StandsIn how definitions below n u
+LeadsTo how definitions m n =
+    (d : ℕ) (t : Tree) → StandsIn how definitions d m t → (below : ℕ) × (u : Tree) × (below < d)
+    × StandsIn how definitions below n u
 
 -- where the name m stands for a tree, the text spells one, where fewer may be opened
 abbrev pub LeadsToText : ReadOptions → Definitions → List ℕ → List ℕ → Type 0
-LeadsToText how definitions m text = (d : ℕ) (t : Tree) → StandsIn how definitions d m t → (below : ℕ) × (u : Tree) × (below < d) × SpellsIn how definitions below text u
+LeadsToText how definitions m text =
+    (d : ℕ) (t : Tree) → StandsIn how definitions d m t → (below : ℕ) × (u : Tree) × (below < d)
+    × SpellsIn how definitions below text u
 
 -- each of the names leads to the name
 abbrev pub AllLead : ReadOptions → Definitions → List (List ℕ) → List ℕ → Type 0

@@ -34,4 +34,6 @@ usable left (Some k) = if nat_le k.1 left then Some k else None
 
 -- each name stands for the tree that is kept of it, which is sound
 abbrev pub AreKnown : ReadOptions → Definitions → NamedTrees → Type 0
-AreKnown how definitions trees = (n : List ℕ) (t : Tree) (needed : ℕ) → get trees n ≡ Some (t, needed) → StandsIn how definitions needed n t × IsSoundTree t
+AreKnown how definitions trees =
+    (n : List ℕ) (t : Tree) (needed : ℕ) → get trees n ≡ Some (t, needed) → StandsIn how definitions needed n t
+    × IsSoundTree t

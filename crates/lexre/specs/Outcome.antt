@@ -12,4 +12,5 @@ size_of _ = 0
 
 -- what begins a text is no symbol, or one that has too many nodes by itself
 abbrev pub IsRefused : Option (Symbol × List ℕ) → Type 0
-IsRefused front = (s : Symbol) (rest : List ℕ) → ◌≡◌ {A = Option (Symbol × List ℕ)} front (Some (s, rest)) → max_nodes < size_of s
+IsRefused front =
+    (s : Symbol) (rest : List ℕ) → ◌≡◌ {A = Option (Symbol × List ℕ)} front (Some (s, rest)) → max_nodes < size_of s

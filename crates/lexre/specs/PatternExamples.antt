@@ -1,5 +1,5 @@
--- Worked examples of patterns: trees that texts spell, and texts that spell none. (POSIX, lex, Regular Expressions in lex;
--- flex, Patterns. The bounds are this project's.)
+-- Worked examples of patterns: trees that texts spell, and texts that spell none. (POSIX, lex, Regular Expressions in
+-- lex; flex, Patterns. The bounds are this project's.)
 use Rattle.std.specs.Prelude.{◌≡◌, ℕ, zero, suc, ◌+◌, ◌^◌, true, false, List, [], ◌∷◌, ◌++◌, Some, None, codes, replicate}
 use Rattle.std.specs.FinMap.{get}
 use Rattle.lex_semantics.specs.ByteSets.{single, range_set, union, complement}
@@ -65,8 +65,8 @@ Items =
     × Is plain (quote ++ codes "a" ++ quote) a
     × Is plain (quote ++ codes "ab" ++ quote) ab
 
--- Classes: `]` as the first element, `-` as the last one and after a range, an escape, `[` and `.` as they stand, and named
--- classes.
+-- Classes: `]` as the first element, `-` as the last one and after a range, an escape, `[` and `.` as they stand, and
+-- named classes.
 abbrev pub Classes : Type 0
 Classes =
     Is plain (codes "[]a]") (Set (2 ^ 93 + 2 ^ 97))
@@ -89,16 +89,20 @@ ClassNames =
     × Is plain (codes "[[:cntrl:]]") (Set (union (range_set 0 31) (single 127)))
     × Is plain (codes "[[:graph:]]") (Set (range_set 33 126))
     × Is plain (codes "[[:print:]]") (Set (range_set 32 126))
-    × Is plain (codes "[[:punct:]]") (Set (union (union (range_set 33 47) (range_set 58 64)) (union (range_set 91 96) (range_set 123 126))))
+    × Is plain (codes "[[:punct:]]")
+    (Set (union (union (range_set 33 47) (range_set 58 64)) (union (range_set 91 96) (range_set 123 126))))
 
--- Escapes: at most two hexadecimal digits and at most three octal ones, `\x` without a digit, and those of C; in quotes they
--- are the same.
+-- Escapes: at most two hexadecimal digits and at most three octal ones, `\x` without a digit, and those of C; in quotes
+-- they are the same.
 abbrev pub Escapes : Type 0
 Escapes =
     Is plain (codes "\\x411") (Cat (trees (one_letter 65 ∷ one_letter 49 ∷ [])))
     × Is plain (codes "\\1011") (Cat (trees (one_letter 65 ∷ one_letter 49 ∷ [])))
     × Is plain (codes "\\x") (one_letter 120)
-    × Is plain (codes "\\a\\b\\f\\n\\r\\t\\v") (Cat (trees (one_letter 7 ∷ one_letter 8 ∷ one_letter 12 ∷ one_letter 10 ∷ one_letter 13 ∷ one_letter 9 ∷ one_letter 11 ∷ [])))
+    × Is plain (codes "\\a\\b\\f\\n\\r\\t\\v")
+    (Cat (trees
+    (one_letter 7 ∷ one_letter 8 ∷ one_letter 12 ∷ one_letter 10 ∷ one_letter 13 ∷ one_letter 9 ∷ one_letter 11
+    ∷ [])))
     × Is plain (codes "\\*") (one_letter 42)
     × Is plain (codes "\"a\\\"b\"") (Cat (trees (a ∷ one_letter 34 ∷ b ∷ [])))
 
@@ -177,8 +181,9 @@ Bounds =
     × Is plain (enclosed 64) a
     × IsNone plain (enclosed 65)
 
--- Nothing, an operator or a bar without an item, parentheses without others, an interval whose bounds are 0, out of order, above
--- 255 or without the first, a class and a text in quotes without an end, a range that is out of order, and a blank outside quotes.
+-- Nothing, an operator or a bar without an item, parentheses without others, an interval whose bounds are 0, out of
+-- order, above 255 or without the first, a class and a text in quotes without an end, a range that is out of order, and
+-- a blank outside quotes.
 abbrev pub Refused : Type 0
 Refused =
     IsNone plain []
@@ -197,9 +202,9 @@ Refused =
     × IsNone plain (codes "[c-a]")
     × IsNone plain (codes "a b")
 
--- A class without an element, a complement without a byte, a name of no class, a class that is negated by its name, a class of
--- equal letters, a collating element, a range up to a class, an octal escape above 255, a backslash at the end, a slash, a
--- tab, and a newline: alone, behind a backslash, in quotes and in a class.
+-- A class without an element, a complement without a byte, a name of no class, a class that is negated by its name, a
+-- class of equal letters, a collating element, a range up to a class, an octal escape above 255, a backslash at the
+-- end, a slash, a tab, and a newline: alone, behind a backslash, in quotes and in a class.
 abbrev pub RefusedItems : Type 0
 RefusedItems =
     IsNone plain (codes "[]")

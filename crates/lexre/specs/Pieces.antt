@@ -29,11 +29,13 @@ abbrev pub IsEnd : List ℕ → Type 0
 IsEnd [] = Unit {0}
 IsEnd (c ∷ t) = is_white c ≡ true
 
--- The text, which stands at the place `at`, begins with these pieces, each with its place, up to the end of the pattern.
+-- The text, which stands at the place `at`, begins with these pieces, each with its place, up to the end of the
+-- pattern.
 abbrev pub IsPieces : ℕ → List ℕ → List (Piece × ℕ) → ℕ → Type 0
 IsPieces at text [] end = IsEnd text × (end ≡ at)
 IsPieces at text (p ∷ ps) end =
-    (rest : List ℕ) × (kind_at text ≡ Some (p.0, rest)) × (p.1 ≡ at) × IsPieces (at + (length text - length rest)) rest ps end
+    (rest : List ℕ) × (kind_at text ≡ Some (p.0, rest)) × (p.1 ≡ at)
+    × IsPieces (at + (length text - length rest)) rest ps end
 
 -- The places of the slashes outside parentheses, or none where one is inside. n are open before, and a closing one with
 -- none open counts for nothing.

@@ -42,10 +42,12 @@ pub record IsRead (spelled : ℕ → Tree → Type 0) (left room to_spare : ℕ)
   pub sound : IsSoundTree tree
 
 -- A symbol is taken, which brings few nodes: also where as many fewer may be opened as there are to spare.
-pub record IsStep (how : ReadOptions) (definitions : Definitions) (s : Symbol) (before after : State) (room to_spare brought : ℕ) : Type 0 where
+pub record IsStep (how : ReadOptions) (definitions : Definitions) (s : Symbol) (before after : State)
+    (room to_spare brought : ℕ) : Type 0 where
   pub found : StepsIn how definitions before s after
   pub spare : to_spare ≤ may_open after
-  pub lower : (e : ℕ) → e ≤ may_open before → e ≤ to_spare → StepsIn how definitions (lowered e before) s (lowered e after)
+  pub lower : (e : ℕ) → e ≤ may_open before → e ≤ to_spare
+      → StepsIn how definitions (lowered e before) s (lowered e after)
   pub few : brought ≤ room
   pub sound : IsSoundState after
   pub counted : state_nodes after ≡ state_nodes before + brought

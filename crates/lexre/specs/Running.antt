@@ -1,5 +1,5 @@
--- Reading the symbols of a pattern from the left, with a stack of what is open. The grammar does not mention it: that it
--- answers as the grammar says is proved.
+-- Reading the symbols of a pattern from the left, with a stack of what is open. The grammar does not mention it: that
+-- it answers as the grammar says is proved.
 use Rattle.std.specs.Prelude.{◌≡◌, ℕ, zero, suc, nat_lt, Bool, true, false, if◌then◌else◌, List, [], ◌∷◌, ◌++◌, Option, Some, None}
 use Rattle.lex_semantics.specs.Tree.{Tree, Trees, trees, Cat, Alt}
 use Rattle.lexre_bytes.specs.Symbols.{Symbol, item, name, opening, closing, bar, sign, Lexer, IsCut}
@@ -17,8 +17,8 @@ series_tree parts last = joined Cat parts last
 abbrev pub choice_tree : List Tree → Tree → Tree
 choice_tree ts last = joined Alt ts last
 
--- How many signs stand on the whole series, and how many on the item that was read last: the next sign applies to that, or
--- else to the whole series.
+-- How many signs stand on the whole series, and how many on the item that was read last: the next sign applies to that,
+-- or else to the whole series.
 abbrev pub Signs : Type 0
 Signs = ℕ × Option ℕ
 
@@ -41,7 +41,8 @@ one_more (k, None) = on_series (suc k)
 abbrev pub series_count : Signs → ℕ
 series_count k = k.0
 
--- What an interval applies to: the parts before it, itself, and its signs. That is the last part, or under `posix` the series.
+-- What an interval applies to: the parts before it, itself, and its signs. That is the last part, or under `posix` the
+-- series.
 abbrev pub parts_before : Bool → List Tree → List Tree
 parts_before posix parts = if posix then [] else parts
 
@@ -51,8 +52,8 @@ operand posix parts last = if posix then series_tree parts last else last
 abbrev pub operand_signs : Bool → Signs → Signs
 operand_signs posix k = if posix then on_series (series_count k) else k
 
--- A pattern as far as it was read: its finished series, and of the series that is being read the parts before the last, the
--- last, if there is one, and its signs.
+-- A pattern as far as it was read: its finished series, and of the series that is being read the parts before the last,
+-- the last, if there is one, and its signs.
 pub data Frame : Type 0 where
   frame : List Tree → List Tree → Option Tree → Signs → Frame
 
@@ -91,13 +92,15 @@ opened (state here outer zero) = None
 opened (state here outer (suc d)) = Some (state fresh (here ∷ outer) d)
 
 abbrev pub closed : State → Option State
-closed (state (frame done parts (Some t) k) (f ∷ fs) d) = Some (state (pushed (choice_tree done (series_tree parts t)) f) fs (suc d))
+closed (state (frame done parts (Some t) k) (f ∷ fs) d) =
+    Some (state (pushed (choice_tree done (series_tree parts t)) f) fs (suc d))
 closed (state (frame done parts (Some t) k) [] d) = None
 closed (state (frame done parts None k) outer d) = None
 
 abbrev pub parted : State → Option State
 parted (state (frame done parts None k) outer d) = None
-parted (state (frame done parts (Some t) k) outer d) = Some (state (frame (done ++ series_tree parts t ∷ []) [] None (on_item 0 0)) outer d)
+parted (state (frame done parts (Some t) k) outer d) =
+    Some (state (frame (done ++ series_tree parts t ∷ []) [] None (on_item 0 0)) outer d)
 
 abbrev pub finished : State → Option Tree
 finished (state (frame done parts (Some t) k) [] d) = Some (choice_tree done (series_tree parts t))
@@ -129,7 +132,8 @@ module _ (posix : Bool) (symbol_at : Lexer) (defined : List ℕ → Option (List
 
   abbrev pub StepsName : State → List ℕ → State → Type 0
   StepsName (state here outer zero) n after = ⊥
-  StepsName (state here outer (suc d)) n after = (t : Tree) × Stands d n t × (after ≡ state (pushed t here) outer (suc d))
+  StepsName (state here outer (suc d)) n after =
+      (t : Tree) × Stands d n t × (after ≡ state (pushed t here) outer (suc d))
 
   abbrev pub Steps : State → Symbol → State → Type 0
   Steps st (item t) after = Some (push t st) ≡ Some after

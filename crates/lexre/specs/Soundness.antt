@@ -26,7 +26,8 @@ LeadsToSound _ = ⊤
 
 -- all its trees are sound
 abbrev pub IsSoundFrame : Frame → Type 0
-IsSoundFrame (frame done parts last k) = AreSoundTrees (trees done) × AreSoundTrees (trees parts) × IfSome last IsSoundTree
+IsSoundFrame (frame done parts last k) =
+    AreSoundTrees (trees done) × AreSoundTrees (trees parts) × IfSome last IsSoundTree
 
 abbrev pub AreSoundFrames : List Frame → Type 0
 AreSoundFrames [] = ⊤

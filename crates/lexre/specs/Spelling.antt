@@ -9,7 +9,8 @@ use Rattle.lexre_bytes.specs.Lexical.{symbol_at}
 use Rattle.lexre.specs.Limits.{max_open, max_nodes}
 use Rattle.lexre.specs.declared.options.ReadOptions.{ReadOptions}
 
--- The text is a pattern, and this is its tree: there are not too many parentheses and names open at one place, and not too
--- many nodes. Under `fold` letters stand for both cases, and under `posix` intervals apply to series.
+-- The text is a pattern, and this is its tree: there are not too many parentheses and names open at one place, and not
+-- too many nodes. Under `fold` letters stand for both cases, and under `posix` intervals apply to series.
 abbrev pub Spells : ReadOptions → Definitions → List ℕ → Tree → Type 0
-Spells how definitions text tree = SpellsWithin how.posix (symbol_at how.fold) (get definitions) max_open text tree × (nodes tree ≤ max_nodes)
+Spells how definitions text tree =
+    SpellsWithin how.posix (symbol_at how.fold) (get definitions) max_open text tree × (nodes tree ≤ max_nodes)

@@ -33,5 +33,6 @@ unfoldable pub braces_from : Reader Symbol
 braces_from t =
     if list_any is_digit (take 1 t) then interval_at t
     else if list_any starts_name (take 1 t) then
-    (let (letters, rest) = take_run goes_on_name t in after_word (codes "}") rest >>= λ after. Some (name letters, after))
+    (let (letters, rest) = take_run goes_on_name t
+    in after_word (codes "}") rest >>= λ after. Some (name letters, after))
     else None

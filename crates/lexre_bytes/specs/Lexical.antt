@@ -52,8 +52,8 @@ quoted_tree fold bs = grouped Cat (map (λ b. Set (folded fold (single b))) bs)
 
 -- Bracket expressions, here called classes.
 
--- An element of a class is read as its set. It has none where it may not stand: `[:^name:]`, `[=a=]`, `[.a.]`, a class name
--- that there is not, a range from a greater byte to a smaller one, or one whose second end is no byte.
+-- An element of a class is read as its set. It has none where it may not stand: `[:^name:]`, `[=a=]`, `[.a.]`, a class
+-- name that there is not, a range from a greater byte to a smaller one, or one whose second end is no byte.
 
 -- the bytes from the first to the second, both in it
 unfoldable pub span : ℕ → ℕ → Option ByteSet
@@ -70,24 +70,29 @@ enclosed_by mark t = after_word (codes "[" ++ mark) t >>= λ u.
     let (bytes, rest) = take_run (λ b. not (contains (codes "]\n") b)) u in
     if nat_lt 1 (length bytes) && ends_with nat_eq bytes mark then after_word (codes "]") rest else None
 
--- An element between brackets, and what follows it: `[:name:]` has the set of that class, and `[:^name:]`, `[=a=]` and `[.a.]`
--- have none.
+-- An element between brackets, and what follows it: `[:name:]` has the set of that class, and `[:^name:]`, `[=a=]` and
+-- `[.a.]` have none.
 unfoldable pub bracketed_at : Reader (Option ByteSet)
 bracketed_at t =
     option_or (class_name_at (codes "[:") t >>= λ (letters, rest). Some (named_set letters, rest))
-    (option_or (class_name_at (codes "[:^") t >>= λ (letters, rest). Some rest) (option_or (enclosed_by (codes "=") t) (enclosed_by (codes ".") t)) >>= λ rest. Some (None, rest))
+    (option_or (class_name_at (codes "[:^") t >>= λ (letters, rest). Some rest)
+    (option_or (enclosed_by (codes "=") t) (enclosed_by (codes ".") t)) >>= λ rest. Some (None, rest))
 
 -- after the first end of a range and its `-`: its set, and what follows it
 unfoldable pub range_at : ℕ → Reader (Option ByteSet)
-range_at lo t = option_or (bracketed_at t >>= λ (e, rest). Some (None, rest)) (byte_with escape_at t >>= λ (hi, rest). Some (span lo hi, rest))
+range_at lo t =
+    option_or (bracketed_at t >>= λ (e, rest). Some (None, rest))
+    (byte_with escape_at t >>= λ (hi, rest). Some (span lo hi, rest))
 
 -- An element between brackets, a range, or a byte. A range is a byte and a `-` before anything but an unescaped `]`.
 unfoldable pub element_at : Reader (Option ByteSet)
 element_at t = option_or (bracketed_at t) (byte_with escape_at t >>= λ (lo, rest).
-    if begins (codes "-") rest && list_any (λ c. not (contains (codes "]") c)) (take 1 (drop 1 rest)) then range_at lo (drop 1 rest)
+    if begins (codes "-") rest && list_any (λ c. not (contains (codes "]") c)) (take 1 (drop 1 rest))
+    then range_at lo (drop 1 rest)
     else Some (span lo lo, rest))
 
--- The elements up to the closing bracket, and what follows it. A `]` that comes first is an element. The number bounds them.
+-- The elements up to the closing bracket, and what follows it. A `]` that comes first is an element. The number bounds
+-- them.
 unfoldable pub elements_at : ℕ → Bool → Reader (List (Option ByteSet))
 elements_at zero first t = None
 elements_at (suc n) first t =
@@ -129,8 +134,8 @@ braces_at t = option_or (interval_at t) (name_at t >>= λ (letters, rest).
 
 -- Symbols.
 
--- The symbol at the front of the text, and what follows it: a sign that is one by itself, a text in quotes, a class, what
--- stands in braces, or an escape or a byte. A `/`, a blank and a newline are none.
+-- The symbol at the front of the text, and what follows it: a sign that is one by itself, a text in quotes, a class,
+-- what stands in braces, or an escape or a byte. A `/`, a blank and a newline are none.
 unfoldable pub symbol_at : Bool → Reader Symbol
 symbol_at fold [] = None
 symbol_at fold (c ∷ t) =
@@ -138,7 +143,8 @@ symbol_at fold (c ∷ t) =
     ∷ sign false (λ t. Repeat t 0 (Some 1)) ∷ item (Set (complement (single 10))) ∷ []) in
     option_or (find (λ row. c == row.0) signs >>= λ row. Some (row.1, t))
     (if contains (codes "\"") c then (quoted_bytes t >>= λ (bs, rest). Some (item (quoted_tree fold bs), rest))
-    else if contains (codes "[") c then (class_at t >>= λ (negated, es, rest). class_set fold negated es >>= λ s. Some (item (Set s), rest))
+    else if contains (codes "[") c
+    then (class_at t >>= λ (negated, es, rest). class_set fold negated es >>= λ s. Some (item (Set s), rest))
     else if contains (codes "{") c then braces_at t
     else if contains (codes "/ \t") c then None
     else byte_with escape_at (c ∷ t) >>= λ (b, rest). Some (item (Set (folded fold (single b))), rest))

@@ -1,5 +1,5 @@
--- Where a text in quotes or a class cannot be read on, and the fault that is told of it. (POSIX, lex, Regular Expressions in lex.
--- Which of several faults is told is this project's.)
+-- Where a text in quotes or a class cannot be read on, and the fault that is told of it. (POSIX, lex, Regular
+-- Expressions in lex. Which of several faults is told is this project's.)
 use Rattle.std.specs.Prelude.{ℕ, zero, suc, if◌then◌else◌, List, length, Option, option_map, unwrap_or, codes}
 use Rattle.std.specs.Option.{option_or}
 use Rattle.lex_semantics.specs.Escapes.{byte_with}
@@ -8,7 +8,8 @@ use Rattle.lexre_bytes.specs.Lexical.{escape_at, bracketed_at}
 use Rattle.lexre_bytes.specs.declared.error.PatternErrorKind.{PatternErrorKind}
 use Rattle.lexre_bytes.specs.declared.error.PatternErrorKind.TheVariants.{BadEscape}
 
--- What is left of the text after all that can be taken from its front, one after another. The number bounds how much that is.
+-- What is left of the text after all that can be taken from its front, one after another. The number bounds how much
+-- that is.
 unfoldable pub left_by : (List ℕ → Option (List ℕ)) → ℕ → List ℕ → List ℕ
 left_by take_one zero t = t
 left_by take_one (suc n) t = unwrap_or (option_map (left_by take_one n) (take_one t)) t

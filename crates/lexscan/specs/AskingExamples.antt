@@ -1,5 +1,5 @@
--- Worked examples of what the turns of a scan ask for, and of what is known of it, by the rule `aa ECHO;`; and of the order of
--- matches. (This project's.)
+-- Worked examples of what the turns of a scan ask for, and of what is known of it, by the rule `aa ECHO;`; and of the
+-- order of matches. (This project's.)
 use Rattle.std.specs.Prelude.{ℕ, true, false, [], ◌∷◌, codes}
 use Rattle.lex_semantics.specs.Spec.{Spec}
 use Rattle.lex_semantics.specs.Rules.{rules_of}
@@ -12,8 +12,8 @@ use Rattle.lex_semantics.specs.Examples.{echoing, string}
 abbrev pub two_as : Spec
 two_as = echoing (string (codes "aa"))
 
--- Before a turn nothing is asked for. The first match asks for a byte, and for another one where an a came; after aa no longer match
--- may come.
+-- Before a turn nothing is asked for. The first match asks for a byte, and for another one where an a came; after aa no
+-- longer match may come.
 pub record Asking : Type 0 where
   pub none : Far (rules_of two_as) (codes "aab") 0 0
   pub whole : Far (rules_of two_as) (codes "aab") 1 2

@@ -29,12 +29,17 @@ module _ {S K : Type 0} {of_source : Source.Ghosts S} {of_sink : Sink.Ghosts K} 
   MayGoOn M e s (Err error) = s.state.failed ≡ true
 
   -- A turn was made, or given up since it asks for more than the source has, or refused.
-  pub record Attempted (M : Machine) (e e' : Ends S K of_source of_sink) (old new : Scan) (result : Result (Option Turn) RunError) : Type 0 where
+  pub record Attempted (M : Machine) (e e' : Ends S K of_source of_sink) (old new : Scan)
+      (result : Result (Option Turn) RunError) : Type 0 where
     pub same : SameEnds e e'
-    pub attempts : Attempts M of_source.gave of_sink.wrote (source_of e.intake) (source_of e'.intake) (sink_of e.outlet) (sink_of e'.outlet) old.state new.state result
-    pub ends : of_source.ends (source_of e'.intake) ≡ of_source.ends (source_of e.intake) + end_step old.state.reading.at_end new.state.reading.at_end
-    pub read_faults : of_source.failures (source_of e'.intake) ≡ of_source.failures (source_of e.intake) + read_fault_count result
-    pub write_faults : of_sink.failures (sink_of e'.outlet) ≡ of_sink.failures (sink_of e.outlet) + write_fault_count result
+    pub attempts : Attempts M of_source.gave of_sink.wrote (source_of e.intake) (source_of e'.intake) (sink_of e.outlet)
+        (sink_of e'.outlet) old.state new.state result
+    pub ends : of_source.ends (source_of e'.intake) ≡ of_source.ends (source_of e.intake) + end_step
+        old.state.reading.at_end new.state.reading.at_end
+    pub read_faults : of_source.failures (source_of e'.intake) ≡ of_source.failures (source_of e.intake) +
+        read_fault_count result
+    pub write_faults : of_sink.failures (sink_of e'.outlet) ≡ of_sink.failures (sink_of e.outlet) + write_fault_count
+        result
     pub max_reads : new.state.reading.max_reads ≡ old.state.reading.max_reads
     pub handed_on : HandedOnIfMade (of_sink.flushed (sink_of e'.outlet)) result
     pub too_many : IsErrOf result TooManyReads → ⊥
@@ -43,7 +48,8 @@ module _ {S K : Type 0} {of_source : Source.Ghosts S} {of_sink : Sink.Ghosts K} 
     pub kept : ScanInvariant M new
 
 -- What several turns add to the counts of the two ends, where the source had not answered its end.
-pub record TurnsCount {S K : Type 0} (ends_of reads_of : S → ℕ) (writes_of : K → ℕ) (s s' : S) (t t' : K) (new : State) (result : Result Turn RunError) : Type 0 where
+pub record TurnsCount {S K : Type 0} (ends_of reads_of : S → ℕ) (writes_of : K → ℕ) (s s' : S) (t t' : K) (new : State)
+    (result : Result Turn RunError) : Type 0 where
   pub ends : ends_of s' ≡ ends_of s + end_step false new.reading.at_end
   pub read_faults : reads_of s' ≡ reads_of s + read_fault_count result
   pub write_faults : writes_of t' ≡ writes_of t + write_fault_count result
@@ -70,7 +76,8 @@ pub record MayBeFed {A : Type 0} (M : Machine) (s : Scan) (result : Result A Run
   pub reachable : s.state.failed ≡ false → IsReachable M s.state
 
 -- The same after a piece, with the bytes that wait and the state after all of them, where the next match asks for more.
-pub record PieceLeft (M : Machine) (states : ℕ) (s : Scan) (waiting : List ℕ) (asking : Option ℕ) (result : Result Turn RunError) : Type 0 where
+pub record PieceLeft (M : Machine) (states : ℕ) (s : Scan) (waiting : List ℕ) (asking : Option ℕ)
+    (result : Result Turn RunError) : Type 0 where
   pub next : MayBeFed M s result
   pub reading : s.state.failed ≡ false → s.state.ended ≡ None → s.state.reading.at_end ≡ false
   pub asking_more : IsAsking M states s.state waiting asking

@@ -28,32 +28,43 @@ pub record Between (v : State) (bytes : List ℕ) (taken condition : ℕ) (line 
 
 -- The invariant after n turns holds of each such state that has not failed.
 abbrev pub AllInvariant : Machine → ℕ → List ℕ → List ℕ → List ℕ → ℕ → ℕ → Bool → List ℕ → Type 0
-AllInvariant M n given out bytes taken condition line stack = (v : State) → Between v bytes taken condition line stack → v.failed ≡ false → TurnInvariant M n given out v
+AllInvariant M n given out bytes taken condition line stack =
+    (v : State) → Between v bytes taken condition line stack → v.failed ≡ false → TurnInvariant M n given out v
 
--- Some turns over a text, of which the first bytes are held: they were told from its first byte up to that at `done`, and asked for those
--- up to `asked`.
-pub record TurnsMade {K : Type 0} (M : Machine) (wrote : K → List ℕ → K → Type 0) (t u : K) (text : List ℕ) (held condition : ℕ) (line : Bool) (done asked condition' : ℕ) (line' : Bool) : Type 0 where
+-- Some turns over a text, of which the first bytes are held: they were told from its first byte up to that at `done`,
+-- and asked for those up to `asked`.
+pub record TurnsMade {K : Type 0} (M : Machine) (wrote : K → List ℕ → K → Type 0) (t u : K) (text : List ℕ)
+    (held condition : ℕ) (line : Bool) (done asked condition' : ℕ) (line' : Bool) : Type 0 where
   pub turns : ℕ
   pub out : List ℕ
   pub sink : wrote t out u
-  pub stand : (n : ℕ) (given before : List ℕ) (taken : ℕ) (stack : List ℕ) → AllInvariant M n given before (take held text) taken condition line stack →
-      AllInvariant M (turns + n) (given ++ drop held (take asked text)) (before ++ out) (drop done (take asked text)) (taken + (asked - held)) condition' line' stack
+  pub stand : (n : ℕ) (given before : List ℕ) (taken : ℕ) (stack : List ℕ)
+      → AllInvariant M n given before (take held text) taken condition line stack →
+      AllInvariant M (turns + n) (given ++ drop held (take asked text)) (before ++ out) (drop done (take asked text))
+      (taken + (asked - held)) condition' line' stack
 
 -- The burst was stopped: the turn after some others was refused, since the sink failed.
-pub record BurstStopped {K : Type 0} (M : Machine) (wrote : K → List ℕ → K → Type 0) (t u : K) (text : List ℕ) (held condition : ℕ) (line : Bool) (done asked condition' : ℕ) (line' : Bool) : Type 0 where
+pub record BurstStopped {K : Type 0} (M : Machine) (wrote : K → List ℕ → K → Type 0) (t u : K) (text : List ℕ)
+    (held condition : ℕ) (line : Bool) (done asked condition' : ℕ) (line' : Bool) : Type 0 where
   pub turns : ℕ
   pub out : List ℕ
   pub sink : wrote t out u
   pub before : ℕ
   pub few : held ≤ before
   pub more : before ≤ asked
-  pub refusal : (n : ℕ) (given had : List ℕ) (taken : ℕ) (stack : List ℕ) → AllInvariant M n given had (take held text) taken condition line stack →
-      (v : State) → Between v (drop done (take asked text)) (taken + (asked - held)) condition' line' stack → v.failed ≡ true →
-      AfterRefusal M (turns + n) (given ++ drop held (take before text)) (drop before (take asked text)) (had ++ out) v Write
+  pub refusal : (n : ℕ) (given had : List ℕ) (taken : ℕ) (stack : List ℕ)
+      → AllInvariant M n given had (take held text) taken condition line stack →
+      (v : State) → Between v (drop done (take asked text)) (taken + (asked - held)) condition' line' stack
+      → v.failed ≡ true →
+      AfterRefusal M (turns + n) (given ++ drop held (take before text)) (drop before (take asked text)) (had ++ out) v
+      Write
 
-abbrev pub BurstsBy : {K : Type 0} → Bool → Machine → (K → List ℕ → K → Type 0) → K → K → List ℕ → ℕ → ℕ → Bool → Burst → Type 0
-BurstsBy false M wrote t u text held condition line b = TurnsMade M wrote t u text held condition line b.done b.asked b.condition b.line_start
-BurstsBy true M wrote t u text held condition line b = BurstStopped M wrote t u text held condition line b.done b.asked b.condition b.line_start
+abbrev pub BurstsBy : {K : Type 0} → Bool → Machine → (K → List ℕ → K → Type 0) → K → K → List ℕ → ℕ → ℕ → Bool → Burst
+    → Type 0
+BurstsBy false M wrote t u text held condition line b =
+    TurnsMade M wrote t u text held condition line b.done b.asked b.condition b.line_start
+BurstsBy true M wrote t u text held condition line b =
+    BurstStopped M wrote t u text held condition line b.done b.asked b.condition b.line_start
 
 abbrev pub fault_of : Bool → ℕ
 fault_of true = 1
@@ -61,7 +72,8 @@ fault_of false = 0
 
 -- A burst was made over a text, of which so many bytes were held: what it wrote, and where it led.
 module _ {K : Type 0} {of_sink : Sink.Ghosts K} where
-  pub record BurstMade (M : Machine) (o o' : Outlet K of_sink) (text : List ℕ) (count : ℕ) (place : TextPlace) (b : Burst) : Type 0 where
+  pub record BurstMade (M : Machine) (o o' : Outlet K of_sink) (text : List ℕ) (count : ℕ) (place : TextPlace)
+      (b : Burst) : Type 0 where
     pub same : sink_name o' ≡ sink_name o
     pub bursts : BurstsBy b.fault M of_sink.wrote (sink_of o) (sink_of o') text count place.condition place.line_start b
     pub failures : of_sink.failures (sink_of o') ≡ of_sink.failures (sink_of o) + fault_of b.fault
@@ -84,13 +96,20 @@ pub record Advanced (b : Burst) (got : ℕ) (old new : State) : Type 0 where
   pub ended : new.ended ≡ old.ended
   pub failed : new.failed ≡ old.failed
 
--- Several turns preserve the invariant: where it holds after n turns, it holds after some more, with their bytes appended; or the
--- turn after some of them was refused.
+-- Several turns preserve the invariant: where it holds after n turns, it holds after some more, with their bytes
+-- appended; or the turn after some of them was refused.
 abbrev pub BurstPreserves : Machine → State → State → List ℕ → List ℕ → Result ℕ RunError → Type 0
-BurstPreserves M old new got wrote (Ok count) = (turns : ℕ) × ((n : ℕ) (given out : List ℕ) → TurnInvariant M n given out old → TurnInvariant M (turns + n) (given ++ got) (out ++ wrote) new)
-BurstPreserves M old new got wrote (Err e) = (turns : ℕ) × (had more : List ℕ) × (got ≡ had ++ more) × ((n : ℕ) (given out : List ℕ) → TurnInvariant M n given out old → AfterRefusal M (turns + n) (given ++ had) more (out ++ wrote) new e)
+BurstPreserves M old new got wrote (Ok count) =
+    (turns : ℕ)
+    × ((n : ℕ) (given out : List ℕ) → TurnInvariant M n given out old
+    → TurnInvariant M (turns + n) (given ++ got) (out ++ wrote) new)
+BurstPreserves M old new got wrote (Err e) =
+    (turns : ℕ) × (had more : List ℕ) × (got ≡ had ++ more)
+    × ((n : ℕ) (given out : List ℕ) → TurnInvariant M n given out old
+    → AfterRefusal M (turns + n) (given ++ had) more (out ++ wrote) new e)
 
 -- The text starts no earlier, nor does the match.
 pub record NoEarlier (old new : State) : Type 0 where
   pub start : old.reading.taken - length old.reading.window.bytes ≤ new.reading.taken - length new.reading.window.bytes
-  pub place : old.reading.taken - length old.reading.window.bytes + old.place.at ≤ new.reading.taken - length new.reading.window.bytes + new.place.at
+  pub place : old.reading.taken - length old.reading.window.bytes + old.place.at ≤ new.reading.taken - length
+      new.reading.window.bytes + new.place.at

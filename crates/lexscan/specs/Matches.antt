@@ -1,4 +1,5 @@
--- What a turn tells of its match. (POSIX, lex, Actions in lex: the longest match, then the earliest rule, REJECT goes on to the next.)
+-- What a turn tells of its match. (POSIX, lex, Actions in lex: the longest match, then the earliest rule, REJECT goes
+-- on to the next.)
 use Rattle.std.specs.Prelude.{◌≡◌, ℕ, ◌+◌, ◌-◌, ◌<◌, ◌≤◌, Bool, List, [], ◌∷◌, ◌++◌, length, drop, Option, Some, None, if◌then◌else◌}
 use Rattle.lex_semantics.specs.Text.{part, at_line_start}
 use Rattle.lex_semantics.specs.Rules.{Rules}
@@ -40,10 +41,11 @@ abbrev pub text_of : Option Match → State → List ℕ
 text_of None s = []
 text_of (Some m) s = last_of m.length (kept_before s)
 
--- Over every input that is consistent with the bytes given, a match of this rule is carried out at the place. Its text begins and is as
--- long as is told, with what yymore kept before it, after trailing context and yyless. It is this text, which is a part of
--- the bytes given.
-pub record MatchedBy (R : Rules) (given : List ℕ) (at_end : Bool) (p : Place) (told : Match) (text : List ℕ) : Type 0 where
+-- Over every input that is consistent with the bytes given, a match of this rule is carried out at the place. Its text
+-- begins and is as long as is told, with what yymore kept before it, after trailing context and yyless. It is this
+-- text, which is a part of the bytes given.
+pub record MatchedBy (R : Rules) (given : List ℕ) (at_end : Bool) (p : Place) (told : Match)
+    (text : List ℕ) : Type 0 where
   pub taken : Candidate
   pub outcome : Acting
   pub carries : (x : List ℕ) → Consistent given at_end x → CarriesOut R x p taken outcome

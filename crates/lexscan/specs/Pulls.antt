@@ -1,5 +1,5 @@
--- Tokens that are asked for one by one, of an input that is fed piece by piece. (POSIX, lex, Rules in lex and Actions in lex: which
--- matches these are; how they are asked for is this project's.)
+-- Tokens that are asked for one by one, of an input that is fed piece by piece. (POSIX, lex, Rules in lex and Actions
+-- in lex: which matches these are; how they are asked for is this project's.)
 use Rattle.std.specs.Prelude.{◌≡◌, ℕ, ◌+◌, ◌^◌, ◌<◌, ⊤, Bool, true, false, List, [], ◌∷◌, ◌++◌, length, Option, Some, None, Result, Ok, Err, IfErr, OnErr, ◌⊎◌}
 use Rattle.lex_semantics.specs.Text.{IsText, part}
 use Rattle.lex_semantics.specs.ByteSets.{bit_of}
@@ -24,9 +24,11 @@ use Rattle.lexscan.specs.Tokens.{TokensOf, Tokenised, Stopped}
 abbrev pub whole_token : PulledToken → Token
 whole_token t = record { rule = t.rule; start = t.start; end = t.start + t.length; condition = t.condition }
 
--- These bytes were fed, their end was told or not, and these tokens were told. So many turns asked for the first of the bytes, and the
--- others wait, until the scan ends. Over every input that goes on so, the tokens are those of these turns.
-pub record TokensTold (M : Machine) (fed : List ℕ) (told : Bool) (tokens : List Token) (s : State) (waiting : List ℕ) : Type 0 where
+-- These bytes were fed, their end was told or not, and these tokens were told. So many turns asked for the first of the
+-- bytes, and the others wait, until the scan ends. Over every input that goes on so, the tokens are those of these
+-- turns.
+pub record TokensTold (M : Machine) (fed : List ℕ) (told : Bool) (tokens : List Token) (s : State)
+    (waiting : List ℕ) : Type 0 where
   pub turns : ℕ
   pub given : List ℕ
   pub left : List ℕ
@@ -49,16 +51,18 @@ StoppedSo R fed told tokens e = (x : List ℕ) → Consistent fed told x → Sto
 -- The next turn asks for more than all that was fed. The end of that was not told, and the scan has not ended.
 abbrev pub WantsPiece : Machine → List ℕ → Bool → List Token → State → List ℕ → Type 0
 WantsPiece M fed told tokens s waiting =
-    (h : TokensTold M fed told tokens s waiting) × (told ≡ false) × (s.ended ≡ None) × AsksForMore (rules_of_machine M) h.turns fed
+    (h : TokensTold M fed told tokens s waiting) × (told ≡ false) × (s.ended ≡ None)
+    × AsksForMore (rules_of_machine M) h.turns fed
 
--- What asking for the next token leaves, with the text of the token that is told: one token more; or more input is wanted; or the scan has
--- ended; or a turn is refused.
+-- What asking for the next token leaves, with the text of the token that is told: one token more; or more input is
+-- wanted; or the scan has ended; or a turn is refused.
 abbrev pub AfterPull : Machine → List ℕ → Bool → List Token → State → List ℕ → List ℕ → Result Pulled RunError → Type 0
 AfterPull M fed told tokens s waiting text (Ok (Pulled.Token t)) =
     TokensTold M fed told (tokens ++ whole_token t ∷ []) s waiting × (text ≡ part fed t.start (t.start + t.length))
 AfterPull M fed told tokens s waiting text (Ok Pulled.More) = WantsPiece M fed told tokens s waiting × (text ≡ [])
 AfterPull M fed told tokens s waiting text (Ok (Pulled.Ended status)) =
-    TokensTold M fed told tokens s waiting × TokenisedSo (rules_of_machine M) fed told tokens (Status status) × (text ≡ [])
+    TokensTold M fed told tokens s waiting × TokenisedSo (rules_of_machine M) fed told tokens (Status status)
+    × (text ≡ [])
 AfterPull M fed told tokens s waiting text (Err e) = StoppedSo (rules_of_machine M) fed told tokens e × (text ≡ [])
 
 -- where the text of a token ends is a number of 64 bits
@@ -70,9 +74,10 @@ EndsInRange other = ⊤
 abbrev pub RefusesPiece : Bool → RunError → Type 0
 RefusesPiece failed e = (e ≡ OutOfMemory) ⊎ (e ≡ TooManyReads) ⊎ ((e ≡ Failed) × (failed ≡ true))
 
--- One turn over the bytes that wait: it was made, given up since it asks for more than these, or refused. It was given the first of
--- them, and was told their end only where none is left.
-pub record TurnedOver (M : Machine) (waiting left : List ℕ) (old new : Scan) (result : Result (Option Turn) RunError) : Type 0 where
+-- One turn over the bytes that wait: it was made, given up since it asks for more than these, or refused. It was given
+-- the first of them, and was told their end only where none is left.
+pub record TurnedOver (M : Machine) (waiting left : List ℕ) (old new : Scan)
+    (result : Result (Option Turn) RunError) : Type 0 where
   pub got : List ℕ
   pub put : List ℕ
   pub all : waiting ≡ got ++ left

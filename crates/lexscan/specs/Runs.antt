@@ -10,7 +10,8 @@ use Rattle.lexscan_window.specs.Reads.{read_fault_count, write_fault_count}
 use Rattle.lexscan.specs.TurnInvariants.{TurnInvariant, RefusedTurn, RunCompleted}
 
 -- After some turns these bytes were given and written.
-pub record Running {S K : Type 0} (M : Machine) (gave : S → List ℕ → S → Type 0) (wrote : K → List ℕ → K → Type 0) (s s' : S) (t t' : K) (now : State) : Type 0 where
+pub record Running {S K : Type 0} (M : Machine) (gave : S → List ℕ → S → Type 0) (wrote : K → List ℕ → K → Type 0)
+    (s s' : S) (t t' : K) (now : State) : Type 0 where
   pub turns : ℕ
   pub given : List ℕ
   pub out : List ℕ
@@ -18,8 +19,8 @@ pub record Running {S K : Type 0} (M : Machine) (gave : S → List ℕ → S →
   pub sink : wrote t out t'
   pub invariant : TurnInvariant M turns given out now
 
--- The run was stopped by a refused turn: what was written is a front of what the run of each consistent input writes; where the stack was at
--- fault, it is all of it, and the run ends so.
+-- The run was stopped by a refused turn: what was written is a front of what the run of each consistent input writes;
+-- where the stack was at fault, it is all of it, and the run ends so.
 pub record RunStopped (R : Rules) (given out : List ℕ) (at_end : Bool) (max_reads : ℕ) (e : RunError) : Type 0 where
   pub turns : ℕ
   pub had : List ℕ
@@ -35,7 +36,8 @@ Ran R given out at_end max_reads (Err e) = RunStopped R given out at_end max_rea
 
 -- The bytes given, the answers of the end and the failed reads are together no more than this.
 abbrev pub FewReads : {S : Type 0} → (S → ℕ) → (S → ℕ) → S → S → List ℕ → ℕ → Type 0
-FewReads ends_of reads_of s s' given max_reads = length given + (ends_of s' - ends_of s) + (reads_of s' - reads_of s) ≤ max_reads
+FewReads ends_of reads_of s s' given max_reads =
+    length given + (ends_of s' - ends_of s) + (reads_of s' - reads_of s) ≤ max_reads
 
 -- The counts of both ends have room for one more.
 pub record FewCounts {S K : Type 0} (ends_of reads_of : S → ℕ) (writes_of : K → ℕ) (s : S) (t : K) : Type 0 where
@@ -44,7 +46,8 @@ pub record FewCounts {S K : Type 0} (ends_of reads_of : S → ℕ) (writes_of : 
   pub writes : writes_of t < 2 ^ 64 - 1
 
 -- What a run adds to the counts of the two ends.
-pub record RunCounts {S K : Type 0} (ends_of reads_of : S → ℕ) (writes_of : K → ℕ) (s s' : S) (t t' : K) (result : Result ℕ RunError) : Type 0 where
+pub record RunCounts {S K : Type 0} (ends_of reads_of : S → ℕ) (writes_of : K → ℕ) (s s' : S) (t t' : K)
+    (result : Result ℕ RunError) : Type 0 where
   pub ends_stay : ends_of s ≤ ends_of s'
   pub one_end : ends_of s' ≤ ends_of s + 1
   pub read_faults : reads_of s' ≡ reads_of s + read_fault_count result

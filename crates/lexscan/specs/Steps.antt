@@ -16,19 +16,22 @@ use Rattle.lexscan.specs.Ties.{HandedOn}
 
 module _ {K : Type 0} {of_sink : Sink.Ghosts K} where
   -- The actions of a match ended the scan, were at fault, or neither: the turn ends so.
-  pub record TurnFinished (o o' : Outlet K of_sink) (s s' : State) (finish : Option Finish) (result : Result Turn RunError) : Type 0 where
+  pub record TurnFinished (o o' : Outlet K of_sink) (s s' : State) (finish : Option Finish)
+      (result : Result Turn RunError) : Type 0 where
     pub same : sink_name o' ≡ sink_name o
     pub handed_on : HandedOn (of_sink.flushed (sink_of o')) result
     pub ends : EndsTurn of_sink.wrote of_sink.failures (sink_of o) (sink_of o') (can_write o') s s' finish result
 
   -- The match of these states was carried out, or refused, and the scan left its place.
-  pub record MatchCarried (M : Machine) (o o' : Outlet K of_sink) (s s' : State) (path : List ℕ) (result : Result Turn RunError) : Type 0 where
+  pub record MatchCarried (M : Machine) (o o' : Outlet K of_sink) (s s' : State) (path : List ℕ)
+      (result : Result Turn RunError) : Type 0 where
     pub same : sink_name o' ≡ sink_name o
     pub handed_on : HandedOn (of_sink.flushed (sink_of o')) result
     pub left : MatchLeft M of_sink.wrote of_sink.failures (sink_of o) (sink_of o') (can_write o') s s' path result
 
   -- The end action was carried out, or refused with nothing changed.
-  pub record EndCarried (M : Machine) (o o' : Outlet K of_sink) (s s' : State) (result : Result Turn RunError) : Type 0 where
+  pub record EndCarried (M : Machine) (o o' : Outlet K of_sink) (s s' : State)
+      (result : Result Turn RunError) : Type 0 where
     pub same : sink_name o' ≡ sink_name o
     pub handed_on : HandedOn (of_sink.flushed (sink_of o')) result
     pub sink : SinkLeft of_sink.failures (sink_of o) (sink_of o') (can_write o') result

@@ -1,5 +1,5 @@
--- The tokens of a scan over a whole input. (POSIX, lex, Rules in lex and Actions in lex; flex, How the Input Is Matched; the list is
--- this project's.)
+-- The tokens of a scan over a whole input. (POSIX, lex, Rules in lex and Actions in lex; flex, How the Input Is
+-- Matched; the list is this project's.)
 use Rattle.std.specs.Prelude.{◌≡◌, ℕ, zero, suc, ◌+◌, ◌≤◌, List, [], ◌∷◌, ◌++◌, length, ◌⊎◌, Option, Some, None, ⊤}
 use Rattle.lex_semantics.specs.Text.{IsText, part}
 use Rattle.lex_semantics.specs.Rules.{Rules}
@@ -21,8 +21,8 @@ abbrev pub tokens_by : Option Match → ℕ → List Token
 tokens_by None condition = []
 tokens_by (Some m) condition = token_by m condition ∷ []
 
--- The token of a turn at a place: the rule of the match that is carried out, where its text begins and ends, and the condition. The text is
--- that part of the input.
+-- The token of a turn at a place: the rule of the match that is carried out, where its text begins and ends, and the
+-- condition. The text is that part of the input.
 pub record IsToken (R : Rules) (x : List ℕ) (p : Place) (t : Token) : Type 0 where
   pub taken : Candidate
   pub outcome : Acting
@@ -40,7 +40,8 @@ Appends R x p ts us = ((t : Token) × IsToken R x p t × (us ≡ ts ++ t ∷ [])
 -- the tokens of the first n turns, of which none comes after the end of the scan
 abbrev pub TokensOf : Rules → List ℕ → ℕ → List Token → Type 0
 TokensOf R x zero us = us ≡ []
-TokensOf R x (suc n) us = (s : State) × (ts : List Token) × Turns R x n s × (s.ended ≡ None) × TokensOf R x n ts × Appends R x s.place ts us
+TokensOf R x (suc n) us =
+    (s : State) × (ts : List Token) × Turns R x n s × (s.ended ≡ None) × TokensOf R x n ts × Appends R x s.place ts us
 
 -- all tokens of a scan, which ends so
 pub record Tokenised (R : Rules) (x : List ℕ) (us : List Token) (ending : Ending) : Type 0 where
@@ -50,8 +51,8 @@ pub record Tokenised (R : Rules) (x : List ℕ) (us : List Token) (ending : Endi
   pub ends : last.ended ≡ Some ending
   pub tokens : TokensOf R x turns us
 
--- The tokens of the turns before a refusal: memory ran out, or the next turn finds the stack of conditions full at a push or empty at a
--- pop, which ends the scan. (flex, Start Conditions, has no bound; this one is own.)
+-- The tokens of the turns before a refusal: memory ran out, or the next turn finds the stack of conditions full at a
+-- push or empty at a pop, which ends the scan. (flex, Start Conditions, has no bound; this one is own.)
 pub record Stopped (R : Rules) (x : List ℕ) (us : List Token) (e : RunError) : Type 0 where
   pub turns : ℕ
   pub last : State
@@ -60,12 +61,13 @@ pub record Stopped (R : Rules) (x : List ℕ) (us : List Token) (e : RunError) :
   pub tokens : TokensOf R x turns us
   pub why : (e ≡ OutOfMemory) ⊎ ((e ≡ Stack) × (t : State) × Turns R x (suc turns) t × (t.ended ≡ Some StackFault))
 
--- The tokens lie among so many bytes. Each ends no earlier than it begins, and begins at a place or later, and no earlier than the one
--- before it.
+-- The tokens lie among so many bytes. Each ends no earlier than it begins, and begins at a place or later, and no
+-- earlier than the one before it.
 abbrev pub LieIn : ℕ → ℕ → List Token → Type 0
 LieIn size from [] = ⊤
 LieIn size from (t ∷ ts) = (from ≤ t.start) × (t.start ≤ t.end) × (t.end ≤ size) × LieIn size t.start ts
 
 -- What is known of the tokens by these rules is known of those by the others.
 abbrev pub SameTokens : Rules → Rules → Type 0
-SameTokens R Q = (x : List ℕ) (us : List Token) (ending : Ending) → IsText x → Tokenised R x us ending → Tokenised Q x us ending
+SameTokens R Q =
+    (x : List ℕ) (us : List Token) (ending : Ending) → IsText x → Tokenised R x us ending → Tokenised Q x us ending

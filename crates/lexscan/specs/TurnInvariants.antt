@@ -25,9 +25,9 @@ state_of out start s = record {
   ended = ending_of s.ended;
 }
 
--- The invariant between turns, after n of them, none refused: over every input that is consistent with the bytes given they have written these
--- bytes and led to this place, and they ask for just what the source has told. The bytes held are those from the
--- text's start on.
+-- The invariant between turns, after n of them, none refused: over every input that is consistent with the bytes given
+-- they have written these bytes and led to this place, and they ask for just what the source has told. The bytes held
+-- are those from the text's start on.
 pub record TurnInvariant (M : Machine) (n : ℕ) (given out : List ℕ) (s : State) : Type 0 where
   pub works : s.failed ≡ false
   pub start : ℕ
@@ -38,34 +38,37 @@ pub record TurnInvariant (M : Machine) (n : ℕ) (given out : List ℕ) (s : Sta
   pub line : s.place.line_start ≡ at_line_start given (start + s.place.at)
   pub taken : s.reading.taken ≡ length given
 
--- The turn after n was refused. Those before it have not ended the scan, and ask for just the bytes that were given before.
--- What was written begins with what they wrote, and is a front of what the run writes. The bytes taken are no more than the
--- turns ask for with this one. They ask for the end, if the bytes given are all, where the source has answered it, and where
--- no more reads were allowed; then the turns before do not. Where the turn was refused before its action, what was written is
--- what the turns before wrote.
+-- The turn after n was refused. Those before it have not ended the scan, and ask for just the bytes that were given
+-- before. What was written begins with what they wrote, and is a front of what the run writes. The bytes taken are no
+-- more than the turns ask for with this one. They ask for the end, if the bytes given are all, where the source has
+-- answered it, and where no more reads were allowed; then the turns before do not. Where the turn was refused before
+-- its action, what was written is what the turns before wrote.
 pub record RefusedTurn (R : Rules) (n : ℕ) (given got out : List ℕ) (at_end : Bool) (e : RunError) : Type 0 where
   pub text : IsText (given ++ got)
   pub before : Scan.State
   pub end_before : Bool
   pub after : (x : List ℕ) → Consistent (given ++ got) at_end x → AfterTurns R x n before (length given) end_before
   pub going : before.ended ≡ None
-  pub front : (x : List ℕ) → Consistent (given ++ got) at_end x → (w : List ℕ) (d : Ending) → Run R x w d → BeginsWith w out
-  pub within : (x : List ℕ) → Consistent (given ++ got) at_end x → (t : Scan.State) (far : ℕ) (asked : Bool) → AfterTurns R x (suc n) t far asked → length (given ++ got) ≤ far
+  pub front : (x : List ℕ) → Consistent (given ++ got) at_end x → (w : List ℕ) (d : Ending) → Run R x w d
+      → BeginsWith w out
+  pub within : (x : List ℕ) → Consistent (given ++ got) at_end x → (t : Scan.State) (far : ℕ) (asked : Bool)
+      → AfterTurns R x (suc n) t far asked → length (given ++ got) ≤ far
   pub not_before : e ≡ TooManyReads → end_before ≡ false
-  pub asks_end : (e ≡ TooManyReads) ⊎ (at_end ≡ true) → (t : Scan.State) (far : ℕ) (asked : Bool) → AfterTurns R (given ++ got) (suc n) t far asked → asked ≡ true
+  pub asks_end : (e ≡ TooManyReads) ⊎ (at_end ≡ true) → (t : Scan.State) (far : ℕ) (asked : Bool)
+      → AfterTurns R (given ++ got) (suc n) t far asked → asked ≡ true
   pub kept : BeginsWith out before.written
   pub whole : e ≢ Write → e ≢ Stack → before.written ≡ out
 
--- The run was completed: the bytes given are a text, and the turns over every consistent input write this and end so. They
--- ask for just what the source has told.
+-- The run was completed: the bytes given are a text, and the turns over every consistent input write this and end so.
+-- They ask for just what the source has told.
 pub record RunCompleted (R : Rules) (given out : List ℕ) (at_end : Bool) (ending : Ending) : Type 0 where
   pub text : IsText given
   pub turns : ℕ
   pub place : Scan.Place
   pub scanned : Scanned R given at_end turns (record { written = out; place = place; ended = Some ending })
 
--- A scanner after a refused turn. The bytes held are those from the text's start on, as that turn found it. The stack was at fault where the run
--- ends so in this turn, with what was written.
+-- A scanner after a refused turn. The bytes held are those from the text's start on, as that turn found it. The stack
+-- was at fault where the run ends so in this turn, with what was written.
 pub record AfterRefusal (M : Machine) (n : ℕ) (given got out : List ℕ) (s : State) (e : RunError) : Type 0 where
   pub failed : s.failed ≡ true
   pub refused_turn : RefusedTurn (rules_of_machine M) n given got out s.reading.at_end e
@@ -81,15 +84,23 @@ NoneAfterEnd old new got = old.reading.at_end ≡ true → (got ≡ []) × (new.
 -- What a turn before the end tells of its match, where the invariant holds before it.
 abbrev pub TurnTells : Machine → State → State → List ℕ → Type 0
 TurnTells M old new got = old.ended ≡ None → (n : ℕ) (given out : List ℕ) → (h : TurnInvariant M n given out old) →
-    TellsMatch (rules_of_machine M) (given ++ got) new.reading.at_end (state_of out h.start old).place (match_in new) (text_of (match_in new) new)
+    TellsMatch (rules_of_machine M) (given ++ got) new.reading.at_end (state_of out h.start old).place (match_in new)
+    (text_of (match_in new) new)
 
--- A turn preserves the invariant: where it holds after n turns, it holds after n + 1, with the bytes of the turn appended; and the turn tells its match.
--- A turn that is refused before its action has written nothing.
+-- A turn preserves the invariant: where it holds after n turns, it holds after n + 1, with the bytes of the turn
+-- appended; and the turn tells its match. A turn that is refused before its action has written nothing.
 abbrev pub TurnPreserves : Machine → State → State → List ℕ → List ℕ → Result Turn RunError → Type 0
-TurnPreserves M old new got wrote (Ok turn) = TellsEnd turn new.ended × ((n : ℕ) (given out : List ℕ) → TurnInvariant M n given out old → TurnInvariant M (suc n) (given ++ got) (out ++ wrote) new) × TurnTells M old new got
-TurnPreserves M old new got wrote (Err e) = (IsEarly e → wrote ≡ []) × ((n : ℕ) (given out : List ℕ) → TurnInvariant M n given out old → AfterRefusal M n given got (out ++ wrote) new e)
+TurnPreserves M old new got wrote (Ok turn) =
+    TellsEnd turn new.ended
+    × ((n : ℕ) (given out : List ℕ) → TurnInvariant M n given out old
+    → TurnInvariant M (suc n) (given ++ got) (out ++ wrote) new) × TurnTells M old new got
+TurnPreserves M old new got wrote (Err e) =
+    (IsEarly e → wrote ≡ [])
+    × ((n : ℕ) (given out : List ℕ) → TurnInvariant M n given out old → AfterRefusal M n given got (out ++ wrote) new e)
 
 -- The source gave some bytes in a turn, and the sink was given some.
-abbrev pub MakesTurn : {S K : Type 0} → Machine → (S → List ℕ → S → Type 0) → (K → List ℕ → K → Type 0) → S → S → K → K → State → State → Result Turn RunError → Type 0
+abbrev pub MakesTurn : {S K : Type 0} → Machine → (S → List ℕ → S → Type 0) → (K → List ℕ → K → Type 0) → S → S → K → K
+    → State → State → Result Turn RunError → Type 0
 MakesTurn M gave wrote s s' t t' old new result =
-    (got : List ℕ) × (put : List ℕ) × gave s got s' × wrote t put t' × NoneAfterEnd old new got × TurnPreserves M old new got put result
+    (got : List ℕ) × (put : List ℕ) × gave s got s' × wrote t put t' × NoneAfterEnd old new got
+    × TurnPreserves M old new got put result

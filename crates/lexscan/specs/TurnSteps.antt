@@ -36,10 +36,12 @@ pub record SameReads (old : Reading) (new : State) : Type 0 where
   pub at_end : new.reading.at_end ≡ old.at_end
 
 -- The action of a match was carried out, and the scan left its place.
-pub record Acted {K : Type 0} (M : Machine) (wrote : K → List ℕ → K → Type 0) (s t : K) (old : Reading) (p : TextPlace) (c : Conditions) (path : List ℕ) (new : State) (turn : Turn) : Type 0 where
+pub record Acted {K : Type 0} (M : Machine) (wrote : K → List ℕ → K → Type 0) (s t : K) (old : Reading) (p : TextPlace)
+    (c : Conditions) (path : List ℕ) (new : State) (turn : Turn) : Type 0 where
   pub acting : ActionState
   pub ended : Option ℕ
-  pub performed : Performed M wrote s t old.window.bytes p.at (matches_of M old.window.bytes p.at path) c acting (ending_of ended)
+  pub performed : Performed M wrote s t old.window.bytes p.at (matches_of M old.window.bytes p.at path) c acting
+      (ending_of ended)
   pub inside : acting.end ≤ length old.window.bytes
   pub left : AtNextPlace old.window.bytes acting (is_over ended) new
   pub says : TellsEnd turn ended
@@ -58,7 +60,8 @@ pub record EndedBy (old new : State) (finish : Finish) (turn : Turn) : Type 0 wh
   pub matched : new.matched ≡ old.matched
 
 -- An action ends the scan, or was at fault: the sink was flushed; what is refused changes nothing.
-pub record EndsScan {K : Type 0} (wrote : K → List ℕ → K → Type 0) (fails : K → ℕ) (t t' : K) (live : Bool) (old new : State) (finish : Finish) (result : Result Turn RunError) : Type 0 where
+pub record EndsScan {K : Type 0} (wrote : K → List ℕ → K → Type 0) (fails : K → ℕ) (t t' : K) (live : Bool)
+    (old new : State) (finish : Finish) (result : Result Turn RunError) : Type 0 where
   pub sink : wrote t [] t'
   pub write_faults : fails t' ≡ fails t + write_fault_count result
   pub may_write : OnOk result (live ≡ true)
@@ -82,16 +85,22 @@ pub record WentOn {K : Type 0} (t t' : K) (live : Bool) (old new : State) (resul
   pub matched : new.matched ≡ old.matched
 
 -- How a turn ends after the actions of its match, which ended the scan, were at fault, or neither.
-abbrev pub EndsTurn : {K : Type 0} → (K → List ℕ → K → Type 0) → (K → ℕ) → K → K → Bool → State → State → Option Finish → Result Turn RunError → Type 0
+abbrev pub EndsTurn : {K : Type 0} → (K → List ℕ → K → Type 0) → (K → ℕ) → K → K → Bool → State → State → Option Finish
+    → Result Turn RunError → Type 0
 EndsTurn wrote fails t t' live old new None result = WentOn t t' live old new result
 EndsTurn wrote fails t t' live old new (Some finish) result = EndsScan wrote fails t t' live old new finish result
 
 -- What a match leaves, where these are the states after its bytes: its action was carried out, or was cut short.
-pub record MatchLeft {K : Type 0} (M : Machine) (wrote : K → List ℕ → K → Type 0) (fails : K → ℕ) (t t' : K) (live : Bool) (old new : State) (path : List ℕ) (result : Result Turn RunError) : Type 0 where
+pub record MatchLeft {K : Type 0} (M : Machine) (wrote : K → List ℕ → K → Type 0) (fails : K → ℕ) (t t' : K)
+    (live : Bool) (old new : State) (path : List ℕ) (result : Result Turn RunError) : Type 0 where
   pub acted : IfOk result (λ turn. Acted M wrote t t' old.reading old.place (conditions_at old) path new turn)
   pub going : result ≡ Ok Turn.Went → new.ended ≡ old.ended
-  pub cut_off : OnErr result (CutAll M wrote t t' old.reading.window.bytes old.place.at (matches_of M old.reading.window.bytes old.place.at path) (conditions_at old))
-  pub fault : IsErrOf result Stack → Faulted M wrote t t' old.reading.window.bytes old.place.at (matches_of M old.reading.window.bytes old.place.at path) (conditions_at old)
+  pub cut_off : OnErr result
+      (CutAll M wrote t t' old.reading.window.bytes old.place.at
+      (matches_of M old.reading.window.bytes old.place.at path) (conditions_at old))
+  pub fault : IsErrOf result Stack
+      → Faulted M wrote t t' old.reading.window.bytes old.place.at
+      (matches_of M old.reading.window.bytes old.place.at path) (conditions_at old)
   pub unchanged : OnErr result (Untouched old new)
   pub refusals : IfErr result (λ e. (e ≡ Write) ⊎ (e ≡ Stack))
   pub write_faults : fails t' ≡ fails t + write_fault_count result
@@ -100,7 +109,8 @@ pub record MatchLeft {K : Type 0} (M : Machine) (wrote : K → List ℕ → K �
   pub max_reads : new.reading.max_reads ≡ old.reading.max_reads
 
 -- The end action was carried out.
-pub record EndLeft (M : Machine) (old : Reading) (p : TextPlace) (c : Conditions) (new : State) (turn : Turn) : Type 0 where
+pub record EndLeft (M : Machine) (old : Reading) (p : TextPlace) (c : Conditions) (new : State)
+    (turn : Turn) : Type 0 where
   pub held : new.reading.window.bytes ≡ drop p.at old.window.bytes
   pub at : new.place.at ≡ 0
   pub line : new.place.line_start ≡ p.line_start
@@ -112,7 +122,8 @@ pub record EndLeft (M : Machine) (old : Reading) (p : TextPlace) (c : Conditions
   pub matched : new.matched ≡ None
 
 -- One step by a match: it was seen, and its action carried out.
-pub record MatchStep {S K : Type 0} (M : Machine) (gave : S → List ℕ → S → Type 0) (wrote : K → List ℕ → K → Type 0) (s s' : S) (t t' : K) (old new : State) (turn : Turn) : Type 0 where
+pub record MatchStep {S K : Type 0} (M : Machine) (gave : S → List ℕ → S → Type 0) (wrote : K → List ℕ → K → Type 0)
+    (s s' : S) (t t' : K) (old new : State) (turn : Turn) : Type 0 where
   pub mid : Reading
   pub took : Took gave s s' old.reading mid
   pub path : List ℕ
@@ -120,7 +131,8 @@ pub record MatchStep {S K : Type 0} (M : Machine) (gave : S → List ℕ → S �
   pub acted : Acted M wrote t t' mid old.place (conditions_at old) path new turn
 
 -- One step by an end action: the source answered its end at the place of the next match.
-pub record EndStep {S K : Type 0} (M : Machine) (gave : S → List ℕ → S → Type 0) (wrote : K → List ℕ → K → Type 0) (s s' : S) (t t' : K) (old new : State) (turn : Turn) : Type 0 where
+pub record EndStep {S K : Type 0} (M : Machine) (gave : S → List ℕ → S → Type 0) (wrote : K → List ℕ → K → Type 0)
+    (s s' : S) (t t' : K) (old new : State) (turn : Turn) : Type 0 where
   pub mid : Reading
   pub took : Took gave s s' old.reading mid
   pub looked : LookedAtEnd old.place old.reading mid
@@ -131,22 +143,30 @@ pub record EndStep {S K : Type 0} (M : Machine) (gave : S → List ℕ → S →
 abbrev pub RefusalCause : {K : Type 0} → Machine → (K → List ℕ → K → Type 0) → K → K → State → State → Type 0
 RefusalCause M wrote t t' old new =
     (Unmet M old.place old.reading new.reading × wrote t [] t')
-    ⊎ ((path : List ℕ) × Looked M old.place old.reading new.reading path × CutAll M wrote t t' new.reading.window.bytes old.place.at (matches_of M new.reading.window.bytes old.place.at path) (conditions_at old))
-    ⊎ (LookedAtEnd old.place old.reading new.reading × (out : List ℕ) × BeginsWith (M.ending old.place.condition).print out × wrote t out t')
+    ⊎ ((path : List ℕ) × Looked M old.place old.reading new.reading path
+    × CutAll M wrote t t' new.reading.window.bytes old.place.at
+    (matches_of M new.reading.window.bytes old.place.at path) (conditions_at old))
+    ⊎ (LookedAtEnd old.place old.reading new.reading × (out : List ℕ)
+    × BeginsWith (M.ending old.place.condition).print out × wrote t out t')
 
 -- The action of a match was carried out up to a fault of the stack.
 abbrev pub StackFaulted : {K : Type 0} → Machine → (K → List ℕ → K → Type 0) → K → K → State → State → Type 0
 StackFaulted M wrote t t' old new =
-    (path : List ℕ) × Looked M old.place old.reading new.reading path × Faulted M wrote t t' new.reading.window.bytes old.place.at (matches_of M new.reading.window.bytes old.place.at path) (conditions_at old)
+    (path : List ℕ) × Looked M old.place old.reading new.reading path
+    × Faulted M wrote t t' new.reading.window.bytes old.place.at
+    (matches_of M new.reading.window.bytes old.place.at path) (conditions_at old)
 
 -- One step that was refused: what was taken is held. Before its action nothing was written.
-pub record RefusedStep {S K : Type 0} (M : Machine) (gave : S → List ℕ → S → Type 0) (wrote : K → List ℕ → K → Type 0) (s s' : S) (t t' : K) (old new : State) (e : RunError) : Type 0 where
+pub record RefusedStep {S K : Type 0} (M : Machine) (gave : S → List ℕ → S → Type 0) (wrote : K → List ℕ → K → Type 0)
+    (s s' : S) (t t' : K) (old new : State) (e : RunError) : Type 0 where
   pub took : Took gave s s' old.reading new.reading
   pub place : new.place ≡ old.place
   pub why : RefusalCause M wrote t t' old new
   pub early : IsEarly e → Unmet M old.place old.reading new.reading × wrote t [] t'
   pub fault : e ≡ Stack → StackFaulted M wrote t t' old new
 
-abbrev pub TurnStep : {S K : Type 0} → Machine → (S → List ℕ → S → Type 0) → (K → List ℕ → K → Type 0) → S → S → K → K → State → State → Result Turn RunError → Type 0
-TurnStep M gave wrote s s' t t' old new (Ok turn) = MatchStep M gave wrote s s' t t' old new turn ⊎ EndStep M gave wrote s s' t t' old new turn
+abbrev pub TurnStep : {S K : Type 0} → Machine → (S → List ℕ → S → Type 0) → (K → List ℕ → K → Type 0) → S → S → K → K
+    → State → State → Result Turn RunError → Type 0
+TurnStep M gave wrote s s' t t' old new (Ok turn) =
+    MatchStep M gave wrote s s' t t' old new turn ⊎ EndStep M gave wrote s s' t t' old new turn
 TurnStep M gave wrote s s' t t' old new (Err e) = RefusedStep M gave wrote s s' t t' old new e

@@ -10,7 +10,8 @@ use Rattle.lexscan_window.specs.Memos.{Barren}
 use Rattle.lexscan_matching.specs.Picks.{path_of, state_at}
 use Rattle.lexscan_matching.specs.Looks.{SoFar}
 
--- The match asks for more bytes than it keeps at most, and from each of these on the walk is barren, as far as it is told.
+-- The match asks for more bytes than it keeps at most, and from each of these on the walk is barren, as far as it is
+-- told.
 pub record IsSettled (M : Machine) (states : ℕ) (p : TextPlace) (r : Reading) (s : Settled) : Type 0 where
   pub some : 1 ≤ s.keep
   pub order : s.keep ≤ s.len
@@ -19,7 +20,8 @@ pub record IsSettled (M : Machine) (states : ℕ) (p : TextPlace) (r : Reading) 
   pub before_is : s.before ≡ state_at M p r.window.bytes (s.keep - 1)
   pub known_before : s.before < states
   pub so_far : SoFar M p (drop p.at r.window.bytes) s.keep s.state (path_of M p r.window.bytes s.keep)
-  pub barren : (k : ℕ) → s.keep ≤ k → k ≤ s.len → Barren M r.at_end (state_at M p r.window.bytes k) (drop (p.at + k) r.window.bytes)
+  pub barren : (k : ℕ) → s.keep ≤ k → k ≤ s.len
+      → Barren M r.at_end (state_at M p r.window.bytes k) (drop (p.at + k) r.window.bytes)
 
 -- The match asks for all the bytes held, and for one more.
 pub record IsOpen (M : Machine) (states : ℕ) (p : TextPlace) (r : Reading) (s : LookAhead) : Type 0 where

@@ -26,8 +26,10 @@ use Rattle.lexscan_matching.specs.Looks.{LookedOrAtEnd, Wants, Unmet, LimitFirst
 use Rattle.lexscan_matching.specs.Picks.{IsFirst, HasStatements, LookedSome, HasLastStates, path_of}
 
 module _ {S K : Type 0} {of_source : Source.Ghosts S} {of_sink : Sink.Ghosts K} where
-  -- A match took the bytes that it asks for, and tells the last two states of those after them, or that there is no byte.
-  pub record LookedLast (M : Machine) (states : ℕ) (i i' : Intake S of_source) (o o' : Outlet K of_sink) (p : TextPlace) (old new : Reading) (result : Result (Option LookAhead) RunError) : Type 0 where
+  -- A match took the bytes that it asks for, and tells the last two states of those after them, or that there is no
+  -- byte.
+  pub record LookedLast (M : Machine) (states : ℕ) (i i' : Intake S of_source) (o o' : Outlet K of_sink) (p : TextPlace)
+      (old new : Reading) (result : Result (Option LookAhead) RunError) : Type 0 where
     pub same : source_name i' ≡ source_name i
     pub same_sink : sink_name o' ≡ sink_name o
     pub put : NothingPut of_sink.wrote of_sink.failures (sink_of o) (sink_of o') (can_write o') result
@@ -40,7 +42,8 @@ module _ {S K : Type 0} {of_source : Source.Ghosts S} {of_sink : Sink.Ghosts K} 
     pub limit : LimitFirst M ⊥ p old new result
 
   -- The same, with the state after each byte.
-  pub record LookedAlong (M : Machine) (states : ℕ) (i i' : Intake S of_source) (o o' : Outlet K of_sink) (p : TextPlace) (old new : Reading) (path : List ℕ) (result : Result Bool RunError) : Type 0 where
+  pub record LookedAlong (M : Machine) (states : ℕ) (i i' : Intake S of_source) (o o' : Outlet K of_sink)
+      (p : TextPlace) (old new : Reading) (path : List ℕ) (result : Result Bool RunError) : Type 0 where
     pub same : source_name i' ≡ source_name i
     pub same_sink : sink_name o' ≡ sink_name o
     pub put : NothingPut of_sink.wrote of_sink.failures (sink_of o) (sink_of o') (can_write o') result
@@ -56,29 +59,37 @@ module _ {S K : Type 0} {of_source : Source.Ghosts S} {of_sink : Sink.Ghosts K} 
 
 module _ {K : Type 0} {of_sink : Sink.Ghosts K} where
   -- The matches of one length were tried, up to the first that is not rejected.
-  pub record RulesTried (M : Machine) (o o' : Outlet K of_sink) (w : List ℕ) (at : ℕ) (all : List Candidate) (old new : ActionState) (rule : Option MatchedRule) (result : Result ActionFlow RunError) : Type 0 where
+  pub record RulesTried (M : Machine) (o o' : Outlet K of_sink) (w : List ℕ) (at : ℕ) (all : List Candidate)
+      (old new : ActionState) (rule : Option MatchedRule) (result : Result ActionFlow RunError) : Type 0 where
     pub same : sink_name o' ≡ sink_name o
     pub sink : SinkLeft of_sink.failures (sink_of o) (sink_of o') (can_write o') result
     pub inside : new.end ≤ length w
-    pub tried : IfOk result (λ step. Tried M of_sink.wrote (sink_of o) (sink_of o') w at all (conditions_of old) new step)
+    pub tried : IfOk result
+        (λ step. Tried M of_sink.wrote (sink_of o) (sink_of o') w at all (conditions_of old) new step)
     pub takes : IfOk result (TakesUnlessAgain M w at all (conditions_of old) rule)
     pub cut_off : OnErr result (CutOff M of_sink.wrote (sink_of o) (sink_of o') w at all (conditions_of old))
 
   -- One of all the matches at a place was carried out, or cut short.
-  pub record MatchesTried (M : Machine) (o o' : Outlet K of_sink) (w : List ℕ) (at : ℕ) (all : List Candidate) (old new : ActionState) (rule : Option MatchedRule) (result : Result (Option Finish) RunError) : Type 0 where
+  pub record MatchesTried (M : Machine) (o o' : Outlet K of_sink) (w : List ℕ) (at : ℕ) (all : List Candidate)
+      (old new : ActionState) (rule : Option MatchedRule) (result : Result (Option Finish) RunError) : Type 0 where
     pub same : sink_name o' ≡ sink_name o
     pub sink : SinkLeft of_sink.failures (sink_of o) (sink_of o') (can_write o') result
     pub inside : new.end ≤ length w
-    pub performed : IfOk result (λ ended. Performed M of_sink.wrote (sink_of o) (sink_of o') w at all (conditions_of old) new (finished_of ended))
+    pub performed : IfOk result
+        (λ ended. Performed M of_sink.wrote (sink_of o) (sink_of o') w at all (conditions_of old) new
+        (finished_of ended))
     pub takes : OnOk result (Takes M w at all (conditions_of old) rule)
     pub cut_off : OnErr result (CutAll M of_sink.wrote (sink_of o) (sink_of o') w at all (conditions_of old))
 
   -- The longest match was carried out, or cut short.
-  pub record PickCarried (M : Machine) (o o' : Outlet K of_sink) (w : List ℕ) (at : ℕ) (all : List Candidate) (old new : ActionState) (result : Result (Option Finish) RunError) : Type 0 where
+  pub record PickCarried (M : Machine) (o o' : Outlet K of_sink) (w : List ℕ) (at : ℕ) (all : List Candidate)
+      (old new : ActionState) (result : Result (Option Finish) RunError) : Type 0 where
     pub same : sink_name o' ≡ sink_name o
     pub sink : SinkLeft of_sink.failures (sink_of o) (sink_of o') (can_write o') result
     pub inside : new.end ≤ length w
-    pub performed : IfOk result (λ ended. Performed M of_sink.wrote (sink_of o) (sink_of o') w at all (conditions_of old) new (finished_of ended))
+    pub performed : IfOk result
+        (λ ended. Performed M of_sink.wrote (sink_of o) (sink_of o') w at all (conditions_of old) new
+        (finished_of ended))
     pub cut_off : OnErr result (CutAll M of_sink.wrote (sink_of o) (sink_of o') w at all (conditions_of old))
 
 -- The longest match of the first bytes from a place on, as far as their last two states tell it.

@@ -40,31 +40,39 @@ abbrev pub matches_of : Machine → List ℕ → ℕ → List ℕ → List Candi
 matches_of M w at path = falling M 0 path ++ default_match M.count (drop at w)
 
 -- All matches up to some were rejected: those are gone, and these are left.
-pub record Passed {K : Type 0} (M : Machine) (wrote : K → List ℕ → K → Type 0) (s t : K) (w : List ℕ) (at : ℕ) (all left : List Candidate) (old new : Conditions) : Type 0 where
+pub record Passed {K : Type 0} (M : Machine) (wrote : K → List ℕ → K → Type 0) (s t : K) (w : List ℕ) (at : ℕ)
+    (all left : List Candidate) (old new : Conditions) : Type 0 where
   pub out : List ℕ
   pub sink : wrote s out t
   pub gone : List Candidate
   pub in_order : all ≡ gone ++ left
-  pub acts : (before : List ℕ) (rest : List Candidate) → outcome M w at (gone ++ rest) before old ≡ outcome M w at rest (before ++ out) new
+  pub acts : (before : List ℕ) (rest : List Candidate)
+      → outcome M w at (gone ++ rest) before old ≡ outcome M w at rest (before ++ out) new
 
 -- These matches were tried, and this is what follows.
-pub record Tried {K : Type 0} (M : Machine) (wrote : K → List ℕ → K → Type 0) (s t : K) (w : List ℕ) (at : ℕ) (all : List Candidate) (old : Conditions) (new : ActionState) (step : ActionFlow) : Type 0 where
+pub record Tried {K : Type 0} (M : Machine) (wrote : K → List ℕ → K → Type 0) (s t : K) (w : List ℕ) (at : ℕ)
+    (all : List Candidate) (old : Conditions) (new : ActionState) (step : ActionFlow) : Type 0 where
   pub out : List ℕ
   pub sink : wrote s out t
   pub acts : (before : List ℕ) (rest : List Candidate) →
-      outcome M w at (all ++ rest) before old ≡ settle (after_step step [] (acting_of w new (before ++ out))) (λ a. outcome M w at rest a.written (conditions_in a))
+      outcome M w at (all ++ rest) before old ≡ settle (after_step step [] (acting_of w new (before ++ out)))
+      (λ a. outcome M w at rest a.written (conditions_in a))
 
 -- One of these matches was cut short: what was written is a front of what they all make of it.
-pub record CutOff {K : Type 0} (M : Machine) (wrote : K → List ℕ → K → Type 0) (s t : K) (w : List ℕ) (at : ℕ) (all : List Candidate) (old : Conditions) : Type 0 where
+pub record CutOff {K : Type 0} (M : Machine) (wrote : K → List ℕ → K → Type 0) (s t : K) (w : List ℕ) (at : ℕ)
+    (all : List Candidate) (old : Conditions) : Type 0 where
   pub out : List ℕ
   pub sink : wrote s out t
-  pub front : (before : List ℕ) (rest : List Candidate) (o : Scan.Acting) → outcome M w at (all ++ rest) before old ≡ Some o → BeginsWith o.written (before ++ out)
+  pub front : (before : List ℕ) (rest : List Candidate) (o : Scan.Acting)
+      → outcome M w at (all ++ rest) before old ≡ Some o → BeginsWith o.written (before ++ out)
 
 -- The same, where no others follow.
-pub record CutAll {K : Type 0} (M : Machine) (wrote : K → List ℕ → K → Type 0) (s t : K) (w : List ℕ) (at : ℕ) (all : List Candidate) (old : Conditions) : Type 0 where
+pub record CutAll {K : Type 0} (M : Machine) (wrote : K → List ℕ → K → Type 0) (s t : K) (w : List ℕ) (at : ℕ)
+    (all : List Candidate) (old : Conditions) : Type 0 where
   pub out : List ℕ
   pub sink : wrote s out t
-  pub front : (before : List ℕ) (o : Scan.Acting) → outcome M w at all before old ≡ Some o → BeginsWith o.written (before ++ out)
+  pub front : (before : List ℕ) (o : Scan.Acting) → outcome M w at all before old ≡ Some o
+      → BeginsWith o.written (before ++ out)
 
 abbrev pub ending_of : Option ℕ → Option Ending
 ending_of None = None
@@ -75,13 +83,16 @@ finished_of None = None
 finished_of (Some f) = Some (finish_of f)
 
 -- One of the matches was not rejected.
-pub record Performed {K : Type 0} (M : Machine) (wrote : K → List ℕ → K → Type 0) (s t : K) (w : List ℕ) (at : ℕ) (all : List Candidate) (old : Conditions) (new : ActionState) (ended : Option Ending) : Type 0 where
+pub record Performed {K : Type 0} (M : Machine) (wrote : K → List ℕ → K → Type 0) (s t : K) (w : List ℕ) (at : ℕ)
+    (all : List Candidate) (old : Conditions) (new : ActionState) (ended : Option Ending) : Type 0 where
   pub out : List ℕ
   pub sink : wrote s out t
-  pub acts : (before : List ℕ) → outcome M w at all before old ≡ Some (record (acting_of w new (before ++ out)) { ended = ended })
+  pub acts : (before : List ℕ)
+      → outcome M w at all before old ≡ Some (record (acting_of w new (before ++ out)) { ended = ended })
 
 -- One of them was not rejected, and the stack of conditions was at fault in it.
-pub record Faulted {K : Type 0} (M : Machine) (wrote : K → List ℕ → K → Type 0) (s t : K) (w : List ℕ) (at : ℕ) (all : List Candidate) (old : Conditions) : Type 0 where
+pub record Faulted {K : Type 0} (M : Machine) (wrote : K → List ℕ → K → Type 0) (s t : K) (w : List ℕ) (at : ℕ)
+    (all : List Candidate) (old : Conditions) : Type 0 where
   pub acting : ActionState
   pub performed : Performed M wrote s t w at all old acting (Some StackFault)
   pub inside : acting.end ≤ length w
@@ -93,16 +104,19 @@ IsRule count (Some (Numbered n)) i = (n ≡ i) × (i < count)
 IsRule count (Some Default) i = i ≡ count
 
 -- One of these matches was carried out, those before it were rejected, and this is its rule.
-pub record Takes (M : Machine) (w : List ℕ) (at : ℕ) (all : List Candidate) (old : Conditions) (rule : Option MatchedRule) : Type 0 where
+pub record Takes (M : Machine) (w : List ℕ) (at : ℕ) (all : List Candidate) (old : Conditions)
+    (rule : Option MatchedRule) : Type 0 where
   pub passed : List Candidate
   pub taken : Candidate
   pub left : List Candidate
   pub in_order : all ≡ passed ++ taken ∷ left
   pub rule_is : IsRule M.count rule taken.rule
   pub rejected : (before : List ℕ) → outcome M w at passed before old ≡ None
-  pub carried : (before : List ℕ) → (o : Scan.Acting) × ((rest : List Candidate) → outcome M w at (passed ++ taken ∷ rest) before old ≡ Some o)
+  pub carried : (before : List ℕ) → (o : Scan.Acting)
+      × ((rest : List Candidate) → outcome M w at (passed ++ taken ∷ rest) before old ≡ Some o)
 
 -- unless all were rejected
-abbrev pub TakesUnlessAgain : Machine → List ℕ → ℕ → List Candidate → Conditions → Option MatchedRule → ActionFlow → Type 0
+abbrev pub TakesUnlessAgain : Machine → List ℕ → ℕ → List Candidate → Conditions → Option MatchedRule → ActionFlow
+    → Type 0
 TakesUnlessAgain M w at all old rule ActionFlow.Again = ⊤
 TakesUnlessAgain M w at all old rule other = Takes M w at all old rule

@@ -16,4 +16,5 @@ pub record Begins (count : ℕ) (ms : List Scan.Candidate) (m : Candidate) : Typ
 -- It is the first of all matches there, in their order. Where there is no byte, there is none.
 abbrev pub IsLongest : Rules → ℕ → Bool → List ℕ → Option Candidate → Type 0
 IsLongest R condition line_start y None = y ≡ []
-IsLongest R condition line_start y (Some m) = (ms : List Scan.Candidate) × Candidates R condition line_start y ms × Begins R.count ms m
+IsLongest R condition line_start y (Some m) =
+    (ms : List Scan.Candidate) × Candidates R condition line_start y ms × Begins R.count ms m

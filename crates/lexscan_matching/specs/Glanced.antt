@@ -54,10 +54,12 @@ written_by other text = []
 abbrev pub NoneAfter : Machine → ℕ → List ℕ → ℕ → ℕ → Type 0
 NoneAfter M first bytes few many = (i : ℕ) → few < i → i ≤ many → M.accepts (walk M first (take i bytes)) ≡ []
 
--- What is told of the match of the first bytes, so many of them: by the state after the longest part of them after which a rule is
--- accepted; or that the default rule writes one byte (POSIX, lex, Rules: unmatched input is copied); or nothing.
+-- What is told of the match of the first bytes, so many of them: by the state after the longest part of them after
+-- which a rule is accepted; or that the default rule writes one byte (POSIX, lex, Rules: unmatched input is copied); or
+-- nothing.
 abbrev pub IsGlancedMatch : Machine → ℕ → List ℕ → ℕ → GlancedMatch → Type 0
 IsGlancedMatch M first bytes count longest =
-    ((1 ≤ longest.keep) × (longest.keep ≤ count) × NoneAfter M first bytes longest.keep count × Gists M (walk M first (take longest.keep bytes)) longest.gist)
+    ((1 ≤ longest.keep) × (longest.keep ≤ count) × NoneAfter M first bytes longest.keep count
+    × Gists M (walk M first (take longest.keep bytes)) longest.gist)
     ⊎ ((longest.keep ≡ 1) × (longest.gist ≡ Echo) × NoneAfter M first bytes 0 count)
     ⊎ (longest.gist ≡ Any)

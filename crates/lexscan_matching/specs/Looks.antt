@@ -25,7 +25,8 @@ pub record Looked (M : Machine) (p : TextPlace) (old new : Reading) (path : List
   pub state : ℕ
   pub so_far : SoFar M p (drop p.at new.window.bytes) reach state path
   pub size : length new.window.bytes ≡ max (length old.window.bytes) (p.at + reach)
-  pub stops : ((M.goes_on state ≡ false) × (new.at_end ≡ old.at_end)) ⊎ ((M.goes_on state ≡ true) × (p.at + reach ≡ length new.window.bytes) × (new.at_end ≡ true))
+  pub stops : ((M.goes_on state ≡ false) × (new.at_end ≡ old.at_end))
+      ⊎ ((M.goes_on state ≡ true) × (p.at + reach ≡ length new.window.bytes) × (new.at_end ≡ true))
 
 -- There is no byte at the place, and the source has answered its end.
 pub record LookedAtEnd (p : TextPlace) (old new : Reading) : Type 0 where
@@ -47,9 +48,11 @@ pub record Wants (M : Machine) (p : TextPlace) (new : Reading) : Type 0 where
 abbrev pub Unmet : Machine → TextPlace → Reading → Reading → Type 0
 Unmet M p old new = Wants M p new ⊎ ((new.window.bytes ≡ old.window.bytes) × (new.at_end ≡ old.at_end))
 
--- Of each byte that a match asks for, a read too many comes before want of memory. So memory is wanted only where one more read is allowed; or
--- for the state after a byte that was held before, where states are kept. Where no more reads are allowed, a match that asks for a byte more
--- than was held is refused for that.
-pub record LimitFirst {T : Type 0} (M : Machine) (keeps_states : Type 0) (p : TextPlace) (old new : Reading) (result : Result T RunError) : Type 0 where
-  pub memory : IsErrOf result OutOfMemory → (new.taken < new.max_reads) ⊎ (keeps_states × (new.window.bytes ≡ old.window.bytes) × (p.at < length old.window.bytes))
+-- Of each byte that a match asks for, a read too many comes before want of memory. So memory is wanted only where one
+-- more read is allowed; or for the state after a byte that was held before, where states are kept. Where no more reads
+-- are allowed, a match that asks for a byte more than was held is refused for that.
+pub record LimitFirst {T : Type 0} (M : Machine) (keeps_states : Type 0) (p : TextPlace) (old new : Reading)
+    (result : Result T RunError) : Type 0 where
+  pub memory : IsErrOf result OutOfMemory → (new.taken < new.max_reads)
+      ⊎ (keeps_states × (new.window.bytes ≡ old.window.bytes) × (p.at < length old.window.bytes))
   pub reads : old.taken ≡ old.max_reads → Wants M p old → IsErrOf result TooManyReads ⊎ IsErrOf result OutOfMemory

@@ -18,7 +18,8 @@ path_of M p w reach = trail_from M (M.start p.condition p.line_start) (take reac
 
 abbrev pub IsFirst : List Candidate → Option Pick → Type 0
 IsFirst ms None = ms ≡ []
-IsFirst ms (Some p) = (len : ℕ) × (rest : List Candidate) × (ms ≡ record { len = len; rule = p.rule; keep = p.keep } ∷ rest)
+IsFirst ms (Some p) =
+    (len : ℕ) × (rest : List Candidate) × (ms ≡ record { len = len; rule = p.rule; keep = p.keep } ∷ rest)
 
 -- the statements are those of the rule
 abbrev pub HasStatements : Machine → Pick → Type 0
@@ -44,7 +45,8 @@ pub record HasLastStates (M : Machine) (states : ℕ) (p : TextPlace) (w : List 
   pub known : ahead.state < states
   pub known_before : ahead.before < states
 
--- A match has asked for all the bytes held, and for one more: the last two states so far. It may have asked for none yet.
+-- A match has asked for all the bytes held, and for one more: the last two states so far. It may have asked for none
+-- yet.
 pub record AsksPastHeld (M : Machine) (states : ℕ) (p : TextPlace) (r : Reading) (ahead : LookAhead) : Type 0 where
   pub all : p.at + ahead.reach ≡ length r.window.bytes
   pub so_far : SoFar M p (drop p.at r.window.bytes) ahead.reach ahead.state (path_of M p r.window.bytes ahead.reach)

@@ -12,7 +12,15 @@ use Rattle.lexscan_window.specs.declared.act.ActionFlow.{ActionFlow}
 
 -- over these bytes, after so much was written
 abbrev pub acting_of : List ℕ → ActionState → List ℕ → Scan.Acting
-acting_of w a before = record { text = take a.end w; written = before; condition = a.condition; stack = a.stack; more = a.more; ended = None }
+acting_of w a before =
+    record {
+      text = take a.end w;
+      written = before;
+      condition = a.condition;
+      stack = a.stack;
+      more = a.more;
+      ended = None;
+    }
 
 -- what a statement writes of a text
 abbrev pub said : Statement → List ℕ → List ℕ
@@ -38,7 +46,10 @@ after_step (ActionFlow.Over f) rest a = Over a (finish_of f)
 
 -- One statement was carried out, and this follows.
 abbrev pub StatementCarried : List ℕ → Statement → ActionState → ActionState → ActionFlow → Type 0
-StatementCarried w st old new step = (before : List ℕ) (rest : List Statement) → act_result (st ∷ rest) (acting_of w old before) ≡ after_step step rest (acting_of w new (before ++ said st (take old.end w)))
+StatementCarried w st old new step =
+    (before : List ℕ) (rest : List Statement)
+    → act_result (st ∷ rest) (acting_of w old before) ≡ after_step step rest
+    (acting_of w new (before ++ said st (take old.end w)))
 
 -- what was written by the end of an action
 abbrev pub written_of : ActionResult → List ℕ
@@ -47,19 +58,24 @@ written_of (Results.Again a) = a.written
 written_of (Over a e) = a.written
 
 -- These statements were carried out.
-pub record Carried {K : Type 0} (wrote : K → List ℕ → K → Type 0) (s t : K) (w : List ℕ) (ss : List Statement) (old new : ActionState) (step : ActionFlow) : Type 0 where
+pub record Carried {K : Type 0} (wrote : K → List ℕ → K → Type 0) (s t : K) (w : List ℕ) (ss : List Statement)
+    (old new : ActionState) (step : ActionFlow) : Type 0 where
   pub out : List ℕ
   pub sink : wrote s out t
-  pub acts : (before : List ℕ) → act_result ss (acting_of w old before) ≡ after_step step [] (acting_of w new (before ++ out))
+  pub acts : (before : List ℕ)
+      → act_result ss (acting_of w old before) ≡ after_step step [] (acting_of w new (before ++ out))
 
 -- These were carried out up to one of them, and a front of what it says was written.
-pub record CutShort {K : Type 0} (wrote : K → List ℕ → K → Type 0) (s t : K) (w : List ℕ) (ss : List Statement) (old : ActionState) : Type 0 where
+pub record CutShort {K : Type 0} (wrote : K → List ℕ → K → Type 0) (s t : K) (w : List ℕ) (ss : List Statement)
+    (old : ActionState) : Type 0 where
   pub out : List ℕ
   pub sink : wrote s out t
   pub front : (before : List ℕ) → BeginsWith (written_of (act_result ss (acting_of w old before))) (before ++ out)
 
 -- Some of the statements were carried out, and these are left.
-pub record CarriedTo {K : Type 0} (wrote : K → List ℕ → K → Type 0) (s t : K) (w : List ℕ) (ss rest : List Statement) (old new : ActionState) : Type 0 where
+pub record CarriedTo {K : Type 0} (wrote : K → List ℕ → K → Type 0) (s t : K) (w : List ℕ) (ss rest : List Statement)
+    (old new : ActionState) : Type 0 where
   pub out : List ℕ
   pub sink : wrote s out t
-  pub acts : (before : List ℕ) → act_result ss (acting_of w old before) ≡ act_result rest (acting_of w new (before ++ out))
+  pub acts : (before : List ℕ)
+      → act_result ss (acting_of w old before) ≡ act_result rest (acting_of w new (before ++ out))

@@ -17,13 +17,16 @@ pub record SinkLeft {K T : Type 0} (fails : K → ℕ) (t t' : K) (live : Bool) 
   pub refusals : IfErr result (λ e. e ≡ Write)
 
 -- Nothing was put: what was put before may have been handed on. The sink may be called again where nothing was refused.
-pub record NothingPut {K T : Type 0} (wrote : K → List ℕ → K → Type 0) (fails : K → ℕ) (t t' : K) (live : Bool) (result : Result T RunError) : Type 0 where
+pub record NothingPut {K T : Type 0} (wrote : K → List ℕ → K → Type 0) (fails : K → ℕ) (t t' : K) (live : Bool)
+    (result : Result T RunError) : Type 0 where
   pub sink : wrote t [] t'
   pub write_faults : fails t' ≡ fails t + write_fault_count result
   pub may_write : OnOk result (live ≡ true)
 
--- The source may be called again where nothing was refused and its end was not answered; after its end it is not called.
-pub record SourceLeft {S T : Type 0} (ends_of reads_of : S → ℕ) (s s' : S) (live : Bool) (old new : Reading) (result : Result T RunError) : Type 0 where
+-- The source may be called again where nothing was refused and its end was not answered; after its end it is not
+-- called.
+pub record SourceLeft {S T : Type 0} (ends_of reads_of : S → ℕ) (s s' : S) (live : Bool) (old new : Reading)
+    (result : Result T RunError) : Type 0 where
   pub ends : ends_of s' ≡ ends_of s + end_step old.at_end new.at_end
   pub read_faults : reads_of s' ≡ reads_of s + read_fault_count result
   pub few_reads : new.taken + bit_of new.at_end + read_fault_count result ≤ new.max_reads

@@ -8,8 +8,8 @@ use Rattle.lexscan_window.specs.declared.cell.Cell.{Cell}
 use Rattle.lexscan_window.specs.declared.memo.Mark.{Mark}
 use Rattle.lexscan_window.specs.declared.state.Reading.{Reading}
 
--- The walk from a state over these bytes comes to no state that accepts, and asks for none that follows them; or it asks for
--- the end there, where that is known to be the end.
+-- The walk from a state over these bytes comes to no state that accepts, and asks for none that follows them; or it
+-- asks for the end there, where that is known to be the end.
 abbrev pub Barren : Machine → Bool → ℕ → List ℕ → Type 0
 Barren M at_end s [] = M.goes_on s ≡ true → at_end ≡ true
 Barren M at_end s (b ∷ w) = M.goes_on s ≡ true → (M.accepts (M.next s b) ≡ []) × Barren M at_end (M.next s b) w
@@ -35,9 +35,12 @@ abbrev pub marks_in : List Cell → List Mark
 marks_in [] = []
 marks_in (c ∷ cs) = marks_of c ++ marks_in cs
 
--- Over the bytes held from the place of the mark on, the walk from its state is barren. The last byte taken is the last of the window.
+-- Over the bytes held from the place of the mark on, the walk from its state is barren. The last byte taken is the last
+-- of the window.
 abbrev pub IsTrueMark : Machine → Reading → Mark → Type 0
-IsTrueMark M r m = (m.place ≤ r.taken) × ((i : ℕ) → m.place + length r.window.bytes ≡ r.taken + i → Barren M r.at_end m.state (drop i r.window.bytes))
+IsTrueMark M r m =
+    (m.place ≤ r.taken)
+    × ((i : ℕ) → m.place + length r.window.bytes ≡ r.taken + i → Barren M r.at_end m.state (drop i r.window.bytes))
 
 -- Each mark is true.
 abbrev pub AreTrue : Machine → Reading → List Mark → Type 0
@@ -51,7 +54,9 @@ Barren-prop M at_end s (b ∷ w) =
     λ x y. λ k. λ g. ×_prop none (Barren-prop M at_end (M.next s b) w) (x g) (y g) k
 
 IsTrueMark-prop : (M : Machine) (r : Reading) (m : Mark) → IsProp (IsTrueMark M r m)
-IsTrueMark-prop M r m = ×_prop (λ x y. le_prop x y) (λ x y. λ k. λ i e. Barren-prop M r.at_end m.state (drop i r.window.bytes) (x i e) (y i e) k)
+IsTrueMark-prop M r m =
+    ×_prop (λ x y. le_prop x y)
+    (λ x y. λ k. λ i e. Barren-prop M r.at_end m.state (drop i r.window.bytes) (x i e) (y i e) k)
 
 pub AreTrue-prop : (M : Machine) (r : Reading) (ms : List Mark) → IsProp (AreTrue M r ms)
 AreTrue-prop M r ms = λ x y. λ k. λ m h. IsTrueMark-prop M r m (x m h) (y m h) k

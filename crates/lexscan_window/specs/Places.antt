@@ -1,4 +1,5 @@
--- The place of the next match. (POSIX, lex, Actions in lex: the scan goes on behind the text; yymore keeps the text; flex's manual, Patterns: a line starts behind a newline.)
+-- The place of the next match. (POSIX, lex, Actions in lex: the scan goes on behind the text; yymore keeps the text;
+-- flex's manual, Patterns: a line starts behind a newline.)
 use Rattle.std.specs.Prelude.{◌≡◌, ℕ, ◌-◌, ◌<◌, Bool, true, false, List, ◌++◌, take, drop, nat_eq, get_or}
 use Rattle.lexscan_window.specs.declared.state.State.{State}
 use Rattle.lexscan_window.specs.declared.act.ActionState.{ActionState}

@@ -19,8 +19,11 @@ pub record Took {S : Type 0} (gave : S → List ℕ → S → Type 0) (s t : S) 
 
 -- The window has a byte at a place, or the source has answered its end there.
 abbrev pub IsThere : Reading → Reading → ℕ → Bool → Type 0
-IsThere old new next true = (next < length new.window.bytes) × (length new.window.bytes ≡ max (length old.window.bytes) (next + 1)) × (new.at_end ≡ old.at_end)
-IsThere old new next false = (new.window.bytes ≡ old.window.bytes) × (length new.window.bytes ≡ next) × (new.at_end ≡ true)
+IsThere old new next true =
+    (next < length new.window.bytes) × (length new.window.bytes ≡ max (length old.window.bytes) (next + 1))
+    × (new.at_end ≡ old.at_end)
+IsThere old new next false =
+    (new.window.bytes ≡ old.window.bytes) × (length new.window.bytes ≡ next) × (new.at_end ≡ true)
 
 -- A byte was wanted right after those held, and was not had.
 abbrev pub IsWanted : Reading → Reading → ℕ → Type 0
@@ -28,7 +31,8 @@ IsWanted old new next = (new.window.bytes ≡ old.window.bytes) × (length new.w
 
 -- There was no memory for the state after a byte that is held.
 abbrev pub IsShort : Reading → Reading → ℕ → Type 0
-IsShort old new next = (new.window.bytes ≡ old.window.bytes) × (next < length old.window.bytes) × (new.at_end ≡ old.at_end)
+IsShort old new next =
+    (new.window.bytes ≡ old.window.bytes) × (next < length old.window.bytes) × (new.at_end ≡ old.at_end)
 
 -- whether the end was answered
 abbrev pub is_end : {T E : Type 0} → Result (Option T) E → Bool

@@ -20,7 +20,8 @@ use Rattle.lexscan_window.specs.Walks.{Grown, ends_at}
 
 module _ {S K : Type 0} {of_source : Source.Ghosts S} {of_sink : Sink.Ghosts K} where
   -- The source was asked for one byte: it stands in the window, or the end was answered, or nothing was taken.
-  pub record ByteTaken (i i' : Intake S of_source) (o o' : Outlet K of_sink) (old new : Reading) (result : Result (Option ℕ) RunError) : Type 0 where
+  pub record ByteTaken (i i' : Intake S of_source) (o o' : Outlet K of_sink) (old new : Reading)
+      (result : Result (Option ℕ) RunError) : Type 0 where
     pub same : source_name i' ≡ source_name i
     pub same_sink : sink_name o' ≡ sink_name o
     pub put : NothingPut of_sink.wrote of_sink.failures (sink_of o) (sink_of o') (can_write o') result
@@ -40,8 +41,10 @@ module _ {S K : Type 0} {of_source : Source.Ghosts S} {of_sink : Sink.Ghosts K} 
     pub not_failed : IsErrOf result Failed → ⊥
     pub not_stack : IsErrOf result Stack → ⊥
 
-  -- Bytes that the source has ready were walked over into the window, or one was read; what is refused is refused before that.
-  pub record WindowFilled (M : Machine) (states : ℕ) (i i' : Intake S of_source) (o o' : Outlet K of_sink) (old new : Reading) (first : ℕ) (result : Result Walk RunError) : Type 0 where
+  -- Bytes that the source has ready were walked over into the window, or one was read; what is refused is refused
+  -- before that.
+  pub record WindowFilled (M : Machine) (states : ℕ) (i i' : Intake S of_source) (o o' : Outlet K of_sink)
+      (old new : Reading) (first : ℕ) (result : Result Walk RunError) : Type 0 where
     pub same : source_name i' ≡ source_name i
     pub same_sink : sink_name o' ≡ sink_name o
     pub put : NothingPut of_sink.wrote of_sink.failures (sink_of o) (sink_of o') (can_write o') result
@@ -59,7 +62,8 @@ module _ {S K : Type 0} {of_source : Source.Ghosts S} {of_sink : Sink.Ghosts K} 
     pub at_limit : old.taken ≡ old.max_reads → IsErrOf result TooManyReads
 
   -- The window has a byte at this place, and the path has room for its state; or the source has answered its end.
-  pub record ByteFetched (i i' : Intake S of_source) (o o' : Outlet K of_sink) (old new : Reading) (path path' : StatesKept) (next : ℕ) (result : Result Bool RunError) : Type 0 where
+  pub record ByteFetched (i i' : Intake S of_source) (o o' : Outlet K of_sink) (old new : Reading)
+      (path path' : StatesKept) (next : ℕ) (result : Result Bool RunError) : Type 0 where
     pub same : source_name i' ≡ source_name i
     pub same_sink : sink_name o' ≡ sink_name o
     pub put : NothingPut of_sink.wrote of_sink.failures (sink_of o) (sink_of o') (can_write o') result
@@ -70,5 +74,6 @@ module _ {S K : Type 0} {of_source : Source.Ghosts S} {of_sink : Sink.Ghosts K} 
     pub states : path'.states ≡ path.states
     pub room : IfOk result (λ there. there ≡ true → path'.room ≡ true)
     pub too_many : IsErrOf result TooManyReads → (new.taken ≡ new.max_reads) × IsWanted old new next
-    pub at_limit : next ≡ length old.window.bytes → old.at_end ≡ false → old.taken ≡ old.max_reads → IsErrOf result TooManyReads
+    pub at_limit : next ≡ length old.window.bytes → old.at_end ≡ false → old.taken ≡ old.max_reads
+        → IsErrOf result TooManyReads
     pub short : next < length old.window.bytes → IfErr result (λ e. e ≡ OutOfMemory)

@@ -31,7 +31,8 @@ nothing_left ys b c e none = nil_from_length c (omega (arith, ap length e, ap le
 earlier_or_later : (e e' e'' : ℕ) → e < e'' → (e < e') ⊎ (e' < e'')
 earlier_or_later e e' e'' h = elim (cases_lt e e') [ inl y ↦ inl y | inr n ↦ inr (omega arith) ]
 
-pub gives-more : (a b c : List ℕ) (e e' e'' : ℕ) (xs ys : List ℕ) → GivesWaiting a e b e' xs → GivesWaiting b e' c e'' ys → GivesWaiting a e c e'' (xs ++ ys)
+pub gives-more : (a b c : List ℕ) (e e' e'' : ℕ) (xs ys : List ℕ) → GivesWaiting a e b e' xs
+    → GivesWaiting b e' c e'' ys → GivesWaiting a e c e'' (xs ++ ys)
 gives-more a b c e e' e'' xs ys p q = record {
   taken = p.taken ∙ ap (λ l. xs ++ l) q.taken ∙ sym (append_assoc xs ys c);
   later = let one = p.later in let two = q.later in omega arith;

@@ -1,7 +1,8 @@
 -- The bytes that a window holds.
 use Rattle.std.specs.Prelude.{List, ℕ, ◌-◌, Bool, length, drop}
 
--- a list of bytes, whether there is room for one more, what is shown in the room, and what is still kept of the bytes before
+-- a list of bytes, whether there is room for one more, what is shown in the room, and what is still kept of the bytes
+-- before
 pub record Held : Type 0 where
   pub bytes : List ℕ
   pub room : Bool

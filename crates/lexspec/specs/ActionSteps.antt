@@ -23,18 +23,23 @@ next_place c = if c == 34 then string else code (after_byte Comments.outside c)
 abbrev pub depth_after : ℕ → ℕ → ℕ
 depth_after n c = if c == 123 then suc n else if c == 125 then n - 1 else n
 
--- the action up to the first newline outside strings, comments and n open braces, or to the end, and what follows that newline
+-- the action up to the first newline outside strings, comments and n open braces, or to the end, and what follows that
+-- newline
 abbrev pub action_in : ActionPlace → ℕ → List ℕ → Option (List ℕ × List ℕ)
 action_in (code Comments.outside) zero [] = Some ([], [])
 action_in (code slash) zero [] = Some ([], [])
 action_in (code line) zero [] = Some ([], [])
 action_in p n [] = None
-action_in (code Comments.outside) n (c ∷ t) = if c == 10 && n == 0 then Some ([], t) else with_byte c (action_in (next_place c) (depth_after n c) t)
+action_in (code Comments.outside) n (c ∷ t) =
+    if c == 10 && n == 0 then Some ([], t) else with_byte c (action_in (next_place c) (depth_after n c) t)
 action_in (code slash) n (c ∷ t) =
     if c == 42 || c == 47 then with_byte c (action_in (code (after_byte slash c)) n t)
     else if c == 10 && n == 0 then Some ([], t)
     else with_byte c (action_in (next_place c) (depth_after n c) t)
-action_in (code line) n (c ∷ t) = if c == 10 && n == 0 then Some ([], t) else with_byte c (action_in (code (after_byte line c)) n t)
+action_in (code line) n (c ∷ t) =
+    if c == 10 && n == 0 then Some ([], t) else with_byte c (action_in (code (after_byte line c)) n t)
 action_in (code p) n (c ∷ t) = with_byte c (action_in (code (after_byte p c)) n t)
-action_in string n (c ∷ t) = if c == 10 then None else with_byte c (action_in (if c == 34 then outside else if c == 92 then escaped else string) n t)
+action_in string n (c ∷ t) =
+    if c == 10 then None
+    else with_byte c (action_in (if c == 34 then outside else if c == 92 then escaped else string) n t)
 action_in escaped n (c ∷ t) = if c == 10 then None else with_byte c (action_in string n t)

@@ -25,7 +25,8 @@ TellsLength file e = ((e.line ≡ 0) ↔ (max_file_bytes < length file)) × (e.l
 -- these items begin the text, whose first line is n, and this is left at the line m
 abbrev pub AreUpTo : ℕ → List ℕ → List (ℕ × Item) → ℕ → List ℕ → Type 0
 AreUpTo n t [] m rest = (n ≡ m) × (t ≡ rest)
-AreUpTo n t (i ∷ is) m rest = (next : List ℕ) × (i.0 ≡ n) × IsLine t i.1 next × AreUpTo (n + (newlines t - newlines next)) next is m rest
+AreUpTo n t (i ∷ is) m rest =
+    (next : List ℕ) × (i.0 ≡ n) × IsLine t i.1 next × AreUpTo (n + (newlines t - newlines next)) next is m rest
 
 -- the item is a rule with a pattern
 abbrev pub is_rule : Item → Bool
@@ -42,8 +43,8 @@ last_or n [] = n
 last_or n (line ∷ lines) = last_or line lines
 
 module _ (names : List (List ℕ)) (how : ReadOptions) (stack : Bool) (defined : Definitions) where
-  -- These items may begin a rules section: with some others behind them they are rules, there are not too many of them, and no
-  -- condition has two ends.
+  -- These items may begin a rules section: with some others behind them they are rules, there are not too many of them,
+  -- and no condition has two ends.
   pub record MayBegin (items : List (ℕ × Item)) : Type 0 where
     pub later : List (ℕ × Item)
     pub rules : List Rule
@@ -52,9 +53,9 @@ module _ (names : List (List ℕ)) (how : ReadOptions) (stack : Bool) (defined :
     pub single : AreSingle (length names) ends
     pub few : length (rule_lines items) ≤ max_rules
 
-  -- The text, whose first line is n, begins with items that may begin a rules section. With the item that follows they may not,
-  -- whatever is behind that, and at the end they are no rules. That line is told, but for a `|` without a rule behind it that of the
-  -- last rule.
+  -- The text, whose first line is n, begins with items that may begin a rules section. With the item that follows they
+  -- may not, whatever is behind that, and at the end they are no rules. That line is told, but for a `|` without a rule
+  -- behind it that of the last rule.
   pub record IsFirstFault (n : ℕ) (text : List ℕ) (e : SpecError) : Type 0 where
     pub items : List (ℕ × Item)
     pub place : ℕ
@@ -62,9 +63,12 @@ module _ (names : List (List ℕ)) (how : ReadOptions) (stack : Bool) (defined :
     pub read : AreUpTo n text items place rest
     pub begun : MayBegin items
     pub stuck : (i : Item) (next : List ℕ) → IsLine rest i next → MayBegin (items ++ (place, i) ∷ []) → ⊥
-    pub ended : (rules : List Rule) (ends : List EndRule) → (rest ≡ []) ⊎ (begins (codes "%%") rest ≡ true) → AreRules names how stack defined items rules ends false → ⊥
+    pub ended : (rules : List Rule) (ends : List EndRule) → (rest ≡ []) ⊎ (begins (codes "%%") rest ≡ true)
+        → AreRules names how stack defined items rules ends false → ⊥
     pub told : e.kind ≢ DanglingBar → e.line ≡ place
-    pub bar : e.kind ≡ DanglingBar → ((rules : List Rule) (ends : List EndRule) → AreRules names how stack defined items rules ends false → ⊥) → e.line ≡ last_or place (rule_lines items)
+    pub bar : e.kind ≡ DanglingBar
+        → ((rules : List Rule) (ends : List EndRule) → AreRules names how stack defined items rules ends false → ⊥)
+        → e.line ≡ last_or place (rule_lines items)
 
 -- No condition is declared twice, and there are not too many; no name is defined twice; and options are known.
 abbrev pub MayDeclare : List DefinitionLine → Type 0
@@ -73,15 +77,20 @@ MayDeclare ds = Pairwise ◌≢◌ (map (λ c. c.1) (all_conditions ds)) × (len
 
 -- the file has a definitions section, and this is left from the line on that begins with `%%`
 abbrev pub HasDefinitions : List ℕ → List DefinitionLine → List ℕ → Type 0
-HasDefinitions file ds rest = IsReadAs definition_at (λ t. t ≡ rest) (without_returns file) ds × (begins (codes "%%") rest ≡ true) × MayDeclare ds
+HasDefinitions file ds rest =
+    IsReadAs definition_at (λ t. t ≡ rest) (without_returns file) ds × (begins (codes "%%") rest ≡ true) × MayDeclare ds
 
 -- in a file that is not too long and has no definitions section, the first faulty line of that is told
 abbrev pub TellsDefinitions : List ℕ → SpecError → Type 0
-TellsDefinitions file e = length file ≤ max_file_bytes → ((ds : List DefinitionLine) (rest : List ℕ) → HasDefinitions file ds rest → ⊥)
+TellsDefinitions file e =
+    length file ≤ max_file_bytes → ((ds : List DefinitionLine) (rest : List ℕ) → HasDefinitions file ds rest → ⊥)
     → IsFaultyLine MayDeclare (without_returns file) e
 
 -- in one that has such a section, the first faulty line behind it is told
 abbrev pub TellsRules : ReadOptions → List ℕ → SpecError → Type 0
-TellsRules how file e = length file ≤ max_file_bytes → (ds : List DefinitionLine) (rest : List ℕ) → HasDefinitions file ds rest
-    → IsFirstFault (map (λ c. c.1) (all_conditions ds)) (record { fold = how.fold || has_name (all_options ds) (codes "case-insensitive"); posix = how.posix })
-    (has_name (all_options ds) (codes "stack")) (from_entries (substitutes_of ds)) (2 + newlines file - newlines rest) (line_in rest).1 e
+TellsRules how file e =
+    length file ≤ max_file_bytes → (ds : List DefinitionLine) (rest : List ℕ) → HasDefinitions file ds rest
+    → IsFirstFault (map (λ c. c.1) (all_conditions ds))
+    (record { fold = how.fold || has_name (all_options ds) (codes "case-insensitive"); posix = how.posix })
+    (has_name (all_options ds) (codes "stack")) (from_entries (substitutes_of ds)) (2 + newlines file - newlines rest)
+    (line_in rest).1 e

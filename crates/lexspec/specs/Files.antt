@@ -33,7 +33,8 @@ pub record SpellsSpec (how : ReadOptions) (file : List ℕ) (S : Spec) : Type 0 
   pub definitions : List DefinitionLine
   pub items : List (ℕ × Item)
   pub sections : IsReadAs definition_at (λ t. (begins (codes "%%") t ≡ true)
-      × ((rest : List ℕ) × AreItems (2 + newlines file - newlines t) (line_in t).1 items rest)) (without_returns file) definitions
+      × ((rest : List ℕ) × AreItems (2 + newlines file - newlines t) (line_in t).1 items rest)) (without_returns file)
+      definitions
   pub names : Pairwise ◌≢◌ (map (λ c. c.1) (all_conditions definitions))
   pub defined_once : Pairwise ◌≢◌ (map (λ d. d.0) (substitutes_of definitions))
   pub options : list_all (has_name known_options) (all_options definitions) ≡ true

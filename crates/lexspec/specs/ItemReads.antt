@@ -30,7 +30,9 @@ NoRules d t = (n : ℕ) (i : Item) (next : List ℕ) (is : List (ℕ × Item)) (
 
 -- the sides of a pattern have no trees, or neither gives a cut
 abbrev pub NoSides : Declarations → List ℕ → Trailing → Type 0
-NoSides d head after = (h : Tree) (t : Option Tree) (cut : Cut) → Spells d.options d.definitions head h → IsTrail d.options d.definitions after t → IsCutOf h t cut → ⊥
+NoSides d head after =
+    (h : Tree) (t : Option Tree) (cut : Cut) → Spells d.options d.definitions head h
+    → IsTrail d.options d.definitions after t → IsCutOf h t cut → ⊥
 
 -- a rule with a pattern begins the text t, at the line n
 pub record ReadsRule (d : Declarations) (n : ℕ) (t action rest : List ℕ) (r : Rule) : Type 0 where
@@ -56,12 +58,16 @@ ReadsItem d n t x = ReadsFront d n t x.action.now x.rest.now x.front
 
 -- an item brings a rule only where there is room for one, and no condition has two ends
 abbrev pub MayFollow : Declarations → RulesSoFar → Item → List EndRule → Type 0
-MayFollow d s i E = (brings_rule i ≡ true → length s.rules.items + length s.waiting.items < max_rules) × AreSingle (length d.conditions.items) (map end_rule_of s.ends.items ++ E)
+MayFollow d s i E =
+    (brings_rule i ≡ true → length s.rules.items + length s.waiting.items < max_rules)
+    × AreSingle (length d.conditions.items) (map end_rule_of s.ends.items ++ E)
 
 -- no item that begins the text, at the line n, may follow these rules, whatever items follow it
 abbrev pub NoneLeft : Declarations → RulesSoFar → ℕ → List ℕ → Type 0
 NoneLeft d s n t = (i : Item) (next : List ℕ) (is : List (ℕ × Item)) (R : List Rule) (E : List EndRule)
-    → IsLine t i next → Left (names_in d) d.options d.stack d.definitions ((n, i) ∷ is) (map rule_of s.waiting.items) R E → MayFollow d s i E → ⊥
+    → IsLine t i next
+    → Left (names_in d) d.options d.stack d.definitions ((n, i) ∷ is) (map rule_of s.waiting.items) R E
+    → MayFollow d s i E → ⊥
 
 -- so for a rule with this front and this action
 abbrev pub NoRulesAfter : Declarations → RulesSoFar → Front → List ℕ → Type 0

@@ -24,11 +24,14 @@ pub data Subject : Type 0 where
 -- the text begins with a pattern: its head, and nothing, `$`, or `/` and a trailing context
 abbrev pub IsSides : List ℕ → List ℕ → Trailing → List ℕ → Type 0
 IsSides t head no_trail rest = (end : ℕ) × IsCutting t end None false false × (head ≡ take end t) × (rest ≡ drop end t)
-IsSides t head line_end rest = (end : ℕ) × IsCutting t end None false true × (head ≡ take (end - 1) t) × (rest ≡ drop end t)
+IsSides t head line_end rest =
+    (end : ℕ) × IsCutting t end None false true × (head ≡ take (end - 1) t) × (rest ≡ drop end t)
 IsSides t head (pattern_after text) rest =
-    (end at : ℕ) × IsCutting t end (Some at) false false × (head ≡ take at t) × (text ≡ take (end - suc at) (drop (suc at) t)) × (rest ≡ drop end t)
+    (end at : ℕ) × IsCutting t end (Some at) false false × (head ≡ take at t)
+    × (text ≡ take (end - suc at) (drop (suc at) t)) × (rest ≡ drop end t)
 
--- the text begins with the subject of a rule, and this follows; after `<<EOF>>` the text ends, or a blank or a newline stands
+-- the text begins with the subject of a rule, and this follows; after `<<EOF>>` the text ends, or a blank or a newline
+-- stands
 abbrev pub IsSubject : List ℕ → Subject → List ℕ → Type 0
 IsSubject t at_end rest = (begins (codes "<<EOF>>") t ≡ true) × (rest ≡ drop 7 t) × (ends_pattern rest ≡ true)
 IsSubject t (matching anchored head after) rest =
@@ -45,7 +48,9 @@ pub data Item : Type 0 where
 -- a line of the rules section, with what follows that belongs to it; one that begins with `%%` is none
 abbrev pub IsLine : List ℕ → Item → List ℕ → Type 0
 IsLine t skipped rest = (text : List ℕ) × (line_at t ≡ Some (text, rest)) × (is_all_blank text ≡ true)
-IsLine t skipped_line rest = (text : List ℕ) × (line_at t ≡ Some (text, rest)) × (is_all_blank text ≡ false) × (list_any is_blank (take 1 text) ≡ true)
+IsLine t skipped_line rest =
+    (text : List ℕ) × (line_at t ≡ Some (text, rest)) × (is_all_blank text ≡ false)
+    × (list_any is_blank (take 1 text) ≡ true)
 IsLine t skipped_block rest = (begins (codes "%{") t ≡ true) × (after_block (suc (length t)) (line_in t).1 ≡ Some rest)
 IsLine t (rule asked subject action) rest =
     (starts_rule t ≡ true) × (u v text : List ℕ) × (conditions_at t ≡ Some (asked, u)) × IsSubject u subject v
@@ -60,12 +65,14 @@ code_of_item _ = []
 -- these items, each with its line, up to the end or a line that begins with `%%`; the first line here is n
 abbrev pub ItemsFrom : ℕ → List ℕ → List (ℕ × Item) → Type 0
 ItemsFrom n t [] = (t ≡ []) ⊎ (begins (codes "%%") t ≡ true)
-ItemsFrom n t (i ∷ is) = (rest : List ℕ) × (i.0 ≡ n) × IsLine t i.1 rest × ItemsFrom (n + (newlines t - newlines rest)) rest is
+ItemsFrom n t (i ∷ is) =
+    (rest : List ℕ) × (i.0 ≡ n) × IsLine t i.1 rest × ItemsFrom (n + (newlines t - newlines rest)) rest is
 
 -- these items begin the text, whose first line is n, and this is left at the line m
 abbrev pub ItemsUpTo : ℕ → List ℕ → List (ℕ × Item) → ℕ → List ℕ → Type 0
 ItemsUpTo n t [] m rest = (n ≡ m) × (t ≡ rest)
-ItemsUpTo n t (i ∷ is) m rest = (next : List ℕ) × (i.0 ≡ n) × IsLine t i.1 next × ItemsUpTo (n + (newlines t - newlines next)) next is m rest
+ItemsUpTo n t (i ∷ is) m rest =
+    (next : List ℕ) × (i.0 ≡ n) × IsLine t i.1 next × ItemsUpTo (n + (newlines t - newlines next)) next is m rest
 
 -- the item is a rule with a pattern
 abbrev pub brings_rule : Item → Bool

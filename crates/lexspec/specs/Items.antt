@@ -25,8 +25,8 @@ pub data Subject : Type 0 where
   -- a pattern with its `^`, and its trailing context, if it has one
   matching : (anchored : Bool) (head : List ℕ) (trail : Option (List ℕ)) → Subject
 
--- A line of the rules section, with what follows that belongs to it: one that is skipped, or a rule. Its action is a text, or
--- None for a `|`, which stands for the action of the next rule.
+-- A line of the rules section, with what follows that belongs to it: one that is skipped, or a rule. Its action is a
+-- text, or None for a `|`, which stands for the action of the next rule.
 pub data Item : Type 0 where
   skipped : DefinitionLine → Item
   rule : Conditions → Subject → Option (List ℕ) → Item
@@ -37,12 +37,14 @@ conditions_at t =
     let (inside, rest) = split_before (contains (codes ">\n")) (drop 1 t) in
     if begins (codes "<<EOF>>") t || not (begins (codes "<") t) then Some (unlisted, t)
     else if not (begins (codes ">") rest) then None
-    else Some (if same_bytes inside (codes "*") then every else only (slice_split (contains (codes ",")) inside), drop 1 rest)
+    else Some
+    (if same_bytes inside (codes "*") then every else only (slice_split (contains (codes ",")) inside), drop 1 rest)
 
 -- after the opening quote of a string of C: what follows its closing quote. A backslash passes any byte but a newline.
 unfoldable pub after_string : List ℕ → Option (List ℕ)
 after_string t =
-    until_quote (byte_with (λ u. slice_get u 0 >>= λ c. if contains (codes "\n") c then None else Some (c, drop 1 u))) (suc (length t)) t
+    until_quote (byte_with (λ u. slice_get u 0 >>= λ c. if contains (codes "\n") c then None else Some (c, drop 1 u)))
+    (suc (length t)) t
     >>= λ (bytes, rest). Some rest
 
 -- what follows a piece of C: a string, a comment `/* .. */`, a comment `//` up to its newline, or any other byte
@@ -60,7 +62,8 @@ unfoldable pub action_end : ℕ → ℕ → List ℕ → Option (List ℕ)
 action_end zero n t = None
 action_end (suc bound) n t =
     if (is_empty t || begins (codes "\n") t) && n == 0 then Some t
-    else after_piece t >>= action_end bound (if begins (codes "{") t then suc n else if begins (codes "}") t then n - 1 else n)
+    else after_piece t >>= action_end bound
+    (if begins (codes "{") t then suc n else if begins (codes "}") t then n - 1 else n)
 
 -- the action that begins the text, and what follows its newline
 unfoldable pub action_at : Reader (List ℕ)
@@ -84,7 +87,8 @@ IsSides t head (Some trail) rest = (end : ℕ) × (rest ≡ drop end t)
     ⊎ ((at : ℕ) × IsCutting t end (Some at) false false × (head ≡ take at t)
     × (trail ≡ take (end - suc at) (drop (suc at) t))))
 
--- the text begins with the subject of a rule, and this follows; after `<<EOF>>` the text ends, or a blank or a newline stands
+-- the text begins with the subject of a rule, and this follows; after `<<EOF>>` the text ends, or a blank or a newline
+-- stands
 abbrev pub IsSubject : List ℕ → Subject → List ℕ → Type 0
 IsSubject t at_end rest = (begins (codes "<<EOF>>") t ≡ true) × (rest ≡ drop 7 t) × (ends_pattern rest ≡ true)
 IsSubject t (matching anchored head trail) rest =

@@ -24,14 +24,19 @@ use Rattle.lex_semantics.specs.Limits.{max_rules}
 
 -- the specification of what the two sections declare and spell
 abbrev pub of_sections : Declarations → RulesSection → Spec
-of_sections d x = record { conditions = conditions_with 0 (map declared_of d.conditions.items) (map end_rule_of x.ends.items); rules = map rule_of x.rules.items }
+of_sections d x =
+    record {
+      conditions = conditions_with 0 (map declared_of d.conditions.items) (map end_rule_of x.ends.items);
+      rules = map rule_of x.rules.items;
+    }
 
 -- what follows the first section spells this specification, by what that declares
 pub record SpellsRest (s : Section) (S : Spec) : Type 0 where
   pub items : List (ℕ × Item)
   pub here : ItemsFrom (s.line + 1) (line_in s.rest.now).1 items
   pub ends : List EndRule
-  pub are : RulesFrom (names_in s.declarations) s.declarations.options s.declarations.stack s.declarations.definitions items S.rules ends
+  pub are : RulesFrom (names_in s.declarations) s.declarations.options s.declarations.stack s.declarations.definitions
+      items S.rules ends
   pub one_end : AreSingle (length s.declarations.conditions.items) ends
   pub conditions : S.conditions ≡ conditions_with 0 (map declared_of s.declarations.conditions.items) ends
   pub few_rules : length S.rules ≤ max_rules
@@ -39,7 +44,8 @@ pub record SpellsRest (s : Section) (S : Spec) : Type 0 where
 -- what follows the first section spells none, and its first faulty line is told
 pub record IsRefusedRest (s : Section) (e : SpecError) : Type 0 where
   pub none : (S : Spec) → SpellsRest s S → ⊥
-  pub first : IsFirstFault (names_in s.declarations) s.declarations.options s.declarations.stack s.declarations.definitions (s.line + 1) (line_in s.rest.now).1 e
+  pub first : IsFirstFault (names_in s.declarations) s.declarations.options s.declarations.stack
+      s.declarations.definitions (s.line + 1) (line_in s.rest.now).1 e
   pub line : 1 ≤ e.line
 
 -- the lines at which code was skipped are those of the first section, and of what follows it
@@ -48,4 +54,5 @@ pub record SkipsRest (s : Section) (lines : List ℕ) : Type 0 where
   pub rest : List ℕ
   pub pieces : AreFrom IsLine (s.line + 1) (line_in s.rest.now).1 items rest
   pub stops : EndsRules rest
-  pub lines_are : lines ≡ s.declarations.skipped.lines.items ++ told_lines 0 (flat_map code_of_item items) ++ user_section (s.line + 1 + newlines (line_in s.rest.now).1 - newlines rest) rest
+  pub lines_are : lines ≡ s.declarations.skipped.lines.items ++ told_lines 0 (flat_map code_of_item items)
+      ++ user_section (s.line + 1 + newlines (line_in s.rest.now).1 - newlines rest) rest

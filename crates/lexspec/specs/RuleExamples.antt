@@ -5,13 +5,14 @@ use Rattle.lexspec.specs.Items.{Conditions, unlisted, every, only, IsSides, cond
 -- `<a,b>x`, `<*>x`, and `<<EOF>>`, which opens no list; a list that is not closed
 abbrev pub ConditionLists : Type 0
 ConditionLists =
-    ◌≡◌ {A = Option (Conditions × List ℕ)} (conditions_at (codes "<a,b>x")) (Some (only (codes "a" ∷ codes "b" ∷ []), codes "x"))
+    ◌≡◌ {A = Option (Conditions × List ℕ)} (conditions_at (codes "<a,b>x"))
+    (Some (only (codes "a" ∷ codes "b" ∷ []), codes "x"))
     × ◌≡◌ {A = Option (Conditions × List ℕ)} (conditions_at (codes "<*>x")) (Some (every, codes "x"))
     × ◌≡◌ {A = Option (Conditions × List ℕ)} (conditions_at (codes "<<EOF>> ;")) (Some (unlisted, codes "<<EOF>> ;"))
     × (conditions_at (codes "<a") ≡ None)
 
--- A brace in a comment or in a string counts for nothing, and braces may stand on several lines. One that stays open has no
--- action. A bar alone takes the next action.
+-- A brace in a comment or in a string counts for nothing, and braces may stand on several lines. One that stays open
+-- has no action. A bar alone takes the next action.
 abbrev pub Actions : Type 0
 Actions =
     ◌≡◌ {A = Option (List ℕ × List ℕ)} (action_at (codes "{ /* } */\n}\na")) (Some (codes "{ /* } */\n}", codes "a"))

@@ -41,8 +41,8 @@ module _ (names : List (List ℕ)) (how : ReadOptions) (stack : Bool) (defined :
     pub trail_is : MatchOption trail (r.trail ≡ None) (λ text. IsSomeAnd r.trail (Spells how defined text))
     pub cut_is : IsCutOf r.head r.trail r.cut
 
-  -- The rules and the `<<EOF>>` rules of the items. A `|` stands for the statements of the next rule, which is no `<<EOF>>`
-  -- rule. The last argument says whether the rule before them ends with `|`.
+  -- The rules and the `<<EOF>>` rules of the items. A `|` stands for the statements of the next rule, which is no
+  -- `<<EOF>>` rule. The last argument says whether the rule before them ends with `|`.
   abbrev pub AreRules : List (ℕ × Item) → List Rule → List EndRule → Bool → Type 0
   AreRules [] [] [] after_bar = ⊤
   AreRules ((n, skipped line) ∷ is) rules ends after_bar = AreRules is rules ends after_bar

@@ -16,11 +16,13 @@ use Rattle.lexspec.specs.declared.rules_section.RulesSection.{RulesSection}
 use Rattle.lexspec.specs.ItemRuns.{ItemsFrom, EndsRules, Item}
 use Rattle.lex_semantics.specs.Limits.{max_rules}
 
--- the items of the text, which begins at the line n, and the rules that they spell; after them nothing is left, or a line of `%%`
+-- the items of the text, which begins at the line n, and the rules that they spell; after them nothing is left, or a
+-- line of `%%`
 pub record HasRules (d : Declarations) (n : ℕ) (text : List ℕ) (s : RulesSection) : Type 0 where
   pub items : List (ℕ × Item)
   pub here : ItemsFrom n text items
-  pub are : RulesFrom (names_in d) d.options d.stack d.definitions items (map rule_of s.rules.items) (map end_rule_of s.ends.items)
+  pub are : RulesFrom (names_in d) d.options d.stack d.definitions items (map rule_of s.rules.items)
+      (map end_rule_of s.ends.items)
   pub stops : EndsRules s.rest.now
   pub sound : HaveSoundSides (map rule_of s.rules.items)
   pub single : AreSingle (length d.conditions.items) (map end_rule_of s.ends.items)
@@ -28,7 +30,9 @@ pub record HasRules (d : Declarations) (n : ℕ) (text : List ℕ) (s : RulesSec
 
 -- the items of the text spell no rules, or too many, or two ends of a condition
 abbrev pub NoSuchRules : Declarations → ℕ → List ℕ → Type 0
-NoSuchRules d n text = (items : List (ℕ × Item)) (rules : List Rule) (ends : List EndRule) → ItemsFrom n text items → RulesFrom (names_in d) d.options d.stack d.definitions items rules ends
+NoSuchRules d n text =
+    (items : List (ℕ × Item)) (rules : List Rule) (ends : List EndRule) → ItemsFrom n text items
+    → RulesFrom (names_in d) d.options d.stack d.definitions items rules ends
     → length rules ≤ max_rules → AreSingle (length d.conditions.items) ends → ⊥
 
 -- a refusal: the items spell no rules, and the first faulty line is told

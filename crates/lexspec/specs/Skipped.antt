@@ -1,4 +1,5 @@
--- At which lines of a file code of C was skipped. (Code: flex, Format of the Input File; that it is told is this project's.)
+-- At which lines of a file code of C was skipped. (Code: flex, Format of the Input File; that it is told is this
+-- project's.)
 use Rattle.std.specs.Prelude.{◌≡◌, ℕ, ◌+◌, ◌-◌, true, not, if◌then◌else◌, List, [], ◌∷◌, ◌++◌, Some, flat_map, codes}
 use Rattle.std.specs.List.{list_any}
 use Rattle.lex_semantics.specs.Reading.{◌>>=◌, IsReadAs, begins, is_white}

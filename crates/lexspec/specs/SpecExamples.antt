@@ -1,6 +1,6 @@
 -- Worked examples of whole files: specifications that they spell, and files that spell none.
--- (POSIX, lex, Input Files to Actions in lex; flex, Format of the Input File, Patterns, Start Conditions, End-of-File Rules,
--- Scanner Options.)
+-- (POSIX, lex, Input Files to Actions in lex; flex, Format of the Input File, Patterns, Start Conditions, End-of-File
+-- Rules, Scanner Options.)
 use Rattle.std.specs.Prelude.{ℕ, ◌^◌, ◌+◌, true, false, List, [], ◌∷◌, ◌++◌, Some, None, codes}
 use Rattle.lex_semantics.specs.ByteSets.{single, range_set, complement}
 use Rattle.lex_semantics.specs.Spec.{Spec, Rule, Condition, EndAction, Statement, Echo, Print, More, Push, Pop, Whole, Head, Trail}
@@ -136,8 +136,8 @@ WholeFile = IsSpec whole_file whole_spec
 abbrev pub WholeSkips : Type 0
 WholeSkips = AreSkipped whole_file (1 ∷ 6 ∷ 13 ∷ 14 ∷ 26 ∷ [])
 
--- Carriage returns before newlines, letters for both cases, no user section, and a last line without a newline. Nothing is
--- done at the end.
+-- Carriage returns before newlines, letters for both cases, no user section, and a last line without a newline. Nothing
+-- is done at the end.
 abbrev pub short_file : List ℕ
 short_file = codes "%option case-insensitive" ++ 13 ∷ 10 ∷ codes "%%" ++ 13 ∷ 10 ∷ codes "a ECHO;"
 
@@ -190,8 +190,8 @@ pub record NoFiles : Type 0 where
   pub bar_at_end : IsNoSpec (codes "%%\na |\n")
   pub two_ends : IsNoSpec (codes "%%\n<<EOF>> exit(1);\n<<EOF>> exit(2);\n")
 
--- Lines that are no rules: two slashes, a slash beside a `$`, `^` before `<<EOF>>`, a `|` at `<<EOF>>`, trailing context where
--- neither side has a fixed length, and a statement of the stack without its option.
+-- Lines that are no rules: two slashes, a slash beside a `$`, `^` before `<<EOF>>`, a `|` at `<<EOF>>`, trailing
+-- context where neither side has a fixed length, and a statement of the stack without its option.
 pub record NoRules : Type 0 where
   pub two_slashes : IsNoSpec (codes "%%\na/b/c ;\n")
   pub slash_and_dollar : IsNoSpec (codes "%%\na/b$ ;\n")

@@ -15,7 +15,16 @@ use Rattle.lexre.specs.declared.options.ReadOptions.{ReadOptions}
 
 -- the rule with these statements
 abbrev pub acting : List Statement → Rule → Rule
-acting ss r = record { line = r.line; conditions = r.conditions; anchored = r.anchored; head = r.head; trail = r.trail; cut = r.cut; statements = ss }
+acting ss r =
+    record {
+      line = r.line;
+      conditions = r.conditions;
+      anchored = r.anchored;
+      head = r.head;
+      trail = r.trail;
+      cut = r.cut;
+      statements = ss;
+    }
 
 abbrev pub first_statements : List Rule → List Statement
 first_statements [] = []
@@ -46,7 +55,8 @@ goes_to_rule None ((n, i) ∷ is) = goes_to_rule None is
 
 module _ (names : List (List ℕ)) (how : ReadOptions) (stack : Bool) (defined : Definitions) where
   -- a rule but for its statements
-  pub record HasHead (n : ℕ) (asked : Conditions) (anchored : Bool) (head : List ℕ) (after : Trailing) (r : Rule) : Type 0 where
+  pub record HasHead (n : ℕ) (asked : Conditions) (anchored : Bool) (head : List ℕ) (after : Trailing)
+      (r : Rule) : Type 0 where
     pub line_is : r.line ≡ n
     pub listed : numbers_of (number_from 0 names) (length names) asked ≡ Some r.conditions
     pub anchor : r.anchored ≡ anchored
@@ -59,18 +69,22 @@ module _ (names : List (List ℕ)) (how : ReadOptions) (stack : Bool) (defined :
   RulesFrom [] rules ends = (rules ≡ []) × (ends ≡ [])
   RulesFrom ((n, rule asked at_end (Some text)) ∷ is) rules ends =
       (numbers : Option (List ℕ)) × (e : EndAction) × (others : List EndRule)
-      × (numbers_of (number_from 0 names) (length names) asked ≡ Some numbers) × SpellsEndAction (known_in names stack) text e
+      × (numbers_of (number_from 0 names) (length names) asked ≡ Some numbers)
+      × SpellsEndAction (known_in names stack) text e
       × (ends ≡ (numbers, e) ∷ others) × RulesFrom is rules others
   RulesFrom ((n, rule asked at_end None) ∷ is) rules ends = ⊥
   RulesFrom ((n, rule asked (matching anchored head after) action) ∷ is) rules ends =
-      (r : Rule) × (others : List Rule) × (rules ≡ r ∷ others) × (HasHead n asked anchored head after r × (goes_to_rule action is ≡ true)
+      (r : Rule) × (others : List Rule) × (rules ≡ r ∷ others)
+      × (HasHead n asked anchored head after r × (goes_to_rule action is ≡ true)
       × IsActionOf (known_in names stack) action others r.statements) × RulesFrom is others ends
   RulesFrom ((n, i) ∷ is) rules ends = RulesFrom is rules ends
 
 -- the rule of an item with a pattern, where `rules` are those of the items after it
-abbrev pub IsRule : List (List ℕ) → ReadOptions → Bool → Definitions → ℕ → Conditions → Bool → List ℕ → Trailing → Option (List ℕ) → List (ℕ × Item) → List Rule → Rule → Type 0
+abbrev pub IsRule : List (List ℕ) → ReadOptions → Bool → Definitions → ℕ → Conditions → Bool → List ℕ → Trailing
+    → Option (List ℕ) → List (ℕ × Item) → List Rule → Rule → Type 0
 IsRule names how stack defined n asked anchored head after action is rules r =
-    HasHead names how stack defined n asked anchored head after r × (goes_to_rule action is ≡ true) × IsActionOf (known_in names stack) action rules r.statements
+    HasHead names how stack defined n asked anchored head after r × (goes_to_rule action is ≡ true)
+    × IsActionOf (known_in names stack) action rules r.statements
 
 -- where some rule waits, the next rule is there, and is no `<<EOF>>` rule
 abbrev pub may_wait : List Rule → List (ℕ × Item) → Bool
@@ -78,7 +92,8 @@ may_wait [] is = true
 may_wait (w ∷ ws) is = goes_to_rule None is
 
 -- the rules and `<<EOF>>` rules of these items, after rules that wait for the next action
-pub record Left (names : List (List ℕ)) (how : ReadOptions) (stack : Bool) (defined : Definitions) (items : List (ℕ × Item)) (waiting rules : List Rule) (ends : List EndRule) : Type 0 where
+pub record Left (names : List (List ℕ)) (how : ReadOptions) (stack : Bool) (defined : Definitions)
+    (items : List (ℕ × Item)) (waiting rules : List Rule) (ends : List EndRule) : Type 0 where
   pub later : List Rule
   pub are : RulesFrom names how stack defined items later ends
   pub next : may_wait waiting items ≡ true

@@ -29,8 +29,8 @@ pub record EachStatement : Type 0 where
   pub push : SpellsAction (known true) (codes "yy_push_state(A);") (Push 1 ∷ [])
   pub pop : SpellsAction (known true) (codes "yy_pop_state();") (Pop ∷ [])
 
--- nothing; literals in a row, with braces and a comment; a semicolon that is absent at the end; a comment to the end of its
--- line, and one that is not closed; a format with nothing beside its text
+-- nothing; literals in a row, with braces and a comment; a semicolon that is absent at the end; a comment to the end of
+-- its line, and one that is not closed; a format with nothing beside its text
 pub record SeveralStatements : Type 0 where
   pub none : Says (codes " ;") []
   pub joined : Says (codes "{ puts(\"a\"); /* b */ printf(\"%%c\") }") (Print (codes "a\n%c") ∷ [])
@@ -39,9 +39,10 @@ pub record SeveralStatements : Type 0 where
   pub open_comment : Says (codes "ECHO; /* }") (Echo ∷ [])
   pub text_alone : Says (codes "printf(\"%s\", yytext);") (Echo ∷ [])
 
--- a status above 63; no byte kept; a condition by a number that is not 0; a sign of printf's that is none of these, two texts, and
--- one without its argument; a NUL by an escape, and escapes that C has not; a brace that stays open; something after the end; no semicolon between statements; two of yyless, yymore and REJECT, each of which says what becomes of the text;
--- a statement of the stack without the option
+-- a status above 63; no byte kept; a condition by a number that is not 0; a sign of printf's that is none of these, two
+-- texts, and one without its argument; a NUL by an escape, and escapes that C has not; a brace that stays open;
+-- something after the end; no semicolon between statements; two of yyless, yymore and REJECT, each of which says what
+-- becomes of the text; a statement of the stack without the option
 pub record NoActions : Type 0 where
   pub status : SaysNothing (codes "exit(64);")
   pub kept : SaysNothing (codes "yyless(0);")

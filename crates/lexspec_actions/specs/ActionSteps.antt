@@ -1,5 +1,5 @@
--- The action of a rule by the steps of the code that reads it: what each of its readers answers. Actions says the same by its table of
--- statements.
+-- The action of a rule by the steps of the code that reads it: what each of its readers answers. Actions says the same
+-- by its table of statements.
 use Rattle.std.specs.Prelude.{◌≡◌, ℕ, zero, suc, Bool, true, false, ◌&&◌, ◌==◌, nat_le, if◌then◌else◌, List, [], ◌∷◌, ◌++◌, Option, Some, None, codes, min}
 use Rattle.lex_semantics.specs.ByteSets.{same_bytes, within}
 use Rattle.lex_semantics.specs.Reading.{◌>>=◌, Reader, IsReadAs, value}
@@ -36,7 +36,8 @@ abbrev pub parts_in : Bool → List ℕ → Option (List ℕ × Option (List ℕ
 parts_in false [] = Some ([], None)
 parts_in true [] = None
 parts_in false (c ∷ t) = if c == 37 then parts_in true t else onto c (parts_in false t)
-parts_in true (c ∷ t) = if c == 37 then onto 37 (parts_in false t) else if c == 115 then split (parts_in false t) else None
+parts_in true (c ∷ t) =
+    if c == 37 then onto 37 (parts_in false t) else if c == 115 then split (parts_in false t) else None
 
 unfoldable pub parts_of : List ℕ → Option (List ℕ × Option (List ℕ))
 parts_of text = parts_in false text
@@ -61,7 +62,8 @@ no_argument t = expect (codes "(") t >>= λ inside. expect (codes ")") inside
 -- `(n)`
 unfoldable pub number_argument : Reader ℕ
 number_argument t =
-    expect (codes "(") t >>= λ inside. digits_at (after_spaces inside) >>= λ (digits, rest). expect (codes ")") rest >>= λ after. Some (value 10 digits, after)
+    expect (codes "(") t >>= λ inside. digits_at (after_spaces inside) >>= λ (digits, rest). expect (codes ")") rest >>=
+    λ after. Some (value 10 digits, after)
 
 -- `, word)`
 unfoldable pub second_word : List ℕ → List ℕ → Option (List ℕ)
@@ -80,11 +82,15 @@ printf_at t = expect (codes "(") t >>= λ inside. literal_at inside >>= λ (text
 
 -- after `fputs`
 unfoldable pub fputs_at : Reader Said
-fputs_at t = expect (codes "(") t >>= λ inside. literal_at inside >>= λ (text, rest). second_word (codes "yyout") rest >>= λ after. Some (prints text, after)
+fputs_at t =
+    expect (codes "(") t >>= λ inside. literal_at inside >>= λ (text, rest). second_word (codes "yyout") rest >>=
+    λ after. Some (prints text, after)
 
 -- after `puts`
 unfoldable pub puts_at : Reader Said
-puts_at t = expect (codes "(") t >>= λ inside. literal_at inside >>= λ (text, rest). expect (codes ")") rest >>= λ after. Some (prints (text ++ 10 ∷ []), after)
+puts_at t =
+    expect (codes "(") t >>= λ inside. literal_at inside >>= λ (text, rest). expect (codes ")") rest >>= λ after. Some
+    (prints (text ++ 10 ∷ []), after)
 
 -- after `yymore`, `yyterminate`, `yyless`, `yy_pop_state` and `exit`
 unfoldable pub yymore_at : Reader Said
@@ -154,7 +160,8 @@ module _ (condition : List ℕ → Option ℕ) where
   unfoldable pub condition_at : Reader ℕ
   condition_at t = elim (name_at (after_spaces t)) [
     | Some found ↦ condition found.0 >>= λ c. Some (c, found.1)
-    | None ↦ digits_at (after_spaces t) >>= λ (digits, rest). if same_bytes digits (codes "0") then Some (0, rest) else None
+    | None ↦ digits_at (after_spaces t) >>= λ (digits, rest). if same_bytes digits (codes "0") then Some (0, rest)
+        else None
   ]
 
   -- a condition, and `)`
@@ -210,7 +217,9 @@ module _ (known : Scope) where
       else None
 
   unfoldable pub statement_at : Reader Said
-  statement_at t = name_at t >>= λ (word, rest). after_word word rest >>= λ (s, after). after_statement after >>= λ last. Some (s, last)
+  statement_at t =
+      name_at t >>= λ (word, rest). after_word word rest >>= λ (s, after). after_statement after >>= λ last. Some
+      (s, last)
 
   unfoldable pub piece_from : Reader Piece
   piece_from [] = None
@@ -226,7 +235,8 @@ module _ (known : Scope) where
   -- the text is an action, and these are its statements in normal form
   abbrev pub SpellsStatements : List ℕ → List Statement → Type 0
   SpellsStatements text ss =
-      (ps : List Piece) × IsReadAs piece_at NoPiece text ps × (are_balanced 0 ps ≡ true) × (ss ≡ then_all [] (statements_of ps))
+      (ps : List Piece) × IsReadAs piece_at NoPiece text ps × (are_balanced 0 ps ≡ true)
+      × (ss ≡ then_all [] (statements_of ps))
 
 -- what an `<<EOF>>` rule does with these statements
 abbrev pub end_of : List Statement → Option EndAction

@@ -12,14 +12,16 @@ use Rattle.lex_semantics.specs.Literals.{literal_of, normal}
 use Rattle.lex_semantics.specs.Limits.{max_statements, max_literal_bytes, max_kept, max_status}
 use Rattle.lex_semantics.specs.Active.{contains}
 
--- What a format prints before its `%s` and after it, where it has one: `%%` is a percent sign, and no other `%` may stand. It is told
--- whether a `%` stands before the text.
+-- What a format prints before its `%s` and after it, where it has one: `%%` is a percent sign, and no other `%` may
+-- stand. It is told whether a `%` stands before the text.
 unfoldable pub parts_of : Bool → List ℕ → Option (List ℕ × Option (List ℕ))
 parts_of percent [] = if percent then None else Some ([], None)
 parts_of percent (c ∷ t) =
-    if percent && contains (codes "s") c then (parts_of false t >>= λ (front, back). if is_some back then None else Some ([], Some front))
+    if percent && contains (codes "s") c
+    then (parts_of false t >>= λ (front, back). if is_some back then None else Some ([], Some front))
     else if not percent && contains (codes "%") c then parts_of true t
-    else if percent && not (contains (codes "%") c) then None else parts_of false t >>= λ (front, back). Some (c ∷ front, back)
+    else if percent && not (contains (codes "%") c) then None
+    else parts_of false t >>= λ (front, back). Some (c ∷ front, back)
 
 -- What follows the first word of a statement: what the statement says, and what stands after it.
 
@@ -30,15 +32,19 @@ says_only s t = Some (s ∷ [], t)
 -- `(`, what is read, and `)`
 unfoldable pub in_parentheses : Reader (List Statement) → Reader (List Statement)
 in_parentheses read t =
-    expect (codes "(") t >>= λ inside. read inside >>= λ (ss, rest). expect (codes ")") rest >>= λ after. Some (ss, after)
+    expect (codes "(") t >>= λ inside. read inside >>= λ (ss, rest). expect (codes ")") rest >>= λ after. Some
+    (ss, after)
 
 -- a number from low to high
 unfoldable pub number_within : ℕ → ℕ → (ℕ → Statement) → Reader (List Statement)
-number_within low high s t = number_at (after_spaces t) >>= λ (n, rest). if within low high n then says_only (s n) rest else None
+number_within low high s t =
+    number_at (after_spaces t) >>= λ (n, rest). if within low high n then says_only (s n) rest else None
 
 -- `, word`
 unfoldable pub second_word : List ℕ → List ℕ → Option (List ℕ)
-second_word word t = expect (codes ",") t >>= λ rest. name_at (after_spaces rest) >>= λ (name, after). if same_bytes name word then Some after else None
+second_word word t =
+    expect (codes ",") t >>= λ rest. name_at (after_spaces rest) >>= λ (name, after). if same_bytes name word
+    then Some after else None
 
 -- a format, and `, yytext` where it has a `%s`
 unfoldable pub format_at : Reader (List Statement)
@@ -49,7 +55,9 @@ format_at t = literal_at t >>= λ (text, rest). parts_of false text >>= λ (fron
 
 -- the `;` of a statement, which may be absent before `}` and at the end
 unfoldable pub after_statement : List ℕ → Option (List ℕ)
-after_statement t = option_or (expect (codes ";") t) (if is_empty (after_spaces t) || begins (codes "}") (after_spaces t) then Some t else None)
+after_statement t =
+    option_or (expect (codes ";") t)
+    (if is_empty (after_spaces t) || begins (codes "}") (after_spaces t) then Some t else None)
 
 -- a piece of an action: the punctuator that it is, where it is `{`, `}` or `;` alone, and what it says
 abbrev pub Piece : Type 0
@@ -67,28 +75,45 @@ AreBalanced ps = (punctuators (codes "}") ps ≡ punctuators (codes "{") ps)
 module _ (known : Scope) where
   -- a condition: its name, or `0`
   unfoldable pub condition_at : (ℕ → Statement) → Reader (List Statement)
-  condition_at s t = option_or (name_at (after_spaces t) >>= λ (name, rest). known.number name >>= λ c. says_only (s c) rest)
-      (run_at is_digit (after_spaces t) >>= λ (digits, rest). if same_bytes digits (codes "0") then says_only (s 0) rest else None)
+  condition_at s t =
+      option_or (name_at (after_spaces t) >>= λ (name, rest). known.number name >>= λ c. says_only (s c) rest)
+      (run_at is_digit (after_spaces t) >>= λ (digits, rest). if same_bytes digits (codes "0") then says_only (s 0) rest
+      else None)
 
   -- the statements: the first word of each, and what follows it
   abbrev pub statements : List (List ℕ × Reader (List Statement))
   statements =
       (codes "ECHO", says_only Echo)
       ∷ (codes "REJECT", says_only Reject)
-      ∷ (codes "BEGIN", λ t. if begins (codes "(") (after_spaces t) then in_parentheses (condition_at Begin) t else condition_at Begin t)
+      ∷ (
+        codes "BEGIN",
+        λ t. if begins (codes "(") (after_spaces t) then in_parentheses (condition_at Begin) t
+            else condition_at Begin t,
+      )
       ∷ (codes "yymore", in_parentheses (says_only More))
       ∷ (codes "yyless", in_parentheses (number_within 1 max_kept Less))
       ∷ (codes "yyterminate", in_parentheses (says_only (End 0)))
       ∷ (codes "exit", in_parentheses (number_within 0 max_status End))
       ∷ (codes "printf", in_parentheses format_at)
-      ∷ (codes "fputs", in_parentheses (λ t. literal_at t >>= λ (text, rest). second_word (codes "yyout") rest >>= says_only (Print text)))
-      ∷ (codes "puts", in_parentheses (λ t. literal_at t >>= λ (text, rest). says_only (Print (text ++ codes "\n")) rest))
+      ∷ (
+        codes "fputs",
+        in_parentheses
+            (λ t. literal_at t >>= λ (text, rest). second_word (codes "yyout") rest >>= says_only (Print text)),
+      )
+      ∷ (
+        codes "puts",
+        in_parentheses
+            (λ t. literal_at t >>= λ (text, rest). says_only (Print (text ++ codes "\n")) rest),
+      )
       ∷ (if not known.stack then []
-      else (codes "yy_push_state", in_parentheses (condition_at Push)) ∷ (codes "yy_pop_state", in_parentheses (says_only Pop)) ∷ [])
+      else (codes "yy_push_state", in_parentheses (condition_at Push))
+      ∷ (codes "yy_pop_state", in_parentheses (says_only Pop)) ∷ [])
 
   -- a first word of the table, what follows it, and the `;`
   unfoldable pub statement_at : Reader (List Statement)
-  statement_at t = name_at t >>= λ (word, rest). find (λ row. same_bytes word row.0) statements >>= λ row. row.1 rest >>= λ (ss, after).
+  statement_at t =
+      name_at t >>= λ (word, rest). find (λ row. same_bytes word row.0) statements >>= λ row. row.1 rest >>=
+      λ (ss, after).
       after_statement after >>= λ last. Some (ss, last)
 
   -- the piece that comes next
@@ -98,9 +123,12 @@ module _ (known : Scope) where
     | None ↦ statement_at (after_spaces t) >>= λ (ss, rest). Some (([], ss), rest)
   ]
 
-  -- The text is an action, and these are its statements in normal form. After the last piece only blanks and comments are left.
+  -- The text is an action, and these are its statements in normal form. After the last piece only blanks and comments
+  -- are left.
   abbrev pub SpellsStatements : List ℕ → List Statement → Type 0
-  SpellsStatements text ss = (ps : List Piece) × IsReadAs next_piece (λ t. after_spaces t ≡ []) text ps × AreBalanced ps × (ss ≡ normal (flat_map (λ p. p.1) ps))
+  SpellsStatements text ss =
+      (ps : List Piece) × IsReadAs next_piece (λ t. after_spaces t ≡ []) text ps × AreBalanced ps
+      × (ss ≡ normal (flat_map (λ p. p.1) ps))
 
 -- there are no more statements and literal bytes than an action may have
 abbrev pub are_few : List Statement → Bool
@@ -110,8 +138,8 @@ are_few ss = nat_le (length ss) max_statements && nat_le (sum_by (λ s. length (
 abbrev pub SpellsAction : Scope → List ℕ → List Statement → Type 0
 SpellsAction known text ss = SpellsStatements known text ss × ((are_few ss && ends_last ss && are_compatible ss) ≡ true)
 
--- The action of an `<<EOF>>` rule: it may print, and it ends the scan, with status 0 where it says none. So its statements are a literal,
--- which may be empty, and an end, or the literal alone. (flex, End-of-File Rules.)
+-- The action of an `<<EOF>>` rule: it may print, and it ends the scan, with status 0 where it says none. So its
+-- statements are a literal, which may be empty, and an end, or the literal alone. (flex, End-of-File Rules.)
 abbrev pub SpellsEndAction : Scope → List ℕ → EndAction → Type 0
 SpellsEndAction known text e = (ss : List Statement) × SpellsStatements known text ss × (are_few ss ≡ true)
     × ((ss ≡ normal (Print e.print ∷ End e.status ∷ [])) ⊎ ((ss ≡ normal (Print e.print ∷ [])) × (e.status ≡ 0)))

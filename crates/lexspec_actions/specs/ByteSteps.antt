@@ -10,8 +10,8 @@ use Rattle.lexre_bytes.specs.Lexical.{run_at}
 abbrev pub digits_at : Reader (List ℕ)
 digits_at = run_at is_digit
 
--- Comments by where a text stands: outside comments, after a slash there, in a `/* .. */` comment, after a star there, or in a `//`
--- comment.
+-- Comments by where a text stands: outside comments, after a slash there, in a `/* .. */` comment, after a star there,
+-- or in a `//` comment.
 pub data BytePlace : Type 0 where
   outside : BytePlace
   slash : BytePlace

@@ -17,7 +17,8 @@ said_by_call Called.BadCount = None
 said_by_call Called.BadStatus = None
 said_by_call Called.UnknownCondition = None
 
-abbrev pub CallReads : {X : Type 0} → (X → Called) → (X → List ℕ) → Result X SpecErrorKind → Option (Said × List ℕ) → Type 0
+abbrev pub CallReads : {X : Type 0} → (X → Called) → (X → List ℕ) → Result X SpecErrorKind → Option (Said × List ℕ)
+    → Type 0
 CallReads called rest (Ok x) read = read ≡ option_map (with_rest (rest x)) (said_by_call (called x))
 CallReads called rest (Err e) read = UnlessMemory e (read ≡ None)
 

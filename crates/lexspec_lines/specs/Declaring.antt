@@ -39,7 +39,9 @@ AreGood cs = (are_distinct (names_of cs) ≡ true) × (length cs ≤ max_conditi
 
 -- no condition and no name is declared twice, conditions are few, and options are known
 abbrev pub AreAllowed : List DefinitionLine → Type 0
-AreAllowed ds = AreGood (all_conditions ds) × (are_distinct (map (λ (d : List ℕ × List ℕ). d.0) (substitutes_of ds)) ≡ true) × (list_all (has_name known_options) (all_options ds) ≡ true)
+AreAllowed ds =
+    AreGood (all_conditions ds) × (are_distinct (map (λ (d : List ℕ × List ℕ). d.0) (substitutes_of ds)) ≡ true)
+    × (list_all (has_name known_options) (all_options ds) ≡ true)
 
 -- what the lines declare is what the code keeps
 pub record Declares (how : ReadOptions) (ds : List DefinitionLine) (d : Declarations) : Type 0 where

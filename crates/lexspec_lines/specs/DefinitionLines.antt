@@ -38,14 +38,16 @@ is_name word = list_any starts_name (take 1 word) && list_all goes_on_name word
 unfoldable pub definition_in : List ℕ → Option DefinitionLine
 definition_in line = name_at line >>= λ (name, rest).
     let text = trimmed (after_blanks rest) in
-    if list_any is_blank (take 1 rest) && not (is_empty text || is_anchored text) then Some (defines name text) else None
+    if list_any is_blank (take 1 rest) && not (is_empty text || is_anchored text) then Some (defines name text)
+    else None
 
 -- `%s` and `%x` have at least one name
 abbrev pub declaration : Bool → List (List ℕ) → Option DefinitionLine
-declaration exclusive names = if length names == 0 || not (list_all is_name names) then None else Some (declares exclusive names)
+declaration exclusive names =
+    if length names == 0 || not (list_all is_name names) then None else Some (declares exclusive names)
 
--- A line that begins with `%`, by its first word: conditions, options, how yytext is kept, or the size of a table. (POSIX,
--- Definitions in lex; flex, Start Conditions, Scanner Options.)
+-- A line that begins with `%`, by its first word: conditions, options, how yytext is kept, or the size of a table.
+-- (POSIX, Definitions in lex; flex, Start Conditions, Scanner Options.)
 unfoldable pub percent_line : List ℕ → Option DefinitionLine
 percent_line line =
     let (word, rest) = split_before is_blank line in
@@ -53,8 +55,10 @@ percent_line line =
     if list_any (same_bytes word) (words (codes "%s %S %start %Start")) then declaration false names
     else if list_any (same_bytes word) (words (codes "%x %X")) then declaration true names
     else if same_bytes word (codes "%option") then (if length names == 0 then None else Some (options names))
-    else if list_any (same_bytes word) (words (codes "%array %pointer")) then (if length names == 0 then Some ignored else None)
-    else if list_any (same_bytes word) (words (codes "%p %n %a %e %k %o")) then (if length names == 1 && list_all (list_all is_digit) names then Some ignored else None)
+    else if list_any (same_bytes word) (words (codes "%array %pointer"))
+    then (if length names == 0 then Some ignored else None)
+    else if list_any (same_bytes word) (words (codes "%p %n %a %e %k %o"))
+    then (if length names == 1 && list_all (list_all is_digit) names then Some ignored else None)
     else None
 
 -- a line of the definitions section, with what follows that belongs to it; a line that begins with `%%` is none
@@ -94,4 +98,6 @@ all_options ds = flat_map (λ d. elim d [ options ws ↦ ws | _ ↦ [] ]) ds
 
 -- the options that are known, most of them without effect (flex, Scanner Options)
 abbrev pub known_options : List (List ℕ)
-known_options = words (codes "noyywrap nounput noinput yylineno 8bit batch interactive always-interactive never-interactive case-insensitive stack")
+known_options =
+    words (codes
+    "noyywrap nounput noinput yylineno 8bit batch interactive always-interactive never-interactive case-insensitive stack")

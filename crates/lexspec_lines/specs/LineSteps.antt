@@ -10,4 +10,5 @@ unfoldable pub definition_from : List ℕ → Option DefinitionLine
 definition_from line =
     let (name, rest) = take_run goes_on_name line in
     let text = trimmed (after_blanks rest) in
-    if list_any starts_name (take 1 line) && list_any is_blank (take 1 rest) && not (is_empty text || is_anchored text) then Some (defines name text) else None
+    if list_any starts_name (take 1 line) && list_any is_blank (take 1 rest) && not (is_empty text || is_anchored text)
+    then Some (defines name text) else None

@@ -42,7 +42,8 @@ words t = filter (λ word. not (is_empty word)) (slice_split is_blank t)
 
 -- What both sections skip.
 
--- after a line that begins with `%{`: what follows the next line that begins with `%}`. The number bounds how many lines there are.
+-- after a line that begins with `%{`: what follows the next line that begins with `%}`. The number bounds how many
+-- lines there are.
 unfoldable pub after_block : ℕ → List ℕ → Option (List ℕ)
 after_block zero t = None
 after_block (suc n) t = line_at t >>= λ (line, rest). if begins (codes "%}") line then Some rest else after_block n rest

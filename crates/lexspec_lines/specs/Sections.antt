@@ -37,14 +37,15 @@ reported_kind defined (Anchored name) = if is_some (get defined name.now) then K
 abbrev pub ends_line : List ℕ → Bool
 ends_line text = length text == 0 || ends_with nat_eq text (codes "\n")
 
--- The first faulty line: the lines before it declare what they may, and it is no separator. No line stands there, or one that with
--- these declares what it may not, whatever follows. Where the text ends it is the line after the last.
+-- The first faulty line: the lines before it declare what they may, and it is no separator. No line stands there, or
+-- one that with these declares what it may not, whatever follows. Where the text ends it is the line after the last.
 pub record IsFaultyLine (Allowed : List DefinitionLine → Type 0) (text : List ℕ) (e : SpecError) : Type 0 where
   pub definitions : List DefinitionLine
   pub rest : List ℕ
   pub lines : IsUpTo definition_at text definitions rest
   pub allowed : Allowed definitions
   pub off : begins (codes "%%") rest ≡ false
-  pub stuck : (d : DefinitionLine) (next : List ℕ) (more : List DefinitionLine) → definition_at rest ≡ Some (d, next) → Allowed (definitions ++ d ∷ more) → ⊥
+  pub stuck : (d : DefinitionLine) (next : List ℕ) (more : List DefinitionLine) → definition_at rest ≡ Some (d, next)
+      → Allowed (definitions ++ d ∷ more) → ⊥
   pub told : 0 < length rest → e.line ≡ 1 + newlines text - newlines rest
   pub ended : length rest ≡ 0 → e.line ≡ 1 + newlines text + (if ends_line text then 0 else 1)

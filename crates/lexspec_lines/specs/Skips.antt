@@ -22,17 +22,20 @@ abbrev pub IsDefinition : List ℕ → DefinitionLine → List ℕ → Type 0
 IsDefinition t d rest = definition_at t ≡ Some (d, rest)
 
 module _ {A : Type 0} where
-  -- these pieces of a text up to a rest, each with its line, where as many newlines are behind it as it is before the line `end`
+  -- these pieces of a text up to a rest, each with its line, where as many newlines are behind it as it is before the
+  -- line `end`
   abbrev pub AreNumbered : (List ℕ → A → List ℕ → Type 0) → ℕ → List ℕ → List (ℕ × A) → List ℕ → Type 0
   AreNumbered is_piece end t [] rest = t ≡ rest
-  AreNumbered is_piece end t (x ∷ xs) rest = (next : List ℕ) × (x.0 + newlines t ≡ end) × is_piece t x.1 next × AreNumbered is_piece end next xs rest
+  AreNumbered is_piece end t (x ∷ xs) rest =
+      (next : List ℕ) × (x.0 + newlines t ≡ end) × is_piece t x.1 next × AreNumbered is_piece end next xs rest
 
   -- these pieces, where the first line is n
   abbrev pub AreFrom : (List ℕ → A → List ℕ → Type 0) → ℕ → List ℕ → List (ℕ × A) → List ℕ → Type 0
   AreFrom is_piece n t xs rest = AreNumbered is_piece (n + newlines t) t xs rest
 
   -- the lines tell, behind the code before it, that of the pieces of a text up to its rest
-  pub record TellsPieces (before : List Code) (is_piece : List ℕ → A → List ℕ → Type 0) (code_of : ℕ × A → List Code) (end : ℕ) (t rest : List ℕ) (s : Skipped) : Type 0 where
+  pub record TellsPieces (before : List Code) (is_piece : List ℕ → A → List ℕ → Type 0) (code_of : ℕ × A → List Code)
+      (end : ℕ) (t rest : List ℕ) (s : Skipped) : Type 0 where
     pub pieces : List (ℕ × A)
     pub numbered : AreNumbered is_piece end t pieces rest
     pub told : TellsCode (before ++ flat_map code_of pieces) s

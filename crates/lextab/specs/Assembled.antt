@@ -16,7 +16,8 @@ start_in starts line_starts c line_start = cond line_start (slice_index line_sta
 -- the conditions from number n on, with where matches start in them
 abbrev pub conditions_with : (ℕ → Bool → ℕ) → ℕ → List S.Condition → List T.ConditionOfTable
 conditions_with start n [] = []
-conditions_with start n (c ∷ cs) = record { start = start n false; line_start = start n true; end = c.end } ∷ conditions_with start (suc n) cs
+conditions_with start n (c ∷ cs) =
+    record { start = start n false; line_start = start n true; end = c.end } ∷ conditions_with start (suc n) cs
 
 abbrev pub action_in : S.Rule → T.RuleOfTable
 action_in r = record { cut = r.cut; statements = r.statements }
@@ -26,7 +27,8 @@ abbrev pub rows_with : List ℕ → List ℕ → List (List ℕ) → List T.Row
 rows_with [] bases lists = []
 rows_with (d ∷ defaults) [] lists = []
 rows_with (d ∷ defaults) (b ∷ bases) [] = []
-rows_with (d ∷ defaults) (b ∷ bases) (l ∷ lists) = record { default_target = d; base = b; rules = l } ∷ rows_with defaults bases lists
+rows_with (d ∷ defaults) (b ∷ bases) (l ∷ lists) =
+    record { default_target = d; base = b; rules = l } ∷ rows_with defaults bases lists
 
 -- an automaton's table with the actions of a specification, packed so
 abbrev pub assembled : Parts → S.Spec → Packing → T.Table

@@ -18,12 +18,17 @@ module _ (p : Parts) (a : IsAutomaton p) (S : Spec) (count : conditions p ≡ le
   starts c false h = a.starts_known c (omega (arith, h, count))
 
   nexts : (s b : ℕ) → s < states p → b < 256 → next p s b < states p
-  nexts s b hs hb = subst (λ n. n < states p) (sym (cond-true (nat_lt b 256) (slice_index p.next.items (s * 256 + b)) 0 (lt-ltb b 256 hb))) (a.next_known (s * 256 + b) (omega (arith, hs, hb, a.rows)))
+  nexts s b hs hb =
+      subst (λ n. n < states p)
+      (sym (cond-true (nat_lt b 256) (slice_index p.next.items (s * 256 + b)) 0 (lt-ltb b 256 hb)))
+      (a.next_known (s * 256 + b) (omega (arith, hs, hb, a.rows)))
 
   accepted : (s i : ℕ) → Among (accepts p s) i → s < states p
   accepted s i h = elim (cases_lt s (states p)) [
     | inl y ↦ y
-    | inr n ↦ absurd (subst (λ l. Among l i) (past_end (lists_in p) s [] (omega (arith, n, a.lists, length-map p.accepts.items (λ v. v.items)))) h)
+    | inr n ↦ absurd
+        (subst (λ l. Among l i)
+        (past_end (lists_in p) s [] (omega (arith, n, a.lists, length-map p.accepts.items (λ v. v.items)))) h)
   ]
 
   pub below : StaysBelow (machine_in p S) (states p)

@@ -27,7 +27,8 @@ pub record IsTaken (to : ℕ → ℕ → ℕ) (count : ℕ) (defaults bases : Li
 
 -- the entries of the state s, placed from b, fall on free slots
 abbrev pub AreFree : (ℕ → ℕ → ℕ) → ℕ → List ℕ → List ℕ → ℕ → ℕ → Type 0
-AreFree to count defaults bases s b = (k : ℕ) → IsEntry to count defaults s k → IsTaken to count defaults bases s (b + k) → ⊥
+AreFree to count defaults bases s b =
+    (k : ℕ) → IsEntry to count defaults s k → IsTaken to count defaults bases s (b + k) → ⊥
 
 -- b is the least base at which the state s fits (0, if it has no entries)
 pub record IsBase (to : ℕ → ℕ → ℕ) (count : ℕ) (defaults bases : List ℕ) (s b : ℕ) : Type 0 where

@@ -1,5 +1,5 @@
--- The rows of an automaton, packed in a table: byte classes, defaults, bases and slots. (Aho, Sethi and Ullman, Compilers,
--- 3.9; which of equals is taken is this project's.)
+-- The rows of an automaton, packed in a table: byte classes, defaults, bases and slots. (Aho, Sethi and Ullman,
+-- Compilers, 3.9; which of equals is taken is this project's.)
 use Rattle.std.specs.Prelude.{◌≡◌, ◌≢◌, ℕ, zero, suc, ◌+◌, ◌<◌, ◌≤◌, ◌⊎◌, ◌↔◌, ◌==◌, cond, List, map, length, slice_index}
 use Rattle.std.specs.List.{position_or_len}
 use Rattle.lexauto_dfa.specs.Numbering.{InOrder}
@@ -32,9 +32,9 @@ IsTakenIn go t s i = (r : ℕ) × (k : ℕ) × (r < s) × IsException go t r k �
 abbrev pub FitsAt : (ℕ → ℕ → ℕ) → Table → ℕ → ℕ → Type 0
 FitsAt go t s b = (k : ℕ) → IsException go t s k → IsTakenIn go t s (b + k) → ⊥
 
--- The table has the moves of n states, packed. Bytes are in one class where each state goes alike by them, and the classes
--- are numbered by their first bytes. The base of a state is the least at which it fits. The last slot is that of the last
--- class of some state. An exception's slot has its state and its target, and every other slot 0 and 0.
+-- The table has the moves of n states, packed. Bytes are in one class where each state goes alike by them, and the
+-- classes are numbered by their first bytes. The base of a state is the least at which it fits. The last slot is that
+-- of the last class of some state. An exception's slot has its state and its target, and every other slot 0 and 0.
 pub record IsPacked (n : ℕ) (go : ℕ → ℕ → ℕ) (t : Table) : Type 0 where
   pub bytes : length t.class_of ≡ 256
   pub classes : (b c : ℕ) → b < 256 → c < 256 → (slice_index t.class_of b ≡ slice_index t.class_of c)

@@ -74,5 +74,7 @@ pub record ArePlaced (to : ℕ → ℕ → ℕ) (count : ℕ) (ds bases words : 
 
 -- the slots of the first n entries, placed from b, have the state and the targets, and the others are as they were
 pub record AreFilled (ks row : List ℕ) (b s n : ℕ) (check next check' next' : List ℕ) : Type 0 where
-  pub used : (j : ℕ) → j < n → (slice_index check' (b + slice_index ks j) ≡ s) × (slice_index next' (b + slice_index ks j) ≡ slice_index row (slice_index ks j))
-  pub rest : (i : ℕ) → ((j : ℕ) → j < n → b + slice_index ks j ≢ i) → (slice_index check' i ≡ slice_index check i) × (slice_index next' i ≡ slice_index next i)
+  pub used : (j : ℕ) → j < n → (slice_index check' (b + slice_index ks j) ≡ s)
+      × (slice_index next' (b + slice_index ks j) ≡ slice_index row (slice_index ks j))
+  pub rest : (i : ℕ) → ((j : ℕ) → j < n → b + slice_index ks j ≢ i) → (slice_index check' i ≡ slice_index check i)
+      × (slice_index next' i ≡ slice_index next i)

@@ -65,7 +65,8 @@ keyword_file =
 abbrev pub KeywordFile : Type 0
 KeywordFile = (file_of keyword_table ≡ keyword_file) × (length keyword_file ≡ 471)
 
--- the parts of a table, without rows and classes, whose one rule uses the stack: version 2, and each statement a byte of its own
+-- the parts of a table, without rows and classes, whose one rule uses the stack: version 2, and each statement a byte
+-- of its own
 abbrev pub stack_table : Table
 stack_table = record {
   conditions = plain_condition 0 ∷ [];
@@ -112,7 +113,8 @@ RefusedHeaders =
 -- count of statements, a tag that is not known, and a literal of no bytes
 abbrev pub RefusedRules : Type 0
 RefusedRules =
-    RefusedField 28 5 × RefusedField 32 5 × Refused 36 (0 ∷ 0 ∷ 16 ∷ 1 ∷ []) (BadField 36) × Refused 40 (64 ∷ []) (BadField 40)
+    RefusedField 28 5 × RefusedField 32 5 × Refused 36 (0 ∷ 0 ∷ 16 ∷ 1 ∷ []) (BadField 36)
+    × Refused 40 (64 ∷ []) (BadField 40)
     × Refused 41 (3 ∷ []) (BadField 41) × RefusedField 42 1 × Refused 46 (0 ∷ 0 ∷ 1 ∷ 1 ∷ []) (BadField 46)
     × Refused 50 (9 ∷ []) (BadField 50) × RefusedField 51 0
 
@@ -129,16 +131,17 @@ RefusedStates =
 abbrev pub long_literals : List ℕ
 long_literals = take 46 keyword_file ++ small 3 ++ 1 ∷ small 1 ++ 75 ∷ 0 ∷ 1 ∷ 0 ∷ 0 ∷ 16 ∷ 0 ∷ []
 
--- A literal with more bytes than are left is told by its tag, before its bytes are missed; one above 4,096 by its length.
--- So is a push in a file of version 1 by its tag, where there is one of each kind.
+-- A literal with more bytes than are left is told by its tag, before its bytes are missed; one above 4,096 by its
+-- length. So is a push in a file of version 1 by its tag, where there is one of each kind.
 abbrev pub RefusedTags : Type 0
 RefusedTags =
     (read_refusal long_literals ≡ Some (BadField 57))
     × (read_refusal (take 61 long_literals ++ 1 ∷ []) ≡ Some (BadField 58))
-    × (read_refusal (take 7 stack_file ++ 1 ∷ small 1 ++ small 1 ++ small 1 ++ small 1 ++ small 1 ++ drop 28 stack_file) ≡ Some (BadField 51))
+    × (read_refusal (take 7 stack_file ++ 1 ∷ small 1 ++ small 1 ++ small 1 ++ small 1 ++ small 1 ++ drop 28 stack_file)
+    ≡ Some (BadField 51))
 
--- No bytes, three bytes, and all but the last one are cut short; with one byte more there is one left over. A fault before the
--- end is told first.
+-- No bytes, three bytes, and all but the last one are cut short; with one byte more there is one left over. A fault
+-- before the end is told first.
 abbrev pub RefusedEnds : Type 0
 RefusedEnds =
     (read_refusal keyword_file ≡ None)

@@ -1,4 +1,5 @@
--- Reading a table from its bytes, from left to right: a value and the bytes after it, or the fault of the first field that is not as it must be.
+-- Reading a table from its bytes, from left to right: a value and the bytes after it, or the fault of the first field
+-- that is not as it must be.
 use Rattle.std.specs.Prelude.{ℕ, zero, suc, ◌+◌, ◌-◌, Bool, true, false, not, ◌&&◌, ◌||◌, cond, if◌then◌else◌, nat_lt, nat_le, ◌==◌, List, [], ◌∷◌, length, take, drop, Result, Ok, Err, slice_index}
 use Rattle.std.specs.Int.{Width, w16, w32, byte_len, from_be_bytes}
 use Rattle.lex_semantics.specs.ByteSets.{within}
@@ -51,7 +52,9 @@ read_byte [] = Err Truncated
 read_byte (b ∷ bytes) = Ok (b, bytes)
 
 abbrev pub read_number : Width → FieldReader ℕ
-read_number w bytes = if nat_lt (length bytes) (byte_len w) then Err Truncated else Ok (from_be_bytes w (take (byte_len w) bytes), drop (byte_len w) bytes)
+read_number w bytes =
+    if nat_lt (length bytes) (byte_len w) then Err Truncated
+    else Ok (from_be_bytes w (take (byte_len w) bytes), drop (byte_len w) bytes)
 
 abbrev pub read_bytes : ℕ → FieldReader (List ℕ)
 read_bytes n bytes = if nat_lt (length bytes) n then Err Truncated else Ok (take n bytes, drop n bytes)
@@ -73,13 +76,20 @@ read_positive = only_if (λ n. nat_lt 0 n) (read_number w16)
 -- ---- the header
 
 abbrev pub is_magic : List ℕ → Bool
-is_magic xs = slice_index xs 0 == 76 && (slice_index xs 1 == 69 && (slice_index xs 2 == 88 && (slice_index xs 3 == 84 && (slice_index xs 4 == 65 && slice_index xs 5 == 66))))
+is_magic xs =
+    slice_index xs 0 == 76
+    && (slice_index xs 1 == 69
+    && (slice_index xs 2 == 88 && (slice_index xs 3 == 84 && (slice_index xs 4 == 65 && slice_index xs 5 == 66))))
 
 abbrev pub sizes_from : ℕ × (ℕ × (ℕ × (ℕ × ℕ))) → Sizes
 sizes_from p = record { conditions = p.0; rules = p.1.0; states = p.1.1.0; classes = p.1.1.1.0; slots = p.1.1.1.1 }
 
 unfoldable pub read_sizes : FieldReader Sizes
-read_sizes = seen_as sizes_from (paired (read_long 1 max_conditions) (λ c. paired (read_long 0 max_rules) (λ r. paired (read_long 1 max_states) (λ n. paired (read_long 1 max_classes) (λ k. read_long k max_slots)))))
+read_sizes =
+    seen_as sizes_from
+    (paired (read_long 1 max_conditions)
+    (λ c. paired (read_long 0 max_rules)
+    (λ r. paired (read_long 1 max_states) (λ n. paired (read_long 1 max_classes) (λ k. read_long k max_slots)))))
 
 -- ---- conditions
 
@@ -93,7 +103,10 @@ abbrev pub condition_from : ℕ × (ℕ × EndAction) → ConditionOfTable
 condition_from p = record { start = p.0; line_start = p.1.0; end = p.1.1 }
 
 unfoldable pub read_condition : ℕ → FieldReader ConditionOfTable
-read_condition states = seen_as condition_from (paired (only_if (below states) (read_number w32)) (λ s. paired (only_if (below states) (read_number w32)) (λ l. read_end)))
+read_condition states =
+    seen_as condition_from
+    (paired (only_if (below states) (read_number w32))
+    (λ s. paired (only_if (below states) (read_number w32)) (λ l. read_end)))
 
 -- ---- rules
 
@@ -125,7 +138,8 @@ bars s k =
 
 -- a literal; one that is longer than this room is told by this fault
 abbrev pub read_literal : ℕ → ReadError → FieldReader (List ℕ)
-read_literal room fault = seen_as (λ p. p.1) (paired (judged fault (λ n. nat_le n room) (read_long 1 max_literal_bytes)) (λ n. read_bytes n))
+read_literal room fault =
+    seen_as (λ p. p.1) (paired (judged fault (λ n. nat_le n room) (read_long 1 max_literal_bytes)) (λ n. read_bytes n))
 
 -- a statement with this tag, without it, where this is the fault of the tag
 abbrev pub arguments : ℕ → Seen → ReadError → ℕ → FieldReader Statement
@@ -142,11 +156,14 @@ arguments conditions s fault k bytes =
     else Err fault
 
 unfoldable pub read_statement : ℕ → Seen → FieldReader Statement
-read_statement conditions s bytes = read_byte bytes >>= λ k. if bars s k.0 then Err (bad bytes) else arguments conditions s (bad bytes) k.0 k.1
+read_statement conditions s bytes =
+    read_byte bytes >>= λ k. if bars s k.0 then Err (bad bytes) else arguments conditions s (bad bytes) k.0 k.1
 
 -- a count, and so many
 abbrev pub read_statements : ℕ → Bool → FieldReader (List Statement)
-read_statements conditions stack = seen_as (λ p. p.1) (paired (read_long 0 max_statements) (λ n. many (read_statement conditions) seen_after n (unseen stack n)))
+read_statements conditions stack =
+    seen_as (λ p. p.1)
+    (paired (read_long 0 max_statements) (λ n. many (read_statement conditions) seen_after n (unseen stack n)))
 
 abbrev pub rule_from : Cut × List Statement → RuleOfTable
 rule_from p = record { cut = p.0; statements = p.1 }
@@ -181,9 +198,11 @@ abbrev pub few : Bool → ℕ → ℕ → Bool
 few rejects s n = cond rejects true (nat_le n 1) && none_at_0 s n
 
 unfoldable pub read_row : Sizes → Bool → ℕ → FieldReader Row
-read_row z rejects s = seen_as row_from (paired (only_if (λ n. nat_lt n z.states && none_at_0 s n) (read_number w32)) (λ d.
+read_row z rejects s =
+    seen_as row_from (paired (only_if (λ n. nat_lt n z.states && none_at_0 s n) (read_number w32)) (λ d.
     paired (only_if (λ n. nat_le (n + z.classes) z.slots && none_at_0 s n) (read_number w32)) (λ b.
-    seen_as (λ p. p.1) (paired (only_if (few rejects s) (read_number w32)) (λ n. many (read_accepted z.rules) above n 0)))))
+    seen_as (λ p. p.1)
+    (paired (only_if (few rejects s) (read_number w32)) (λ n. many (read_accepted z.rules) above n 0)))))
 
 -- ---- slots
 
@@ -191,10 +210,15 @@ abbrev pub slot_from : ℕ × ℕ → Slot
 slot_from p = record { check = p.0; next = p.1 }
 
 abbrev pub good_check : Sizes → List ℕ → ℕ → ℕ → Bool
-good_check z bases i check = cond (check == 0) true (nat_lt check z.states && (nat_le (slice_index bases check) i && nat_lt i (slice_index bases check + z.classes)))
+good_check z bases i check =
+    cond (check == 0) true
+    (nat_lt check z.states && (nat_le (slice_index bases check) i && nat_lt i (slice_index bases check + z.classes)))
 
 unfoldable pub read_slot : Sizes → List ℕ → ℕ → FieldReader Slot
-read_slot z bases i = seen_as slot_from (paired (only_if (good_check z bases i) (read_number w32)) (λ check. only_if (λ n. nat_lt n z.states && none_at_0 check n) (read_number w32)))
+read_slot z bases i =
+    seen_as slot_from
+    (paired (only_if (good_check z bases i) (read_number w32))
+    (λ check. only_if (λ n. nat_lt n z.states && none_at_0 check n) (read_number w32)))
 
 -- ---- the whole
 
@@ -205,17 +229,28 @@ Body = List ConditionOfTable × (List RuleOfTable × (List ℕ × (List Row × L
 abbrev pub read_body : ℕ → ReadError → Sizes → FieldReader Body
 read_body v fault z =
     paired (many (λ i. read_condition z.states) following z.conditions 0) (λ cs.
-    paired (judged fault (λ rs. version_of rs == v) (many (λ i. read_rule z.conditions (v == 2)) following z.rules 0)) (λ rs.
+    paired (judged fault (λ rs. version_of rs == v) (many (λ i. read_rule z.conditions (v == 2)) following z.rules 0))
+    (λ rs.
     paired (many (read_class z.classes) following 256 0) (λ ks.
     paired (many (read_row z (some_rule_rejects rs)) following z.states 0) (λ rows.
     many (read_slot z (bases_of rows)) following z.slots 0))))
 
 -- the version, and what stands after it
 abbrev pub read_versioned : FieldReader (ℕ × (Sizes × Body))
-read_versioned bytes = paired (judged BadVersion (λ v. v == 1 || v == 2) (read_number w16)) (λ v. paired read_sizes (λ z. read_body v (bad bytes) z)) bytes
+read_versioned bytes =
+    paired (judged BadVersion (λ v. v == 1 || v == 2) (read_number w16))
+    (λ v. paired read_sizes (λ z. read_body v (bad bytes) z)) bytes
 
 abbrev pub table_from : List ℕ × (ℕ × (Sizes × Body)) → Table
-table_from p = record { conditions = p.1.1.1.0; rules = p.1.1.1.1.0; classes = p.1.1.0.classes; class_of = p.1.1.1.1.1.0; rows = p.1.1.1.1.1.1.0; slots = p.1.1.1.1.1.1.1 }
+table_from p =
+    record {
+      conditions = p.1.1.1.0;
+      rules = p.1.1.1.1.0;
+      classes = p.1.1.0.classes;
+      class_of = p.1.1.1.1.1.0;
+      rows = p.1.1.1.1.1.1.0;
+      slots = p.1.1.1.1.1.1.1;
+    }
 
 unfoldable pub read_table : FieldReader Table
 read_table = seen_as table_from (paired (judged BadMagic is_magic (read_bytes 6)) (λ m. read_versioned))

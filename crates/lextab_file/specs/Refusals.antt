@@ -39,6 +39,7 @@ abbrev pub refusal_in : ℕ → Result (Table × List ℕ) ReadError → Option 
 refusal_in len (Ok x) = left_over x.1
 refusal_in len (Err fault) = Some (in_file len fault)
 
--- how bytes are refused: for the first field from the left that is not as it must be, or for what stands after a whole table
+-- how bytes are refused: for the first field from the left that is not as it must be, or for what stands after a whole
+-- table
 abbrev pub read_refusal : List ℕ → Option TableError
 read_refusal bytes = refusal_in (length bytes) (read_table bytes)

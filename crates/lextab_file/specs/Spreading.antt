@@ -9,9 +9,10 @@ unset [] = 0
 unset (true ∷ flags) = unset flags
 unset (false ∷ flags) = suc (unset flags)
 
--- The states of P are live now, and none but they and those that were live. Those newly live wait, unless they accept and
--- so have waited.
-pub record Spreads (P : ℕ → Type 0) (accepting live : List Bool) (waiting : List ℕ) (live' : List Bool) (waiting' : List ℕ) : Type 0 where
+-- The states of P are live now, and none but they and those that were live. Those newly live wait, unless they accept
+-- and so have waited.
+pub record Spreads (P : ℕ → Type 0) (accepting live : List Bool) (waiting : List ℕ) (live' : List Bool)
+    (waiting' : List ℕ) : Type 0 where
   pub one_each : length live' ≡ length live
   pub set : (x : ℕ) → P x → flag live' x ≡ true
   pub keeps : (x : ℕ) → flag live x ≡ true → flag live' x ≡ true

@@ -8,10 +8,12 @@ use Rattle.lextab_file.specs.declared.error.ReadError.{ReadError}
 use Rattle.lextab_file.specs.declared.error.ReadError.TheVariants as errors
 
 abbrev pub seen_of : Before → Seen
-seen_of b = record { literal = b.literal; printed = b.printed; more = b.more; less = b.less; left = b.left; stack = b.stack }
+seen_of b =
+    record { literal = b.literal; printed = b.printed; more = b.more; less = b.less; left = b.left; stack = b.stack }
 
 abbrev pub sizes_in : Counts → Sizes
-sizes_in c = record { conditions = c.conditions; rules = c.rules; states = c.states; classes = c.classes; slots = c.slots }
+sizes_in c =
+    record { conditions = c.conditions; rules = c.rules; states = c.states; classes = c.classes; slots = c.slots }
 
 abbrev pub is_memory : ReadError → Bool
 is_memory errors.OutOfMemory = true

@@ -74,7 +74,14 @@ pub record Sizes : Type 0 where
   pub slots : ℕ
 
 abbrev pub sizes_of : Table → Sizes
-sizes_of t = record { conditions = length t.conditions; rules = length t.rules; states = length t.rows; classes = t.classes; slots = length t.slots }
+sizes_of t =
+    record {
+      conditions = length t.conditions;
+      rules = length t.rules;
+      states = length t.rows;
+      classes = t.classes;
+      slots = length t.slots;
+    }
 
 abbrev pub some_rule_rejects : List RuleOfTable → Bool
 some_rule_rejects rs = list_any (λ r. has_reject r.statements) rs

@@ -46,4 +46,5 @@ as_target false kind s = stop_of kind + s
 -- the marked target of a state by a byte
 abbrev pub marked_target : Tables → ℕ → ℕ → ℕ
 marked_target t s b =
-    let next = step_of (table_of t.parts) s b in as_target (flag t.goes_on.items next) (kind_of (table_machine t) next) next
+    let next =
+    step_of (table_of t.parts) s b in as_target (flag t.goes_on.items next) (kind_of (table_machine t) next) next

@@ -24,7 +24,8 @@ abbrev pub machine_of_table : Table → (ℕ → Bool) → Machine
 machine_of_table t goes_on = record {
   conditions = length t.conditions;
   count = length t.rules;
-  start = λ c line_start. unwrap_or (option_map (λ k. cond line_start k.line_start k.start) (slice_get t.conditions c)) 0;
+  start = λ c line_start. unwrap_or (option_map (λ k. cond line_start k.line_start k.start) (slice_get t.conditions c))
+      0;
   next = step_of t;
   accepts = λ s. (row_in t s).rules;
   goes_on = goes_on;

@@ -12,7 +12,8 @@ use Rattle.lextab_packed.specs.declared.parts.TableParts.{TableParts}
 
 abbrev pub table_of : TableParts → T.Table
 table_of p = record {
-  conditions = map (λ c. record { start = c.start; line_start = c.line_start; end = end_action_of c.end }) p.conditions.items;
+  conditions =
+      map (λ c. record { start = c.start; line_start = c.line_start; end = end_action_of c.end }) p.conditions.items;
   rules = map (λ r. record { cut = cut_of r.cut; statements = map statement_of r.statements.items }) p.rules.items;
   classes = p.classes;
   class_of = p.class_of.items;

@@ -3,7 +3,8 @@ use Rattle.std.specs.Prelude.{◌≡◌, ℕ, ◌<◌, ◌≤◌, List, ◌++◌
 use Rattle.liblex_calls.specs.declared.answer.Answer.{Answer}
 use Rattle.liblex_calls.specs.declared.answer.Answer.TheVariants as answers
 
--- the items stand at the front, as many as there is room for, and the rest of the buffer is as it was; how many items there are is told
+-- the items stand at the front, as many as there is room for, and the rest of the buffer is as it was; how many items
+-- there are is told
 pub record HandedOut {A : Type 0} (items old new : List A) (count : ℕ) : Type 0 where
   pub buffer : new ≡ take (length old) items ++ drop (length items) old
   pub count_is : count ≡ length items

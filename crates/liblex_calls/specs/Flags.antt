@@ -3,6 +3,12 @@ use Rattle.std.specs.Prelude.{ℕ, ◌==◌, ◌%◌, ◌/◌}
 use Rattle.lex_semantics.specs.Limits.{max_positions, max_states}
 use Rattle.lexkit.specs.declared.options.Options.{Options}
 
--- bit 0: letters of patterns stand for both cases; bit 1: an interval applies to the whole series to its left. Other bits count for nothing.
+-- bit 0: letters of patterns stand for both cases; bit 1: an interval applies to the whole series to its left. Other
+-- bits count for nothing.
 abbrev pub options_of : ℕ → Options
-options_of flags = record { fold = flags % 2 == 1; posix = flags / 2 % 2 == 1; limits = record { positions = max_positions; states = max_states } }
+options_of flags =
+    record {
+      fold = flags % 2 == 1;
+      posix = flags / 2 % 2 == 1;
+      limits = record { positions = max_positions; states = max_states };
+    }

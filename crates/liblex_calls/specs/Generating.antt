@@ -32,7 +32,8 @@ abbrev pub no_fault : TextFault
 no_fault = record { line = 0; kind = 0; place = 0 }
 
 -- The canonical file of the specification that the text spells was handed out.
-pub record FileHandedOut (options : Options) (text old new : List ℕ) (count : ℕ) (fault : TextFault) (answer : Answer) : Type 0 where
+pub record FileHandedOut (options : Options) (text old new : List ℕ) (count : ℕ) (fault : TextFault)
+    (answer : Answer) : Type 0 where
   pub spec : Spec
   pub spells : SpellsSpec (reading options) text spec
   pub file : List ℕ
@@ -51,14 +52,16 @@ pub record RefusalHandedOut (options : Options) (text old new : List ℕ) (count
 
 -- a refusal was handed out, or there was no memory
 abbrev pub RefusesWith : GenError → List ℕ → List ℕ → ℕ → TextFault → Answer → Type 0
-RefusesWith error old new count fault answers.Refused = (gen_status error ≡ 65) × HandedOut (line_of (gen_words error)) old new count × (fault ≡ fault_of error)
+RefusesWith error old new count fault answers.Refused =
+    (gen_status error ≡ 65) × HandedOut (line_of (gen_words error)) old new count × (fault ≡ fault_of error)
 RefusesWith error old new count fault answers.OutOfMemory = NothingOut old new count × (fault ≡ no_fault)
 RefusesWith error old new count fault other = ⊥
 
 -- What the call leaves, by what it answers.
 abbrev pub Generates : Options → List ℕ → List ℕ → List ℕ → ℕ → TextFault → Answer → Type 0
 Generates options text old new count fault answers.Done = FileHandedOut options text old new count fault answers.Done
-Generates options text old new count fault answers.TooSmall = FileHandedOut options text old new count fault answers.TooSmall
+Generates options text old new count fault answers.TooSmall =
+    FileHandedOut options text old new count fault answers.TooSmall
 Generates options text old new count fault answers.Refused = RefusalHandedOut options text old new count fault
 Generates options text old new count fault answers.OutOfMemory = NothingOut old new count × (fault ≡ no_fault)
 Generates options text old new count fault answers.Ended = ⊥

@@ -1,5 +1,5 @@
--- The number of each refusal for C: from 1 on those of a specification, from 101 on those of a pattern in it, from 201 on the limits of
--- its automaton. Want of memory is no refusal, and has 0. (Own.)
+-- The number of each refusal for C: from 1 on those of a specification, from 101 on those of a pattern in it, from 201
+-- on the limits of its automaton. Want of memory is no refusal, and has 0. (Own.)
 use Rattle.std.specs.Prelude.{ℕ}
 use Rattle.lexre_bytes.specs.declared.error.PatternErrorKind.{PatternErrorKind}
 use Rattle.lexre_bytes.specs.declared.error.PatternErrorKind.TheVariants as patterns

@@ -1,5 +1,5 @@
--- What listing the tokens of a whole input, or the lines of rules, leaves in a buffer of the caller. (The matches are those of POSIX and
--- flex; the rest is own.)
+-- What listing the tokens of a whole input, or the lines of rules, leaves in a buffer of the caller. (The matches are
+-- those of POSIX and flex; the rest is own.)
 use Rattle.std.specs.Prelude.{◌≡◌, ℕ, List, map}
 use Rattle.lex_semantics.specs.Spec.{Spec}
 use Rattle.lex_semantics.specs.Acting.{Status}
@@ -36,7 +36,8 @@ abbrev pub next_token : PulledToken → NextToken
 next_token t = record { start = t.start; length = t.length; rule = rule_number t.rule; condition = t.condition }
 
 -- All tokens of the scan of the input by the rules of the file were handed out, with the status that it ends with.
-pub record TokensHandedOut (file input : List ℕ) (old new : List TextToken) (count status : ℕ) (answer : Answer) : Type 0 where
+pub record TokensHandedOut (file input : List ℕ) (old new : List TextToken) (count status : ℕ)
+    (answer : Answer) : Type 0 where
   pub tokens : List Token
   pub listed : ByFile file (λ R. Tokenised R input tokens (Status status))
   pub handed : HandedOut (map text_token tokens) old new count
@@ -51,9 +52,11 @@ pub record TokensBeforeFault (file input : List ℕ) (old new : List TextToken) 
 -- What listing tokens leaves, by what it answers.
 abbrev pub ListsInto : List ℕ → List ℕ → List TextToken → List TextToken → ℕ → ℕ → Answer → Type 0
 ListsInto file input old new count status answers.Done = TokensHandedOut file input old new count status answers.Done
-ListsInto file input old new count status answers.TooSmall = TokensHandedOut file input old new count status answers.TooSmall
+ListsInto file input old new count status answers.TooSmall =
+    TokensHandedOut file input old new count status answers.TooSmall
 ListsInto file input old new count status answers.Stack = TokensBeforeFault file input old new count × (status ≡ 0)
-ListsInto file input old new count status answers.Refused = ((t : Table) → IsFileOf t file → ⊥) × NothingOut old new count × (status ≡ 0)
+ListsInto file input old new count status answers.Refused =
+    ((t : Table) → IsFileOf t file → ⊥) × NothingOut old new count × (status ≡ 0)
 ListsInto file input old new count status answers.OutOfMemory = NothingOut old new count × (status ≡ 0)
 ListsInto file input old new count status answers.Ended = ⊥
 ListsInto file input old new count status answers.Closed = ⊥
@@ -71,7 +74,8 @@ pub record LinesHandedOut (options : Options) (text old new : List ℕ) (count :
 abbrev pub TellsLines : Options → List ℕ → List ℕ → List ℕ → ℕ → Answer → Type 0
 TellsLines options text old new count answers.Done = LinesHandedOut options text old new count answers.Done
 TellsLines options text old new count answers.TooSmall = LinesHandedOut options text old new count answers.TooSmall
-TellsLines options text old new count answers.Refused = ((S : Spec) → SpellsSpec (reading options) text S → ⊥) × NothingOut old new count
+TellsLines options text old new count answers.Refused =
+    ((S : Spec) → SpellsSpec (reading options) text S → ⊥) × NothingOut old new count
 TellsLines options text old new count answers.OutOfMemory = NothingOut old new count
 TellsLines options text old new count answers.Ended = ⊥
 TellsLines options text old new count answers.Closed = ⊥

@@ -36,18 +36,21 @@ OpensScan file scan answers.TooManyReads = ⊥
 -- What a feed leaves: the answer says whether bytes are left to be handed out, and else how far the scan has come.
 abbrev pub FeedsInto : List ℕ → Bool → List ℕ → List ℕ → Scan → List ℕ → List ℕ → ℕ → Answer → Type 0
 FeedsInto file told fed out scan old new count answer =
-    (p : PieceScan) × (open_in scan ≡ Some p) × HandsOn file told fed out p old new count × (answer ≡ feed_answer p.stage (length (rest p.backlog)))
+    (p : PieceScan) × (open_in scan ≡ Some p) × HandsOn file told fed out p old new count
+    × (answer ≡ feed_answer p.stage (length (rest p.backlog)))
 
 -- And what the end of the input leaves.
 abbrev pub FinishesInto : List ℕ → List ℕ → List ℕ → Scan → List ℕ → List ℕ → ℕ → ℕ → Answer → Type 0
 FinishesInto file fed out scan old new count status answer =
-    (p : PieceScan) × (open_in scan ≡ Some p) × HandsOn file true fed out p old new count × (answer ≡ finish_answer p.stage (length (rest p.backlog))) × (status ≡ status_in p.stage)
+    (p : PieceScan) × (open_in scan ≡ Some p) × HandsOn file true fed out p old new count
+    × (answer ≡ finish_answer p.stage (length (rest p.backlog))) × (status ≡ status_in p.stage)
 
 -- A call leaves a scan that is closed so, and hands out nothing.
 abbrev pub StaysClosed : Scan → List ℕ → List ℕ → ℕ → Answer → Type 0
 StaysClosed scan old new count answer = (answer ≡ answers.Closed) × NothingOut old new count × (open_in scan ≡ None)
 
--- A call leaves a scan that is open so, as it follows from how it stood; what it hands out stands at the front of the buffer.
+-- A call leaves a scan that is open so, as it follows from how it stood; what it hands out stands at the front of the
+-- buffer.
 abbrev pub StaysOpen : Scan → Scan → List ℕ → ℕ → Type 0
 StaysOpen old new buffer count =
     (p : PieceScan) → open_in old ≡ Some p → (q : PieceScan) × (open_in new ≡ Some q) × Follows p (take count buffer) q

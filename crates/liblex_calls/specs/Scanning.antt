@@ -1,4 +1,5 @@
--- What a scan of a whole input into a buffer of the caller leaves. (What is written is that of POSIX and flex; the rest is own.)
+-- What a scan of a whole input into a buffer of the caller leaves. (What is written is that of POSIX and flex; the rest
+-- is own.)
 use Rattle.std.specs.Prelude.{◌≡◌, ℕ, ◌≤◌, List, length}
 use Rattle.lex_semantics.specs.Acting.{Ending, Status, StackFault}
 use Rattle.lex_semantics.specs.Run.{Run}
@@ -36,10 +37,13 @@ pub record FaultHandedOut (file input old new : List ℕ) (count : ℕ) : Type 0
 -- What the call leaves, by what it answers.
 abbrev pub ScansInto : List ℕ → List ℕ → List ℕ → List ℕ → ℕ → ℕ → Answer → Type 0
 ScansInto file input old new count status answers.Done = RunHandedOut file input old new count status answers.Done
-ScansInto file input old new count status answers.TooSmall = RunHandedOut file input old new count status answers.TooSmall
+ScansInto file input old new count status answers.TooSmall =
+    RunHandedOut file input old new count status answers.TooSmall
 ScansInto file input old new count status answers.Stack = FaultHandedOut file input old new count × (status ≡ 0)
-ScansInto file input old new count status answers.Refused = ((t : Table) → IsFileOf t file → ⊥) × NothingOut old new count × (status ≡ 0)
-ScansInto file input old new count status answers.TooManyReads = (max_reads ≤ length input) × NothingOut old new count × (status ≡ 0)
+ScansInto file input old new count status answers.Refused =
+    ((t : Table) → IsFileOf t file → ⊥) × NothingOut old new count × (status ≡ 0)
+ScansInto file input old new count status answers.TooManyReads =
+    (max_reads ≤ length input) × NothingOut old new count × (status ≡ 0)
 ScansInto file input old new count status answers.OutOfMemory = NothingOut old new count × (status ≡ 0)
 ScansInto file input old new count status answers.Ended = ⊥
 ScansInto file input old new count status answers.Closed = ⊥

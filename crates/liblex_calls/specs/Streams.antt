@@ -15,7 +15,8 @@ use Rattle.liblex_calls.specs.declared.token_scan.NextToken.{NextToken}
 
 -- the stream is open, by the rules of this file; it was fed these bytes, has told these tokens, and shows this text
 abbrev pub Streams : List ℕ → Bool → List ℕ → List Token → List ℕ → TokenStream → Type 0
-Streams file told fed tokens text stream = (p : TokenScan) × (stream_in stream ≡ Some p) × Told file told fed tokens text p
+Streams file told fed tokens text stream =
+    (p : TokenScan) × (stream_in stream ≡ Some p) × Told file told fed tokens text p
 
 -- the stream is open, and goes on
 abbrev pub IsFlowing : TokenStream → Type 0
@@ -40,12 +41,15 @@ TellsNext file told fed tokens stream old new status answer =
 
 -- A stream that has ended or stopped stays as it is, and tells that again.
 abbrev pub AnswersAgain : TokenStream → TokenStream → Answer → Type 0
-AnswersAgain old new answer = (p : TokenScan) → stream_in old ≡ Some p → (q : TokenScan) × (stream_in new ≡ Some q) × TellsAgain p q answer
+AnswersAgain old new answer =
+    (p : TokenScan) → stream_in old ≡ Some p → (q : TokenScan) × (stream_in new ≡ Some q) × TellsAgain p q answer
 
 -- The end changes nothing of how far the scan has come.
 abbrev pub ComesAsFar : TokenStream → TokenStream → Type 0
-ComesAsFar old new = (p : TokenScan) → stream_in old ≡ Some p → (q : TokenScan) × (stream_in new ≡ Some q) × (q.stage ≡ p.stage)
+ComesAsFar old new =
+    (p : TokenScan) → stream_in old ≡ Some p → (q : TokenScan) × (stream_in new ≡ Some q) × (q.stage ≡ p.stage)
 
 -- The text that is shown was handed out, and the stream is as it was.
 abbrev pub HandsText : List ℕ → TokenStream → TokenStream → List ℕ → List ℕ → ℕ → Answer → Type 0
-HandsText text stream after old new count answer = (stream_in after ≡ stream_in stream) × HandedOut text old new count × FitsInto text old answer
+HandsText text stream after old new count answer =
+    (stream_in after ≡ stream_in stream) × HandedOut text old new count × FitsInto text old answer

@@ -1,4 +1,5 @@
--- What a scan tells that is asked for its tokens one by one. (Which tokens these are is POSIX's and flex's; how they are asked for is own.)
+-- What a scan tells that is asked for its tokens one by one. (Which tokens these are is POSIX's and flex's; how they
+-- are asked for is own.)
 use Rattle.std.specs.Prelude.{◌≡◌, ℕ, ◌+◌, ◌-◌, ◌^◌, ◌≤◌, Bool, true, false, List, [], ◌∷◌, ◌++◌, length, ◌⊎◌}
 use Rattle.lex_semantics.specs.Text.{IsText, part}
 use Rattle.lex_semantics.specs.Acting.{Status}
@@ -24,39 +25,50 @@ use Rattle.liblex_calls.specs.declared.token_scan.NextToken.{NextToken}
 abbrev pub token_machine : TokenScan → Machine
 token_machine p = rules_machine (pull_machine p.scanner)
 
--- What the tokens are that were told, by how far the scan has come: those of its turns so far, or all, with the status that the scan ends
--- with, or those before a turn that was refused. After the end and a fault no text is shown.
+-- What the tokens are that were told, by how far the scan has come: those of its turns so far, or all, with the status
+-- that the scan ends with, or those before a turn that was refused. After the end and a fault no text is shown.
 abbrev pub TokensStand : Machine → Stage → Bool → List ℕ → List Token → List ℕ → State → List ℕ → Type 0
 TokensStand M stages.Going told fed tokens text s waiting = TokensTold M fed told tokens s waiting
-TokensStand M (stages.Ended status) told fed tokens text s waiting = TokenisedSo (rules_of_machine M) fed told tokens (Status status) × (text ≡ [])
-TokensStand M stages.Stack told fed tokens text s waiting = StoppedSo (rules_of_machine M) fed told tokens runs.Stack × (text ≡ [])
-TokensStand M stages.OutOfMemory told fed tokens text s waiting = StoppedSo (rules_of_machine M) fed told tokens runs.OutOfMemory × (text ≡ [])
+TokensStand M (stages.Ended status) told fed tokens text s waiting =
+    TokenisedSo (rules_of_machine M) fed told tokens (Status status) × (text ≡ [])
+TokensStand M stages.Stack told fed tokens text s waiting =
+    StoppedSo (rules_of_machine M) fed told tokens runs.Stack × (text ≡ [])
+TokensStand M stages.OutOfMemory told fed tokens text s waiting =
+    StoppedSo (rules_of_machine M) fed told tokens runs.OutOfMemory × (text ≡ [])
 TokensStand M stages.TooManyReads told fed tokens text s waiting = ⊥
 
--- A scan by the rules of this file was fed these bytes, and their end was told or not. It has told these tokens, and shows this text.
-pub record Told (file : List ℕ) (told : Bool) (fed : List ℕ) (tokens : List Token) (text : List ℕ) (p : TokenScan) : Type 0 where
+-- A scan by the rules of this file was fed these bytes, and their end was told or not. It has told these tokens, and
+-- shows this text.
+pub record Told (file : List ℕ) (told : Bool) (fed : List ℕ) (tokens : List Token) (text : List ℕ)
+    (p : TokenScan) : Type 0 where
   pub machine : IsMachineOf file (token_machine p)
   pub is_text : IsText fed
   pub finished : pull_finished p.scanner ≡ told
-  pub stands : TokensStand (token_machine p) p.stage told fed tokens text (pull_state p.scanner) (pull_waiting p.scanner)
+  pub stands : TokensStand (token_machine p) p.stage told fed tokens text (pull_state p.scanner)
+      (pull_waiting p.scanner)
   pub shows : pull_text p.scanner ≡ text
 
 -- What feeding a piece leaves: it was fed too, or it counts for nothing.
 abbrev pub FeedTells : List ℕ → Bool → List ℕ → List ℕ → List Token → List ℕ → TokenScan → Answer → Type 0
 FeedTells file told fed piece tokens text p answers.Done = (told ≡ false) × Told file false (fed ++ piece) tokens text p
-FeedTells file told fed piece tokens text p answers.Ended = ((told ≡ true) ⊎ (answer_at p.stage ≡ answers.Ended)) × Told file told fed tokens text p
-FeedTells file told fed piece tokens text p answers.Stack = (answer_at p.stage ≡ answers.Stack) × Told file told fed tokens text p
+FeedTells file told fed piece tokens text p answers.Ended =
+    ((told ≡ true) ⊎ (answer_at p.stage ≡ answers.Ended)) × Told file told fed tokens text p
+FeedTells file told fed piece tokens text p answers.Stack =
+    (answer_at p.stage ≡ answers.Stack) × Told file told fed tokens text p
 FeedTells file told fed piece tokens text p answers.OutOfMemory = Told file told fed tokens text p
-FeedTells file told fed piece tokens text p answers.TooManyReads = (2 ^ 64 - 1 ≤ length fed + length piece) × Told file told fed tokens text p
+FeedTells file told fed piece tokens text p answers.TooManyReads =
+    (2 ^ 64 - 1 ≤ length fed + length piece) × Told file told fed tokens text p
 FeedTells file told fed piece tokens text p other = ⊥
 
--- What asking for a token leaves: one token more, whose text is shown; or the next match asks for more than was fed; or the scan has ended
--- or stopped, as it stands from then on.
+-- What asking for a token leaves: one token more, whose text is shown; or the next match asks for more than was fed; or
+-- the scan has ended or stopped, as it stands from then on.
 abbrev pub NextTells : List ℕ → Bool → List ℕ → List Token → TokenScan → NextToken → NextToken → ℕ → Answer → Type 0
 NextTells file told fed tokens p old new status answers.Done =
-    (t : PulledToken) × (new ≡ next_token t) × (status ≡ 0) × (p.stage ≡ stages.Going) × Told file told fed (tokens ++ whole_token t ∷ []) (part fed t.start (t.start + t.length)) p
+    (t : PulledToken) × (new ≡ next_token t) × (status ≡ 0) × (p.stage ≡ stages.Going)
+    × Told file told fed (tokens ++ whole_token t ∷ []) (part fed t.start (t.start + t.length)) p
 NextTells file told fed tokens p old new status answers.More =
-    (new ≡ old) × (status ≡ 0) × (p.stage ≡ stages.Going) × Told file told fed tokens [] p × WantsPiece (token_machine p) fed told tokens (pull_state p.scanner) (pull_waiting p.scanner)
+    (new ≡ old) × (status ≡ 0) × (p.stage ≡ stages.Going) × Told file told fed tokens [] p
+    × WantsPiece (token_machine p) fed told tokens (pull_state p.scanner) (pull_waiting p.scanner)
 NextTells file told fed tokens p old new status answer =
     (new ≡ old) × (status ≡ status_in p.stage) × (answer ≡ answer_at p.stage) × Told file told fed tokens [] p
 
