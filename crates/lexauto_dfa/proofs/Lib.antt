@@ -1,4 +1,5 @@
 pub mod Machinery
+pub mod Accepting
 pub mod Leads
 pub mod Fitting
 pub mod Below

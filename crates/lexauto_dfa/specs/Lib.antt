@@ -4,6 +4,7 @@ pub mod Invariant
 pub mod Automata
 pub mod Laws
 pub mod Alike
+pub mod Accepted
 pub mod Numbering
 pub mod LeastMachines
 pub mod Least

@@ -5,6 +5,7 @@
 //! - `memory`: the error `OutOfMemory`, of all that can fail by want of memory alone.
 //! - `dfa`: the lists of an automaton, the type that keeps what holds of them, and its readers.
 //! - `alike`: for each byte the first one that no state tells apart from it, as in flex's equivalence classes.
+//! - `accepted`: the rules that no state accepts.
 //! - `least`: the minimal DFA. Its head lists its modules: labels, letters and their sources, blocks, marked states and
 //!   splits, the partition that they come to, its classes numbered, and `minimising`, which puts these together.
 //! - `laws`: that an automaton of a sound specification is a machine.
@@ -26,12 +27,14 @@
 //!   lists.
 #![tactic(auto)]
 
+mod accepted;
 mod alike;
 mod dfa;
 mod laws;
 mod least;
 mod memory;
 
+pub use accepted::{unaccepted_rules, unset};
 pub use alike::first_bytes;
 pub use dfa::{Dfa, Parts};
 pub use laws::automata_are_machines;

@@ -15,7 +15,7 @@ use Rattle.lexauto_dfa.proofs.Machinery.{past_end, walk_after}
 use Rattle.lexauto_reports.specs.BackWords.{NotAfter, IsFirstWord, BacksUp, IsAfterBackWord, states_in}
 use Rattle.lexauto_reports.specs.Searching.{at, place_of, AreFound}
 use Rattle.lexauto_reports.specs.declared.backup.BackUp.{BackUp}
-use Rattle.lexauto_reports.proofs.Accepting.{among_push, ascending_push, not_both}
+use Rattle.lexauto_dfa.proofs.Accepting.{among_push, ascending_push, not_both}
 use Rattle.lexauto_reports.proofs.Counted.{leads_from, leads_into}
 
 same_place : (o : Option ℕ) (i j : ℕ) → o ≡ Some i → o ≡ Some j → i ≡ j

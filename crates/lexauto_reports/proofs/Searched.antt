@@ -12,7 +12,7 @@ use Rattle.lexauto_reports.specs.BackWords.{Precedes, NotAfter}
 use Rattle.lexauto_reports.specs.Counting.{step, walk, IsStart, LeadsTo}
 use Rattle.lexauto_reports.specs.Searching.{at, place_of, unfound, word_in, IsPlaced, IsPast, AllBefore, IsAt, IsUpTo, AreFound, AreSeen}
 use Rattle.lexauto_reports.specs.declared.groups.Group.{Group}
-use Rattle.lexauto_reports.proofs.Accepting.{among_push}
+use Rattle.lexauto_dfa.proofs.Accepting.{among_push}
 use Rattle.lexauto_reports.proofs.Orders.{empty_before, before_trans, before_longer, before_last, not_after_longer, not_after_trans}
 use Rattle.lexauto_reports.proofs.Counted.{leads_more}
 

@@ -8,7 +8,7 @@ use Rattle.lexauto_dfa.specs.Invariant.{IsAutomaton}
 use Rattle.lexauto_dfa.specs.declared.dfa.Parts.{Parts}
 use Rattle.lexauto_reports.specs.Counting.{IsStartBelow, IsStart}
 use Rattle.lexauto_reports.specs.Searching.{place_of}
-use Rattle.lexauto_reports.proofs.Accepting.{among_push, among_get}
+use Rattle.lexauto_dfa.proofs.Accepting.{among_push, among_get}
 
 pub starts_more : (p : Parts) (n a b : ℕ) (old new : List ℕ) → ((x : ℕ) → Among old x ↔ IsStartBelow p n x) → a ≡ 3 * start p n false → b ≡ 3 * start p n true
     → new ≡ (old ++ a ∷ []) ++ b ∷ [] → (x : ℕ) → Among new x ↔ IsStartBelow p (n + 1) x

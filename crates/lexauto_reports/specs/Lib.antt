@@ -1,4 +1,3 @@
-pub mod Accepted
 pub mod Joined
 pub mod ReportLines
 pub mod Warned

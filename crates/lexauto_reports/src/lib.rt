@@ -42,6 +42,6 @@ pub use backup::{BackUp, write_backup};
 pub use groups::{Group, Groups};
 pub use merging::warnings;
 pub use search::{Found, first_words};
-pub use useless::{unset, useless_rules};
+pub use useless::useless_rules;
 pub use warned::{Warning, write_warnings};
 pub use writing::put_all;

@@ -8,7 +8,7 @@ use Rattle.lex_semantics.specs.Text.{Among, flag}
 use Rattle.lexauto_dfa.specs.Parts.{accepts}
 use Rattle.lexauto_dfa.specs.declared.dfa.Parts.{Parts}
 use Rattle.lexauto_reports.specs.Searching.{place_of}
-use Rattle.lexauto_reports.proofs.Accepting.{among_push}
+use Rattle.lexauto_dfa.proofs.Accepting.{among_push}
 use Rattle.lexlook_specs.specs.Placing.{IsLeastOf, IsPlacedAt, TakesAt, TakesBelow, least_place, takers}
 use Rattle.lexlook_specs.proofs.Takers.{is_among, takers_among}
 

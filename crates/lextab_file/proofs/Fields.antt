@@ -8,11 +8,11 @@ use Rattle.std.proofs.lemmas.List.{nil_from_length}
 use Rattle.lex_semantics.specs.Text.{IsText, Among, Ascending}
 use Rattle.lex_semantics.specs.Spec.{Statement, Echo, Print, Begin, More, Less, Reject, End, Push, Pop, EndAction, Cut, Whole, Head, Trail}
 use Rattle.lextab_packed.specs.Table.{Row, RuleOfTable}
-use Rattle.lextab_packed.specs.Checks.{Sizes, IsCondition, IsCutInRange, IsTableRule, IsRow, IsSlot}
+use Rattle.lextab_packed.specs.Checks.{Sizes, none_at_0, IsCondition, IsCutInRange, IsTableRule, IsRow, IsSlot}
 use Rattle.lextab_file.specs.File.{byte, counted, cut_text, statement_text, end_text, condition_text, rule_text, row_text, slot_text}
 use Rattle.lextab_file.specs.Seen.{EachFrom, IsString, MayStand, Seen, unseen, seen_after}
 use Rattle.lextab_file.specs.declared.error.ReadError.{ReadError}
-use Rattle.lextab_file.specs.Reading.{FieldReader, ◌>>=◌, bad, judged, only_if, paired, seen_as, many, read_byte, read_number, read_bytes, read_long, below, read_positive, read_string, read_literal, end_from, read_end, condition_from, read_condition, whole_of, cut_number, read_cut, bars, arguments, read_statement, read_statements, rule_from, read_rule, above, between, read_accepted, none_at_0, row_from, few, read_row, slot_from, good_check, read_slot}
+use Rattle.lextab_file.specs.Reading.{FieldReader, ◌>>=◌, bad, judged, only_if, paired, seen_as, many, read_byte, read_number, read_bytes, read_long, below, read_positive, read_string, read_literal, end_from, read_end, condition_from, read_condition, whole_of, cut_number, read_cut, bars, arguments, read_statement, read_statements, rule_from, read_rule, above, between, read_accepted, row_from, few, read_row, slot_from, good_check, read_slot}
 use Rattle.lex_semantics.specs.ByteSets.{within}
 use Rattle.lextab_file.proofs.Forms.{IsReader, bind_ok, same_ok, reads_both, reads_judged, reads_if, reads_as, reads_like, reads_many, reads_byte, reads_bytes, reads_long, reads_short}
 use Rattle.lextab_file.proofs.Actions.{and_is, is_and, lt_is, is_lt, le_is, is_le, IsAction, action_is, is_action, InVersion}

@@ -8,8 +8,3 @@ pub mod Loops
 pub mod Columns
 pub mod Written
 pub mod Texts
-pub mod Going
-pub mod Spreads
-pub mod Leading
-pub mod Chained
-pub mod Linked

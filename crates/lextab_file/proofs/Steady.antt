@@ -6,14 +6,14 @@ use Rattle.std.proofs.lemmas.Bool.{ltb-false, le-ltb}
 use Rattle.std.proofs.lemmas.List.{length-append, take-append-le, drop-append-le, append-nil}
 use Rattle.lex_semantics.specs.Spec.{Statement, Print, Begin, Less, End, Push, Head, Trail}
 use Rattle.lextab_packed.specs.Table.{Table}
-use Rattle.lextab_packed.specs.Checks.{Sizes, some_rule_rejects, bases_of, IsTable}
+use Rattle.lextab_packed.specs.Checks.{Sizes, none_at_0, some_rule_rejects, bases_of, IsTable}
 use Rattle.lextab_file.specs.File.{version_of, file_of}
 use Rattle.lextab_file.specs.Seen.{Seen, unseen, seen_after, following}
 use Rattle.lextab_file.specs.declared.error.ReadError.{ReadError}
 use Rattle.lextab_file.specs.declared.error.ReadError.TheVariants as reads
 use Rattle.lextab_file.specs.declared.error.TableError.{TableError}
 use Rattle.lextab_file.specs.declared.error.TableError.TheVariants as errors
-use Rattle.lextab_file.specs.Reading.{FieldReader, ◌>>=◌, bad, judged, only_if, paired, seen_as, many, read_byte, read_number, read_bytes, below, read_literal, is_magic, sizes_from, read_sizes, end_from, read_end, condition_from, read_condition, whole_of, cut_number, read_cut, bars, arguments, read_statement, rule_from, read_rule, read_class, above, between, read_accepted, none_at_0, row_from, few, read_row, slot_from, good_check, read_slot, Body, read_body, read_versioned, table_from, read_table}
+use Rattle.lextab_file.specs.Reading.{FieldReader, ◌>>=◌, bad, judged, only_if, paired, seen_as, many, read_byte, read_number, read_bytes, below, read_literal, is_magic, sizes_from, read_sizes, end_from, read_end, condition_from, read_condition, whole_of, cut_number, read_cut, bars, arguments, read_statement, rule_from, read_rule, read_class, above, between, read_accepted, row_from, few, read_row, slot_from, good_check, read_slot, Body, read_body, read_versioned, table_from, read_table}
 use Rattle.lex_semantics.specs.ByteSets.{within}
 use Rattle.lextab_file.specs.Refusals.{is_truncated, left_over, refusal_in, read_refusal}
 use Rattle.lextab_file.proofs.Forms.{same_ok}

@@ -5,7 +5,4 @@ pub mod Views
 pub mod Tags
 pub mod Fitting
 pub mod Refusals
-pub mod Live
-pub mod Inverse
-pub mod Spreading
 pub mod FileExamples

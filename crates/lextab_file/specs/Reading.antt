@@ -5,7 +5,7 @@ use Rattle.std.specs.Int.{Width, w16, w32, byte_len, from_be_bytes}
 use Rattle.lex_semantics.specs.ByteSets.{within}
 use Rattle.lex_semantics.specs.Spec.{Statement, Echo, Print, Begin, More, Less, Reject, End, Push, Pop, EndAction, Cut, Whole, Head, Trail}
 use Rattle.lextab_packed.specs.Table.{ConditionOfTable, RuleOfTable, Row, Slot, Table}
-use Rattle.lextab_packed.specs.Checks.{Sizes, some_rule_rejects, bases_of}
+use Rattle.lextab_packed.specs.Checks.{Sizes, none_at_0, some_rule_rejects, bases_of}
 use Rattle.lextab_file.specs.File.{version_of}
 use Rattle.lextab_file.specs.Seen.{Seen, unseen, seen_after, following}
 use Rattle.lextab_file.specs.declared.error.ReadError.{ReadError}
@@ -186,10 +186,6 @@ between low count r = nat_le low r && nat_lt r count
 
 abbrev pub read_accepted : ℕ → ℕ → FieldReader ℕ
 read_accepted count low = only_if (between low count) (read_number w32)
-
--- 0 where the state is 0
-abbrev pub none_at_0 : ℕ → ℕ → Bool
-none_at_0 s n = cond (s == 0) (n == 0) true
 
 abbrev pub row_from : ℕ × (ℕ × List ℕ) → Row
 row_from p = record { default_target = p.0; base = p.1.0; rules = p.1.1 }

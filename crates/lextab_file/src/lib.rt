@@ -7,10 +7,7 @@
 //! - `writing`: the writer. Inside it `fields`, `conditions`, `actions` and `states` write these parts.
 //! - `reading`: the reader of the parts. Inside it `fields`, `header`, `conditions`, `actions`, `states` and `slots`
 //!   have a part each, in the order of the file. Refusals are found here; callers call `tables`.
-//! - `inverse`: the inverse transitions of a table, as chains.
-//! - `live`: which states are live: some text that is not empty leads from them to one that accepts.
-//! - `tables`: `read_tables`, which adds which states are live, and `read_flat`, which also lays out a row of 256 targets
-//!   for each state, for a scan.
+//! - `tables`: `read_tables`, and `read_flat` for a scan.
 //! - `laws`: tables and their files are one to one, and what is no file is refused.
 //!
 //! It promises that what is written is the table's file, and that what is read is a table's file and all of it. A
@@ -19,12 +16,10 @@
 //!
 //! To change a field, a version or a refusal is to change the format, and with it lextab_packed's parts and the page of
 //! the format.
-//! How live states are found may change alone.
 //!
 //! Decided here:
 //! - Which states are live is not in the file. It follows from the steps, and a flag that could be wrong would be one
-//!   more thing to check. The reader finds it backwards: from the states that accept to those that lead to them, each
-//!   taken once. Of neighbouring bytes that lead from a state to one target the first alone has a link.
+//!   more thing to check.
 //! - Of two faults the one at the first field from the left is reported, as `specs/Reading` defines. Each field is
 //!   judged when it was read, by what stands before it: each byte of the class map, a tag before its arguments, a
 //!   length before its bytes, a count before what it counts, a check before its next. A field that is cut short is
@@ -36,9 +31,7 @@
 #![tactic(auto)]
 
 mod error;
-mod inverse;
 mod laws;
-mod live;
 mod reading;
 mod tables;
 mod tag;
@@ -47,6 +40,5 @@ mod writing;
 
 pub use error::TableError;
 pub use laws::{examples_of_files, examples_of_refusals, laws_of_refusals, one_table};
-pub use live::live_states;
 pub use tables::{read_flat, read_tables};
 pub use writing::write_tables;

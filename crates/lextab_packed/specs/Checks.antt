@@ -1,5 +1,5 @@
 -- What a table keeps to. (This project's; what actions keep to: POSIX and flex, Actions.)
-use Rattle.std.specs.Prelude.{◌≡◌, ℕ, ◌+◌, ◌<◌, ◌≤◌, Bool, false, List, [], length, map, sum_by, slice_index, ⊤}
+use Rattle.std.specs.Prelude.{◌≡◌, ℕ, ◌+◌, ◌<◌, ◌≤◌, ◌==◌, Bool, cond, true, false, List, [], length, map, sum_by, slice_index, ⊤}
 use Rattle.std.specs.List.{list_any}
 use Rattle.lex_semantics.specs.Limits.{max_conditions, max_rules, max_states, max_classes, max_slots, max_literal_bytes, max_status, max_fixed_length, max_statements}
 use Rattle.lex_semantics.specs.Text.{IsText, Among, Pairwise}
@@ -64,6 +64,10 @@ pub record IsTable (t : Table) : Type 0 where
   pub rows : Each (IsRow (length t.rules) (length t.rows) t.classes (length t.slots)
       (list_any (λ r. list_any is_reject r.statements) t.rules)) 0 t.rows
   pub slots : Each (IsSlot (length t.rows) t.classes (map (λ r. r.base) t.rows)) 0 t.slots
+
+-- where the state is 0, which is the dead one and that of an unused slot, the number is 0
+abbrev pub none_at_0 : ℕ → ℕ → Bool
+none_at_0 s n = cond (s == 0) (n == 0) true
 
 -- Names that proofs have: how many there are of each kind, whether some rule has REJECT, and the bases of rows.
 pub record Sizes : Type 0 where

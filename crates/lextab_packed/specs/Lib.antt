@@ -8,3 +8,6 @@ pub mod Flats
 pub mod FlatViews
 pub mod Runs
 pub mod Leaps
+pub mod Live
+pub mod Inverse
+pub mod Spreading

@@ -6,6 +6,9 @@
 //! - `tables`: a table that keeps to all that a table file is checked for.
 //! - `steps`: the state after one byte more, and the marks of targets.
 //! - `rows`: a row of 256 targets for each state.
+//! - `inverse`: the inverse transitions of a table, as chains.
+//! - `live`: which states are live: some text that is not empty leads from them to one that accepts.
+//! - `laying`: the table of some parts with its rows, by which it is known which states are live.
 //! - `machine`: what a table answers a scanner.
 //! - `kinds`: what is known of the first rule that each state accepts.
 //! - `leaps`: states that at most three bytes lead away from; runs of the others are passed 16 bytes at a time.
@@ -13,10 +16,12 @@
 //!   of a scan.
 //!
 //! It promises that a table keeps to `IsTable`, and is a machine by its laws; and that the flat one is the same
-//! machine. The marks of `flat` and the kinds may change alone, under the trait's contract: they are how a scan sees at
-//! a glance what a match does. The parts may not: they are the fields of the file.
+//! machine. How live states are found may change alone. So may the marks of `flat` and the kinds, under the trait's
+//! contract: they are how a scan sees at a glance what a match does. The parts may not: they are the fields of the file.
 //!
 //! Decided here:
+//! - Which states are live is found backwards: from the states that accept to those that lead to them, each taken once.
+//!   Of neighbouring bytes that lead from a state to one target the first alone has a link.
 //! - Check and next are two columns. In the code the slots are two lists of numbers, as a step wants them. In the
 //!   definitions and in the file they are pairs.
 //! - A run at a state is looked at byte by byte first, since most are short. After 16 bytes it is passed in steps of 16, if
@@ -27,8 +32,11 @@
 #![tactic(auto)]
 
 mod flat;
+mod inverse;
 mod kinds;
+mod laying;
 mod leaps;
+mod live;
 mod machine;
 mod parts;
 mod rows;
@@ -36,6 +44,8 @@ mod steps;
 mod tables;
 
 pub use flat::Flat;
-pub use parts::{Row, TableCondition, TableParts, TableRule};
+pub use laying::laid_out;
+pub use live::live_states;
+pub use parts::{Row, TableCondition, TableParts, TableRule, may_lead};
 pub use rows::flat_rows;
 pub use tables::{Tables, any_reject};

@@ -1,4 +1,7 @@
 //! The parts of which a table is made.
+ghost use Rattle.std.specs.Prelude.{◌≡◌, ◌&&◌, nat_lt};
+ghost use Rattle.lextab_packed.specs.Checks.{none_at_0};
+
 use lex_machine::{Cut, EndAction, Statement};
 
 /// Where matches start in a condition, and what is done at the end of the input.
@@ -49,4 +52,12 @@ pub struct TableParts {
     pub checks: Vec<u32>,
     /// For each slot the target that stands there.
     pub nexts: Vec<u32>,
+}
+
+/// Whether the slot of this state may lead to a target, where there are so many states: it is one of them, and 0 in an
+/// unused slot.
+pub fn may_lead(check: u32, target: u32, states: u32) -> bool
+    ensures { result ≡ (nat_lt target states && none_at_0 check target) }
+{
+    target < states && (check != 0 || target == 0)
 }

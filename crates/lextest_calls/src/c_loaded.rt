@@ -1,20 +1,14 @@
 //! What a program in C calls by a table that it loaded once: two scans side by side, tokens, and handles that hold none.
 use crate::building::made;
+use crate::for_c::NO_TOKEN;
 use liblex_calls::{
-    Answer, LoadedTables, Scan, TextToken, close_scan, feed_into, finish_into, load_tables,
-    open_loaded, scan_loaded, share_tables, tokens_loaded, unload_tables,
+    Answer, LoadedTables, Scan, close_scan, feed_into, finish_into, load_tables, open_loaded,
+    scan_loaded, share_tables, tokens_loaded, unload_tables,
 };
 use std::alloc::Global;
 use std::test::Fail;
 
 const TEXT: &[u8] = b"%%\n[0-9]+ printf(\"N\");\nstop exit(3);\n";
-
-const NO_TOKEN: TextToken = TextToken {
-    start: 0,
-    end: 0,
-    rule: 0,
-    condition: 0,
-};
 
 /// What is answered of an input, with the status.
 fn scan(alloc: Global, tables: &mut LoadedTables, input: &[u8], wanted: &[u8]) -> (Answer, u8) {

@@ -1,10 +1,12 @@
 //! What a program in C is told of each kind of refusal. No contract says that a refusal is not told as want of memory;
 //! here there is ample. The texts are those of docs/MANUAL.md, with the lines and the places that it has of them. The numbers are those
 //! of include/lex.h.
+use crate::building::made;
+use crate::for_c::{NO_TOKEN, NONE};
 use crate::table_files::conditions;
 use liblex_calls::{
-    Answer, Scan, TextFault, TextToken, generate_into, open_scan, options_of, rule_lines_into,
-    scan_into, tokens_into,
+    Answer, Scan, TextFault, generate_into, open_scan, options_of, rule_lines_into, scan_into,
+    tokens_into,
 };
 use std::alloc::{AllocError, Global};
 use std::test::Fail;
@@ -16,11 +18,7 @@ type Refused = (&'static [u8], u32, u32, usize);
 fn is_told(alloc: Global, text: &[u8], line: u32, kind: u32, place: usize) -> bool {
     let mut buffer = [0u8; 8];
     let mut count = 0;
-    let mut fault = TextFault {
-        line: 0,
-        kind: 0,
-        place: 0,
-    };
+    let mut fault = NONE;
     let options = options_of(0);
     let answer = generate_into(alloc, text, options, &mut buffer, &mut count, &mut fault);
     answer == Answer::Refused && fault == TextFault { line, kind, place }
@@ -40,7 +38,7 @@ fn is_refused(alloc: Global, text: &[u8], line: u32, kind: u32, place: usize) ->
 }
 
 #[test]
-fn tells_each_refusal_of_a_specification(rt: HostRuntime) {
+fn tells_each_refusal_of_a_text(rt: HostRuntime) {
     const ROWS: &[Refused] = &[
         (b"", 1, 1, 0),
         (b"D [0-9]\n", 2, 1, 0),
@@ -63,15 +61,6 @@ fn tells_each_refusal_of_a_specification(rt: HostRuntime) {
         (b"%%\na { ECHO;\n", 2, 18, 0),
         (b"%%\na |\n", 2, 19, 0),
         (b"%option reentrant\n%%\n", 1, 20, 0),
-    ];
-    for &(text, line, kind, place) in ROWS {
-        assert!(rt; is_refused(rt.alloc(), text, line, kind, place), "{kind}");
-    }
-}
-
-#[test]
-fn tells_each_refusal_of_a_pattern(rt: HostRuntime) {
-    const ROWS: &[Refused] = &[
         (b"%%\n\"a ;\n", 2, 101, 0),
         (b"%%\n[a ;\n", 2, 102, 0),
         (b"%%\n[z-a] ;\n", 2, 103, 1),
@@ -149,13 +138,6 @@ fn scans_nothing(alloc: Global, bytes: &[u8]) -> bool {
     (answer, count, status, out[0]) == (Answer::Refused, 0, 0, 7)
 }
 
-const NO_TOKEN: TextToken = TextToken {
-    start: 0,
-    end: 0,
-    rule: 0,
-    condition: 0,
-};
-
 /// Whether no tokens are listed by these bytes.
 fn lists_nothing(alloc: Global, bytes: &[u8]) -> bool {
     let mut tokens = [NO_TOKEN; 1];
@@ -178,29 +160,6 @@ fn is_no_table(alloc: Global, bytes: &[u8]) -> bool {
     scans_nothing(alloc, bytes) && lists_nothing(alloc, bytes) && opens_nothing(alloc, bytes)
 }
 
-/// The table file of a rule, in so many bytes.
-fn file(alloc: Global) -> Result<Vec<u8>, AllocError> {
-    let mut file = Vec::new(alloc);
-    file.resize(4_096, 0)?;
-    let mut count = 0;
-    let mut fault = TextFault {
-        line: 0,
-        kind: 0,
-        place: 0,
-    };
-    let options = options_of(0);
-    let answer = generate_into(
-        alloc,
-        b"%%\na ;\n",
-        options,
-        &mut file,
-        &mut count,
-        &mut fault,
-    );
-    file.truncate(if answer == Answer::Done { count } else { 0 });
-    Ok(file)
-}
-
 /// The bytes with others from a place on.
 fn changed(alloc: Global, bytes: &[u8], at: usize, put: &[u8]) -> Result<Vec<u8>, AllocError> {
     let (before, rest) = bytes.split_at(at.min(bytes.len()));
@@ -213,8 +172,8 @@ fn changed(alloc: Global, bytes: &[u8], at: usize, put: &[u8]) -> Result<Vec<u8>
 #[test]
 fn tells_each_refusal_of_a_table_file(rt: HostRuntime) -> Result<(), Fail> {
     let alloc = rt.alloc();
-    let file = file(alloc)?;
-    assert!(rt; !file.is_empty() && !is_no_table(alloc, &file));
+    let file = made(alloc, b"%%\na ;\n")?.into_bytes();
+    assert!(rt; !is_no_table(alloc, &file));
     for (n, _) in file.iter().enumerate() {
         assert!(rt; is_no_table(alloc, &file[..n]), "{n}");
     }

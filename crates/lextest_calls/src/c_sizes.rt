@@ -1,9 +1,10 @@
 //! What a program in C calls over much: texts at their limits, long inputs and outputs, many tokens and pieces. No contract says
 //! that memory is left. Here there is ample, so no call may answer that it ran out. Most of an input is one match, which takes
 //! little time.
+use crate::for_c::{NO_TOKEN, NONE, token};
 use liblex_calls::{
-    Answer, Scan, TextFault, TextToken, close_scan, feed_into, finish_into, generate_into,
-    open_scan, options_of, rule_lines_into, scan_into, tokens_into,
+    Answer, Scan, close_scan, feed_into, finish_into, generate_into, open_scan, options_of,
+    rule_lines_into, scan_into, tokens_into,
 };
 use std::alloc::{AllocError, Global};
 use std::test::Fail;
@@ -34,11 +35,7 @@ fn rules(alloc: Global, rule: &[u8], times: usize) -> Result<Vec<u8>, AllocError
 fn file_of(alloc: Global, text: &[u8], room: usize) -> Result<Vec<u8>, AllocError> {
     let mut file = filled(alloc, 0, room)?;
     let mut count = 0;
-    let mut fault = TextFault {
-        line: 0,
-        kind: 0,
-        place: 0,
-    };
+    let mut fault = NONE;
     let options = options_of(0);
     let answer = generate_into(alloc, text, options, &mut file, &mut count, &mut fault);
     file.truncate(if answer == Answer::Done { count } else { 0 });
@@ -57,23 +54,6 @@ fn makes_files_of_texts_that_are_warned_of(rt: HostRuntime) -> Result<(), Fail> 
         assert!(rt; !file_of(rt.alloc(), text, 4_096)?.is_empty());
     }
     Ok(())
-}
-
-const NO_TOKEN: TextToken = TextToken {
-    start: 0,
-    end: 0,
-    rule: 0,
-    condition: 0,
-};
-
-/// A token of INITIAL.
-fn token(start: usize, end: usize, rule: u32) -> TextToken {
-    TextToken {
-        start,
-        end,
-        rule,
-        condition: 0,
-    }
 }
 
 /// Whether a byte that no rule matches is scanned and listed by a table file, and a scan is opened.

@@ -28,7 +28,7 @@ const SPEC_REFUSED: SpecError = SpecError {
 };
 
 #[test]
-fn refused_texts(rt: HostRuntime) {
+fn texts_at_fault(rt: HostRuntime) {
     let alloc = rt.alloc();
     const NAMES: &[(DefsError, &str)] = &[
         (DefsError::Duplicate, "the name is defined already"),

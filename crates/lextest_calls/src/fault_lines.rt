@@ -12,6 +12,21 @@ fn is_told(alloc: Global, fault: Fault<'_>, status: u8, line: &str) -> bool {
     written && sink.written() == line.as_bytes() && fault.status() == status
 }
 
+const MISSING_OPERAND: SpecErrorKind = SpecErrorKind::Pattern(PatternError {
+    kind: PatternErrorKind::MissingOperand,
+    at: 0,
+});
+
+const TOO_BIG: SpecErrorKind = SpecErrorKind::Pattern(PatternError {
+    kind: PatternErrorKind::TooBig,
+    at: 65_535,
+});
+
+const NO_MEMORY_IN_A_PATTERN: SpecErrorKind = SpecErrorKind::Pattern(PatternError {
+    kind: PatternErrorKind::OutOfMemory,
+    at: 7,
+});
+
 #[test]
 fn tells_each_fault(rt: HostRuntime) {
     const ROWS: &[(Fault<'static>, u8, &str)] = &[
@@ -55,80 +70,111 @@ fn tells_each_fault(rt: HostRuntime) {
         (Fault::File("missing.l"), 66, "lex: cannot read missing.l\n"),
         (Fault::File(""), 66, "lex: cannot read \n"),
         (Fault::Output, 74, "lex: write fault\n"),
-    ];
-    for &(fault, status, line) in ROWS {
-        assert!(rt; is_told(rt.alloc(), fault, status, line), "{line}");
-    }
-}
-
-#[test]
-fn tells_each_fault_of_a_run(rt: HostRuntime) {
-    const ROWS: &[(RunError, u8, &str)] = &[
-        (RunError::Read, 74, "lex: read fault\n"),
-        (RunError::TooManyReads, 74, "lex: too many reads\n"),
-        (RunError::Write, 74, "lex: write fault\n"),
-        (RunError::OutOfMemory, 71, "lex: out of memory\n"),
-        (RunError::Stack, 70, "lex: condition stack\n"),
-        (RunError::Failed, 74, "lex: failed\n"),
-    ];
-    for &(error, status, line) in ROWS {
-        let fault = Fault::Scan(ScanError::Run(error));
-        assert!(rt; is_told(rt.alloc(), fault, status, line), "{line}");
-    }
-}
-
-const MISSING_OPERAND: SpecErrorKind = SpecErrorKind::Pattern(PatternError {
-    kind: PatternErrorKind::MissingOperand,
-    at: 0,
-});
-
-const TOO_BIG: SpecErrorKind = SpecErrorKind::Pattern(PatternError {
-    kind: PatternErrorKind::TooBig,
-    at: 65_535,
-});
-
-const NO_MEMORY_IN_A_PATTERN: SpecErrorKind = SpecErrorKind::Pattern(PatternError {
-    kind: PatternErrorKind::OutOfMemory,
-    at: 7,
-});
-
-#[test]
-fn tells_each_fault_of_a_specification(rt: HostRuntime) {
-    const ROWS: &[(u32, SpecErrorKind, u8, &str)] = &[
         (
-            1,
-            SpecErrorKind::NoRulesSection,
+            Fault::Scan(ScanError::Run(RunError::Read)),
+            74,
+            "lex: read fault\n",
+        ),
+        (
+            Fault::Scan(ScanError::Run(RunError::TooManyReads)),
+            74,
+            "lex: too many reads\n",
+        ),
+        (
+            Fault::Scan(ScanError::Run(RunError::Write)),
+            74,
+            "lex: write fault\n",
+        ),
+        (
+            Fault::Scan(ScanError::Run(RunError::OutOfMemory)),
+            71,
+            "lex: out of memory\n",
+        ),
+        (
+            Fault::Scan(ScanError::Run(RunError::Stack)),
+            70,
+            "lex: condition stack\n",
+        ),
+        (
+            Fault::Scan(ScanError::Run(RunError::Failed)),
+            74,
+            "lex: failed\n",
+        ),
+        (
+            Fault::Scan(ScanError::Generate(GenError::Spec(SpecError {
+                line: 1,
+                kind: SpecErrorKind::NoRulesSection,
+            }))),
             65,
             "lex: line 1: NoRulesSection\n",
         ),
         (
-            12,
-            SpecErrorKind::BadDefinitionLine,
+            Fault::Scan(ScanError::Generate(GenError::Spec(SpecError {
+                line: 12,
+                kind: SpecErrorKind::BadDefinitionLine,
+            }))),
             65,
             "lex: line 12: BadDefinitionLine\n",
         ),
-        (2, MISSING_OPERAND, 65, "lex: line 2: MissingOperand at 0\n"),
-        (2, TOO_BIG, 65, "lex: line 2: TooBig at 65535\n"),
-        (2, NO_MEMORY_IN_A_PATTERN, 71, "lex: out of memory\n"),
         (
-            3,
-            SpecErrorKind::UnknownStatement,
+            Fault::Scan(ScanError::Generate(GenError::Spec(SpecError {
+                line: 2,
+                kind: MISSING_OPERAND,
+            }))),
+            65,
+            "lex: line 2: MissingOperand at 0\n",
+        ),
+        (
+            Fault::Scan(ScanError::Generate(GenError::Spec(SpecError {
+                line: 2,
+                kind: TOO_BIG,
+            }))),
+            65,
+            "lex: line 2: TooBig at 65535\n",
+        ),
+        (
+            Fault::Scan(ScanError::Generate(GenError::Spec(SpecError {
+                line: 2,
+                kind: NO_MEMORY_IN_A_PATTERN,
+            }))),
+            71,
+            "lex: out of memory\n",
+        ),
+        (
+            Fault::Scan(ScanError::Generate(GenError::Spec(SpecError {
+                line: 3,
+                kind: SpecErrorKind::UnknownStatement,
+            }))),
             65,
             "lex: line 3: UnknownStatement\n",
         ),
         (
-            4_098,
-            SpecErrorKind::TooManyRules,
+            Fault::Scan(ScanError::Generate(GenError::Spec(SpecError {
+                line: 4098,
+                kind: SpecErrorKind::TooManyRules,
+            }))),
             65,
             "lex: line 4098: TooManyRules\n",
         ),
-        (9, SpecErrorKind::TooLong, 65, "lex: line 9: TooLong\n"),
-        (2, SpecErrorKind::OutOfMemory, 71, "lex: out of memory\n"),
+        (
+            Fault::Scan(ScanError::Generate(GenError::Spec(SpecError {
+                line: 9,
+                kind: SpecErrorKind::TooLong,
+            }))),
+            65,
+            "lex: line 9: TooLong\n",
+        ),
+        (
+            Fault::Scan(ScanError::Generate(GenError::Spec(SpecError {
+                line: 2,
+                kind: SpecErrorKind::OutOfMemory,
+            }))),
+            71,
+            "lex: out of memory\n",
+        ),
     ];
-    for &(line, kind, status, told) in ROWS {
-        let error = SpecError { line, kind };
-        let fault = Fault::Scan(ScanError::Generate(GenError::Spec(error)));
-        assert!(rt; is_told(rt.alloc(), fault, status, told), "{told}");
+    for &(fault, status, line) in ROWS {
+        assert!(rt; is_told(rt.alloc(), fault, status, line), "{line}");
     }
 }
 

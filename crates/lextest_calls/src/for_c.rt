@@ -1,4 +1,4 @@
-//! What a program in C calls, by liblex_calls: once each on its happy path, and refused.
+//! What a program in C calls, by liblex_calls: once each where it does its work, and of a text that is refused.
 use liblex_calls::{
     Answer, TextFault, TextToken, generate_into, options_of, rule_lines_into, scan_into,
     tokens_into,
@@ -7,7 +7,8 @@ use std::alloc::Global;
 
 const TEXT: &[u8] = b"%%\n[0-9]+ printf(\"N\");\nstop exit(3);\n";
 
-const NONE: TextFault = TextFault {
+/// No fault.
+pub(crate) const NONE: TextFault = TextFault {
     line: 0,
     kind: 0,
     place: 0,
@@ -45,16 +46,6 @@ fn scans_numbers(alloc: Global, file: &[u8]) -> bool {
 }
 
 #[test]
-fn makes_and_scans(rt: HostRuntime) {
-    let mut buffer = [0u8; 4096];
-    let count = made_whole(rt.alloc(), &mut buffer);
-    match buffer.get(..count) {
-        Some(file) => assert!(rt; scans_numbers(rt.alloc(), file)),
-        None => assert!(rt; false),
-    }
-}
-
-#[test]
 fn tells_the_count_that_is_needed(rt: HostRuntime) {
     let mut buffer = [0u8; 8];
     let mut fault = NONE;
@@ -82,22 +73,8 @@ fn tells_a_refusal(rt: HostRuntime) {
     assert!(rt; is_refused(rt.alloc(), b"%%\na(b ECHO;\n", line, fault));
 }
 
-/// Whether bytes that are no table file are refused, and nothing is written.
-fn scans_nothing(alloc: Global, bytes: &[u8]) -> bool {
-    let mut out = [0u8; 8];
-    let mut written = 5;
-    let mut status = 9;
-    let answer = scan_into(alloc, bytes, b"a", &mut out, &mut written, &mut status);
-    answer == Answer::Refused && written == 0 && status == 0
-}
-
-#[test]
-fn refuses_bytes_that_are_no_table(rt: HostRuntime) {
-    assert!(rt; scans_nothing(rt.alloc(), b"nothing"));
-}
-
 /// A token of INITIAL.
-fn token(start: usize, end: usize, rule: u32) -> TextToken {
+pub(crate) fn token(start: usize, end: usize, rule: u32) -> TextToken {
     TextToken {
         start,
         end,
@@ -106,7 +83,8 @@ fn token(start: usize, end: usize, rule: u32) -> TextToken {
     }
 }
 
-const NO_TOKEN: TextToken = TextToken {
+/// The token of a buffer that nothing was written to.
+pub(crate) const NO_TOKEN: TextToken = TextToken {
     start: 0,
     end: 0,
     rule: 0,
@@ -128,24 +106,13 @@ fn lists_three(alloc: Global, file: &[u8]) -> bool {
     answer == Answer::Done && count == 3 && status == 3 && are_listed(&tokens)
 }
 
-/// Whether bytes that are no table file are refused, and nothing is listed.
-fn lists_nothing(alloc: Global, bytes: &[u8]) -> bool {
-    let mut tokens = [NO_TOKEN; 4];
-    let mut count = 3;
-    let mut status = 3;
-    let answer = tokens_into(alloc, bytes, b"a", &mut tokens, &mut count, &mut status);
-    answer == Answer::Refused && count == 0
-}
-
 #[test]
-fn lists_tokens(rt: HostRuntime) {
+fn makes_a_file_and_scans_by_it(rt: HostRuntime) {
     let mut buffer = [0u8; 4096];
     let count = made_whole(rt.alloc(), &mut buffer);
-    match buffer.get(..count) {
-        Some(file) => assert!(rt; lists_three(rt.alloc(), file)),
-        None => assert!(rt; false),
-    }
-    assert!(rt; lists_nothing(rt.alloc(), b"nothing"));
+    let file = buffer.get(..count).unwrap_or_default();
+    assert!(rt; scans_numbers(rt.alloc(), file));
+    assert!(rt; lists_three(rt.alloc(), file));
 }
 
 /// What is answered of the lines of rules where there is room for one, how many there are, and the first.

@@ -35,22 +35,6 @@ fn tells_the_others<M: Machine>(machine: &M) -> bool
         && end.print.as_slice() == b"open\n".as_slice()
 }
 
-#[test]
-fn tells_of_the_automaton_and_the_actions(rt: HostRuntime) -> Result<(), Fail> {
-    let alloc = rt.alloc();
-    let spec = read(alloc, TEXT)?;
-    let automaton = built(alloc, &spec)?;
-    let machine = Plain::new(&automaton, &spec);
-    assert!(rt; !machine.rejects());
-    if machine.conditions() == 2 {
-        assert!(rt; goes_along_so(&machine));
-        assert!(rt; tells_the_others(&machine));
-    } else {
-        assert!(rt; false);
-    }
-    Ok(())
-}
-
 /// Whether the two rules are told with their cuts and statements.
 fn tells_the_rules<M: Machine>(machine: &M) -> bool
     requires { 1 < (M.machine machine.now).count }
@@ -64,12 +48,15 @@ fn tells_the_rules<M: Machine>(machine: &M) -> bool
 }
 
 #[test]
-fn tells_of_rules(rt: HostRuntime) -> Result<(), Fail> {
+fn tells_of_the_automaton_and_the_actions(rt: HostRuntime) -> Result<(), Fail> {
     let alloc = rt.alloc();
     let spec = read(alloc, TEXT)?;
     let automaton = built(alloc, &spec)?;
     let machine = Plain::new(&automaton, &spec);
-    if machine.rules() == 2 {
+    assert!(rt; !machine.rejects());
+    if machine.conditions() == 2 && machine.rules() == 2 {
+        assert!(rt; goes_along_so(&machine));
+        assert!(rt; tells_the_others(&machine));
         assert!(rt; tells_the_rules(&machine));
     } else {
         assert!(rt; false);

@@ -149,13 +149,6 @@ fn answers_a_line_before_it_asks_for_more(rt: HostRuntime) -> Result<(), Fail> {
         assert!(rt; !is_late(&rt, filter, LINES, None)?);
         let file = made(rt.alloc(), filter)?;
         assert!(rt; !is_late(&rt, filter, LINES, Some(file.written()))?);
-    }
-    Ok(())
-}
-
-#[test]
-fn answers_a_line_before_it_asks_for_the_rest_of_the_next(rt: HostRuntime) -> Result<(), Fail> {
-    for &filter in FILTERS {
         assert!(rt; !is_late(&rt, filter, PARTS, None)?);
     }
     Ok(())

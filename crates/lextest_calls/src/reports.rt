@@ -88,18 +88,23 @@ fn tells_states_that_back_up(rt: HostRuntime) {
     }
 }
 
-/// Whether a sink of this room refuses the warnings, and has these bytes of them.
-fn are_warned_within(alloc: Global, warnings: &[Warning], room: usize, written: &str) -> bool {
-    let mut sink = MemorySink::failing_after(alloc, room);
-    let got = write_warnings(warnings, &mut sink);
-    got == Err(WriteFault) && sink.written() == written.as_bytes()
-}
-
-/// Whether a sink of this room refuses the entries, and has these bytes of them.
-fn are_listed_within(alloc: Global, entries: &[BackUp], room: usize, written: &str) -> bool {
-    let mut sink = MemorySink::failing_after(alloc, room);
-    let got = write_backup(entries, &mut sink);
-    got == Err(WriteFault) && sink.written() == written.as_bytes()
+/// Whether a sink of this room refuses both, and has these bytes of them.
+fn stop_within(
+    alloc: Global,
+    warnings: &[Warning],
+    entries: &[BackUp],
+    room: usize,
+    written: (&str, &str),
+) -> bool {
+    let mut warned = MemorySink::failing_after(alloc, room);
+    let mut listed = MemorySink::failing_after(alloc, room);
+    let refused = (
+        write_warnings(warnings, &mut warned),
+        write_backup(entries, &mut listed),
+    );
+    refused == (Err(WriteFault), Err(WriteFault))
+        && warned.written() == written.0.as_bytes()
+        && listed.written() == written.1.as_bytes()
 }
 
 #[test]
@@ -113,14 +118,8 @@ fn stops_at_a_write_fault(rt: HostRuntime) -> Result<(), Fail> {
         (20, "lex: line 6: warning", "state 3 after \"ab\"\ns"),
     ];
     for &(room, warned, backed) in rows {
-        assert!(rt;
-            are_warned_within(rt.alloc(), &warnings, room, warned),
-            "{room}"
-        );
-        assert!(rt;
-            are_listed_within(rt.alloc(), &entries, room, backed),
-            "{room}"
-        );
+        let so = stop_within(rt.alloc(), &warnings, &entries, room, (warned, backed));
+        assert!(rt; so, "{room}");
     }
     Ok(())
 }

@@ -4,7 +4,6 @@ use crate::scanning::{Failing, sink_that, source_that};
 use lexkit::{Flat, MemorySink, MemorySource, RunError};
 use lexscan::{Scanner, Turn, run};
 use std::alloc::Global;
-use std::process::Abort;
 use std::test::Fail;
 
 const NUMBERS: &str = "%%\nif printf(\"K\");\n[0-9][0-9] printf(\"N\");\n";
@@ -106,12 +105,13 @@ fn goes_so(alloc: Global, row: &Scan) -> Result<bool, Fail> {
     Ok(goes_so_by(alloc, &machine, row))
 }
 
-/// Holds the turns of each row.
-fn assert_turns(rt: &impl Abort, alloc: Global, rows: &[Scan]) -> Result<(), Fail> {
+/// Whether the turns of each row do.
+fn all_go_so(alloc: Global, rows: &[Scan]) -> Result<bool, Fail> {
+    let mut so = true;
     for row in rows {
-        assert!(rt; goes_so(alloc, row)?, "{} on {:?}", row.0, row.1);
+        so = goes_so(alloc, row)? && so;
     }
-    Ok(())
+    Ok(so)
 }
 
 const HELD: &[Scan] = &[
@@ -214,11 +214,6 @@ const HELD: &[Scan] = &[
     ),
 ];
 
-#[test]
-fn takes_and_holds_what_is_asked_for(rt: HostRuntime) -> Result<(), Fail> {
-    assert_turns(&rt, rt.alloc(), HELD)
-}
-
 /// A specification, an input, where the source fails, the most reads, how a run ends, how often the source is called,
 /// and what is written.
 type Run = (
@@ -246,12 +241,13 @@ fn ends_so(alloc: Global, row: &Run) -> Result<bool, Fail> {
     Ok(ends_so_by(alloc, &machine, row))
 }
 
-/// Holds the run of each row.
-fn assert_runs(rt: &impl Abort, alloc: Global, rows: &[Run]) -> Result<(), Fail> {
+/// Whether the run of each row ends so.
+fn all_end_so(alloc: Global, rows: &[Run]) -> Result<bool, Fail> {
+    let mut so = true;
     for row in rows {
-        assert!(rt; ends_so(alloc, row)?, "{} with {} reads", row.0, row.3);
+        so = ends_so(alloc, row)? && so;
     }
-    Ok(())
+    Ok(so)
 }
 
 const TOO_MANY: Result<u8, RunError> = Err(RunError::TooManyReads);
@@ -297,11 +293,7 @@ const CALLED: &[Run] = &[
     ),
 ];
 
-#[test]
-fn calls_the_source_as_often_as_a_byte_is_asked_for(rt: HostRuntime) -> Result<(), Fail> {
-    assert_runs(&rt, rt.alloc(), CALLED)
-}
-
+/// A source that has answered its end is not called again, whatever it would give then.
 const RUN_TO_AN_END: &[Run] = &[(
     TRAIL,
     b"abcdabz",
@@ -319,13 +311,6 @@ const TURNED_TO_AN_END: &[Scan] = &[(
     &[Step::Go(5), Step::Answer(Ok(Turn::Ended(0)), 6, 0)],
     "[ab]cdab",
 )];
-
-/// A source that has answered its end is not called again, whatever it would give then.
-#[test]
-fn asks_for_the_end_once(rt: HostRuntime) -> Result<(), Fail> {
-    assert_runs(&rt, rt.alloc(), RUN_TO_AN_END)?;
-    assert_turns(&rt, rt.alloc(), TURNED_TO_AN_END)
-}
 
 const RETURNED: &[Run] = &[
     (
@@ -361,12 +346,6 @@ const RETURNED_ONE_BY_ONE: &[Scan] = &[(
     ],
     "",
 )];
-
-#[test]
-fn a_thousand_letters_are_returned_one_by_one(rt: HostRuntime) -> Result<(), Fail> {
-    assert_runs(&rt, rt.alloc(), RETURNED)?;
-    assert_turns(&rt, rt.alloc(), RETURNED_ONE_BY_ONE)
-}
 
 const WENT: Result<Turn, RunError> = Ok(Turn::Went);
 
@@ -423,11 +402,6 @@ const REFUSED: &[Scan] = &[
     ),
 ];
 
-#[test]
-fn a_refused_turn_holds_what_was_taken(rt: HostRuntime) -> Result<(), Fail> {
-    assert_turns(&rt, rt.alloc(), REFUSED)
-}
-
 const UNWRITTEN_AT_ONCE: &[Step] = &[Step::Fail(RunError::Write), Step::Fail(RunError::Failed)];
 
 /// A sink that takes 0 to 9 of the ten bytes of the first turn has the first ones.
@@ -480,9 +454,44 @@ const FILLED: &[Scan] = &[
     ),
 ];
 
+/// The flush at the end of an empty input fails.
+const UNFLUSHED: &[Scan] = &[("%%\n", b"", Failing::Flush, UNWRITTEN_AT_ONCE, "")];
+
+const SCANS: &[(&str, &[Scan])] = &[
+    ("what is asked for is taken and held", HELD),
+    ("the end is asked for once", TURNED_TO_AN_END),
+    (
+        "a thousand letters are returned one by one",
+        RETURNED_ONE_BY_ONE,
+    ),
+    ("a refused turn holds what was taken", REFUSED),
+    ("a sink fails after each byte", FILLED),
+    ("a flush fails", UNFLUSHED),
+];
+
 #[test]
-fn a_sink_fails_after_each_byte(rt: HostRuntime) -> Result<(), Fail> {
-    assert_turns(&rt, rt.alloc(), FILLED)
+fn turns_go_so(rt: HostRuntime) -> Result<(), Fail> {
+    for &(what, rows) in SCANS {
+        assert!(rt; all_go_so(rt.alloc(), rows)?, "{what}");
+    }
+    Ok(())
+}
+
+const RUNS: &[(&str, &[Run])] = &[
+    (
+        "the source is called as often as a byte is asked for",
+        CALLED,
+    ),
+    ("the end is asked for once", RUN_TO_AN_END),
+    ("a thousand letters are returned one by one", RETURNED),
+];
+
+#[test]
+fn runs_end_so(rt: HostRuntime) -> Result<(), Fail> {
+    for &(what, rows) in RUNS {
+        assert!(rt; all_end_so(rt.alloc(), rows)?, "{what}");
+    }
+    Ok(())
 }
 
 /// How many turns go on where the source gives 0 to 10 bytes, and what they write.
@@ -519,12 +528,4 @@ fn a_source_fails_after_each_byte(rt: HostRuntime) -> Result<(), Fail> {
         assert!(rt; so, "{given}");
     }
     Ok(())
-}
-
-/// The flush at the end of an empty input fails.
-const UNFLUSHED: &[Scan] = &[("%%\n", b"", Failing::Flush, UNWRITTEN_AT_ONCE, "")];
-
-#[test]
-fn a_flush_fails(rt: HostRuntime) -> Result<(), Fail> {
-    assert_turns(&rt, rt.alloc(), UNFLUSHED)
 }

@@ -1,7 +1,7 @@
 //! Live states of small tables.
 ghost use Rattle.std.specs.Prelude.{◌≡◌, ℕ, ◌<◌, length, slice_index, IfOk};
 
-use lextab_file::live_states;
+use lextab_packed::live_states;
 use std::alloc::{AllocError, Global};
 use std::test::Fail;
 

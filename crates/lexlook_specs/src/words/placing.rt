@@ -6,8 +6,7 @@ ghost use Rattle.lexauto_reports.specs.Searching.{place_of};
 ghost use Rattle.lexlook_specs.specs.Placing.{IsLeastOf, TakesAt, TakesBelow, least_place, takers};
 
 use crate::words::taking::{has, taken, taker};
-use lexauto_dfa::Dfa;
-use lexauto_reports::unset;
+use lexauto_dfa::{Dfa, unset};
 use std::alloc::{AllocError, Global};
 
 /// The smaller of two places, where there are any.

@@ -1,16 +1,16 @@
 //! Reads the slots.
 ghost use Rattle.std.specs.Prelude.{◌≡◌, ◌<◌, ◌&&◌, nat_lt, map, length, slice_index};
 ghost use Rattle.std.specs.Int.{w32};
-ghost use Rattle.lextab_packed.specs.Checks.{bases_of};
+ghost use Rattle.lextab_packed.specs.Checks.{bases_of, none_at_0};
 ghost use Rattle.lextab_packed.specs.Views.{row_of, slots_of};
 ghost use Rattle.lextab_file.specs.Seen.{following};
-ghost use Rattle.lextab_file.specs.Reading.{many, only_if, read_number, good_check, none_at_0, read_slot, slot_from};
+ghost use Rattle.lextab_file.specs.Reading.{many, only_if, read_number, good_check, read_slot, slot_from};
 ghost use Rattle.lextab_file.specs.Views.{Gives, sizes_in};
 
 use super::fields::long;
 use super::header::Counts;
 use crate::error::ReadError;
-use lextab_packed::Row;
+use lextab_packed::{Row, may_lead};
 use std::alloc::Global;
 
 /// Where the targets of a state begin.
@@ -53,7 +53,7 @@ fn next_of(bytes: &[u8], states: u32, check: u32) -> Result<(u32, &[u8]), ReadEr
         (only_if (λ n. nat_lt n states && none_at_0 check n) (read_number w32) bytes.now) }
 {
     let (next, rest) = long(bytes)?;
-    if next >= states || (check == 0 && next != 0) {
+    if !may_lead(check, next, states) {
         return Err(ReadError::BadField(bytes.len()));
     }
     Ok((next, rest))

@@ -1,10 +1,11 @@
 //! Reads the classes of the bytes, and the states.
 ghost use Rattle.std.specs.Prelude.{◌≡◌, ◌≤◌, ◌<◌, ◌+◌, ◌&&◌, nat_lt, nat_le, IfOk, map, length};
 ghost use Rattle.std.specs.Int.{w32};
+ghost use Rattle.lextab_packed.specs.Checks.{none_at_0};
 ghost use Rattle.lextab_packed.specs.Views.{row_of};
 ghost use Rattle.lextab_file.specs.Seen.{following};
 ghost use Rattle.lextab_file.specs.Reading.{many, read_class, read_accepted, above};
-ghost use Rattle.lextab_file.specs.Reading.{read_row, only_if, none_at_0, few, read_number};
+ghost use Rattle.lextab_file.specs.Reading.{read_row, only_if, few, read_number};
 ghost use Rattle.lextab_file.specs.Views.{Gives, sizes_in};
 ghost use Rattle.lex_semantics.specs.Limits.{max_classes};
 

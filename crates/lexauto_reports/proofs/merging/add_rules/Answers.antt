@@ -3,7 +3,7 @@ use Rattle.std.proofs.lemmas.List.{map_more}
 use Rattle.lexspec.specs.RuleViews.{rule_of}
 use Rattle.lexauto_reports.specs.Warned.{of_rule}
 use Rattle.lexauto_reports.specs.declared.warned.Warning.{Warning}
-use Rattle.lexauto_reports.proofs.Accepting.{among_get}
+use Rattle.lexauto_dfa.proofs.Accepting.{among_get}
 use Rattle.lexauto_reports.proofs.Merged.{line_at}
 use Rattle.lexauto_reports.proofs.merging.add_rules.Goals as goal
 

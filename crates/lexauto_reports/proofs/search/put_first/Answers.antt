@@ -1,6 +1,6 @@
 use Rattle.std.proofs.Common.{rules, ◌<◌, Some, length, get_or, arith, ◌∙◌}
 use Rattle.std.proofs.lemmas.List.{length-set}
-use Rattle.lexauto_reports.proofs.Accepting.{among_get}
+use Rattle.lexauto_dfa.proofs.Accepting.{among_get}
 use Rattle.lexauto_reports.proofs.Starting.{put_more, put_only}
 use Rattle.lexauto_reports.proofs.search.put_first.Goals as goal
 

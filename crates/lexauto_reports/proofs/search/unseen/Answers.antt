@@ -2,7 +2,7 @@ use Rattle.std.proofs.Common.{rules, ◌≡◌, ◌<◌, ◌++◌, ◌∷◌, �
 use Rattle.std.proofs.lemmas.List.{take_all, get_or_read}
 use Rattle.lex_semantics.specs.Text.{Among}
 use Rattle.lexauto_reports.specs.Searching.{place_of, AreSeen}
-use Rattle.lexauto_reports.proofs.Accepting.{among_get}
+use Rattle.lexauto_dfa.proofs.Accepting.{among_get}
 use Rattle.lexauto_reports.proofs.Searched.{seen_before, seen_first, none_is, some_is}
 use Rattle.lexauto_reports.proofs.search.unseen.Goals as goal
 use Rattle.lexauto_reports.proofs.search.unseen.Goals.{then-is_none+in_ok-push, else-is_none}

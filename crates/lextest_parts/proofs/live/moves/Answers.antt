@@ -1,6 +1,6 @@
 use Rattle.std.proofs.Common.{rules, ◌≡◌, ◌<◌, ℕ, List, replicate, arith, sym, subst}
 use Rattle.std.specs.Prelude.{slice_index, slice_set}
-use Rattle.lextab_file.proofs.Spreads.{small_set, small_zeros}
+use Rattle.lextab_packed.proofs.Spreads.{small_set, small_zeros}
 use Rattle.lextest_parts.proofs.live.moves.Goals as goal
 
 pub returns-clause-known : goal.returns-clause-known

@@ -1,6 +1,6 @@
 use Rattle.std.proofs.Common.{arith, ◌∙◌}
 use Rattle.std.proofs.lemmas.List.{length-set}
-use Rattle.lexauto_reports.proofs.Accepting.{among_get}
+use Rattle.lexauto_dfa.proofs.Accepting.{among_get}
 use Rattle.lexlook_specs.proofs.Places.{lower_kept, lower_lowered}
 use Rattle.lexlook_specs.proofs.words.placing.lower.Goals as goal
 

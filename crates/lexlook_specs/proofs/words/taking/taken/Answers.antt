@@ -1,4 +1,4 @@
-use Rattle.lexauto_reports.proofs.Accepting.{among_get}
+use Rattle.lexauto_dfa.proofs.Accepting.{among_get}
 use Rattle.lexlook_specs.proofs.words.taking.taken.Goals as goal
 
 pub bounds-rejects-rules : goal.bounds-rejects-rules

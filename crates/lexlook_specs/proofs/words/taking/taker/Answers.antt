@@ -1,5 +1,5 @@
 use Rattle.std.proofs.Common.{sym, ◌∙◌}
-use Rattle.lexauto_reports.proofs.Accepting.{among_get}
+use Rattle.lexauto_dfa.proofs.Accepting.{among_get}
 use Rattle.lexlook_specs.proofs.Takers.{kept_here, kept_end, kept_only, kept_some}
 use Rattle.lexlook_specs.proofs.words.taking.taker.Goals as goal
 
