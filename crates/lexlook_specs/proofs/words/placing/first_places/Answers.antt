@@ -2,7 +2,7 @@ use Rattle.std.proofs.Common.{rules, ◌≡◌, ◌+◌, ◌∙◌, ℕ, List, O
 use Rattle.lex_semantics.specs.Text.{Among}
 use Rattle.lexauto_dfa.specs.Automata.{accepts_of, states_of}
 use Rattle.lexauto_reports.specs.Searching.{place_of}
-use Rattle.lexauto_reports.proofs.Accepting.{put_back}
+use Rattle.lexauto_dfa.proofs.Accepting.{put_back}
 use Rattle.lexlook_specs.specs.Placing.{IsLeastOf, TakesAt, least_place, takers}
 use Rattle.lexlook_specs.proofs.Places.{place_more}
 use Rattle.lexlook_specs.proofs.Takers.{takers_among}

@@ -1,7 +1,7 @@
 use Rattle.std.proofs.Common.{rules, ◌≡◌, ◌↔◌, ◌⊎◌, ◌<◌, ◌+◌, ◌∙◌, ℕ, Bool, false, List, Vec, Global, length, ap, sym, subst, arith}
 use Rattle.lex_semantics.specs.Text.{Among, flag}
 use Rattle.lexauto_dfa.specs.Automata.{accepts_of}
-use Rattle.lexauto_reports.proofs.Accepting.{put_back}
+use Rattle.lexauto_dfa.proofs.Accepting.{put_back}
 use Rattle.lexlook_specs.specs.Placing.{IsLeastOf, IsPlacedAt, TakesBelow, takers}
 use Rattle.lexlook_specs.proofs.Places.{below_more, below_not, is_nowhere, is_there, placed_least}
 use Rattle.lexlook_specs.proofs.words.placing.takers.Goals as goal
