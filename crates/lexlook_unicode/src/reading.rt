@@ -20,13 +20,31 @@ fn range_of(word: &str) -> Option<CodeRange> {
     })
 }
 
+/// Whether a set has this name, of those that it is called by.
+fn is_called(names: &str, name: &str) -> bool {
+    for one in names.split_whitespace() {
+        if one == name {
+            return true;
+        }
+    }
+    false
+}
+
+/// The ranges of a line of the table, if its set has this name.
+fn ranges_in(line: &'static str, name: &str) -> Option<&'static str> {
+    let (names, ranges) = line.split_once(':')?;
+    if is_called(names, name) {
+        Some(ranges)
+    } else {
+        None
+    }
+}
+
 /// The ranges of the set of this name, as the table has them, or None where it has no such name.
 fn listed(name: &str) -> Option<&'static str> {
     for line in SETS.lines() {
-        if let Some((names, ranges)) = line.split_once(':') {
-            if names.split_whitespace().any(|one| one == name) {
-                return Some(ranges);
-            }
+        if let Some(ranges) = ranges_in(line, name) {
+            return Some(ranges);
         }
     }
     None
