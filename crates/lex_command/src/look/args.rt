@@ -188,6 +188,22 @@ fn with_look<'a>(
     top.subcommand(file_command(alloc, name, files)?)
 }
 
+/// The words with these subcommands more, each with what its files are called.
+fn with_looks<'a>(
+    alloc: Global,
+    top: Command<'a>,
+    looks: &[(&'a str, &'a [&'a str])],
+) -> Result<Command<'a>, AllocError>
+    ensures { IfOk result (λ c. app_of c ≡ fold with_subcommand (app_of top.entry)
+        (map (λ look. (file_app look.0.now (map (λ file. needed_rule file.now) look.1.now)).top) looks.now)) }
+{
+    let mut with = top;
+    for &(name, files) in looks {
+        with = with_look(alloc, with, name, files)?;
+    }
+    Ok(with)
+}
+
 /// The words of `utf8`: its sets.
 fn sets_command<'a>(alloc: Global) -> Result<Command<'a>, AllocError>
     ensures { IfOk result (λ c. app_of c ≡ sets_app) }
@@ -243,22 +259,27 @@ fn with_check<'a>(alloc: Global, top: Command<'a>) -> Result<Command<'a>, AllocE
     top.subcommand(check_command(alloc)?)
 }
 
+const ONE: &[&str] = &["file"];
+
+/// The subcommands that have files and no words of their own.
+const LOOKS: &[(&str, &[&str])] = &[
+    ("picture", ONE),
+    ("same", &["left", "right"]),
+    ("lines", ONE),
+    ("words", ONE),
+    ("trace", ONE),
+];
+
 /// The words that the program knows.
 fn command<'a>(alloc: Global) -> Result<Command<'a>, AllocError>
     ensures { IfOk result (λ c. app_of c ≡ lexlook_app) }
 {
-    let one = &["file"];
-    let two = &["left", "right"];
     let top = Command::new(alloc, "lexlook")
         .no_binary_name(true)
         .disable_help_flag(true)
         .disable_help_subcommand(true)
         .subcommand_required(true);
-    let top = with_look(alloc, top, "picture", one)?;
-    let top = with_look(alloc, top, "same", two)?;
-    let top = with_look(alloc, top, "lines", one)?;
-    let top = with_look(alloc, top, "words", one)?;
-    let top = with_look(alloc, top, "trace", one)?;
+    let top = with_looks(alloc, top, LOOKS)?;
     let top = with_letters(alloc, top)?;
     with_check(alloc, top)
 }

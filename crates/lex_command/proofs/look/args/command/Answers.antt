@@ -1,16 +1,22 @@
-use Rattle.std.proofs.Common.{◌≡◌, ◌∙◌, ap, codes, rules}
+use Rattle.std.proofs.Common.{◌≡◌, ◌∙◌, ◌∷◌, [], ap, codes, fold, rules}
 use Rattle.std.proofs.lemmas.Result.{IfOk-weaker}
 use Rattle.clap.specs.Words.{App, app_of, with_subcommand}
 use Rattle.lex_command.specs.LookLine.{check_words, file_app, no_subcommand, one_file, sets_app, two_files}
 use Rattle.lex_command.proofs.look.args.command.Goals as goal
 
+-- the subcommands that have files and no words of their own
+abbrev with_files : App → App
+with_files a = fold with_subcommand a (
+    (file_app (codes "picture") one_file).top
+    ∷ (file_app (codes "same") two_files).top
+    ∷ (file_app (codes "lines") one_file).top
+    ∷ (file_app (codes "words") one_file).top
+    ∷ (file_app (codes "trace") one_file).top
+    ∷ [])
+
 pub returns : goal.returns
 returns c =
     let none : app_of c.subcommand_required-top.result ≡ no_subcommand = search rules in
-    let one = c.in_ok-top.ensures ∙ ap (λ (a : App). with_subcommand a (file_app (codes "picture") one_file).top) none in
-    let two = c.in_ok-top-2.ensures ∙ ap (λ (a : App). with_subcommand a (file_app (codes "same") two_files).top) one in
-    let three = c.in_ok-top-3.ensures ∙ ap (λ (a : App). with_subcommand a (file_app (codes "lines") one_file).top) two in
-    let four = c.in_ok-top-4.ensures ∙ ap (λ (a : App). with_subcommand a (file_app (codes "words") one_file).top) three in
-    let five = c.in_ok-top-5.ensures ∙ ap (λ (a : App). with_subcommand a (file_app (codes "trace") one_file).top) four in
-    let six = c.in_ok-top-6.ensures ∙ ap (λ (a : App). with_subcommand a sets_app.top) five in
+    let five = c.in_ok-top.ensures ∙ ap with_files none in
+    let six = c.in_ok-top-2.ensures ∙ ap (λ (a : App). with_subcommand a sets_app.top) five in
     IfOk-weaker c.with_check.result _ _ (λ new h. h ∙ ap (λ (a : App). with_subcommand a (file_app (codes "check") check_words).top) six) c.with_check.ensures
