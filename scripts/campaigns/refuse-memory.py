@@ -8,7 +8,7 @@ run in the same way: it ends well, or fails with an error that says that memory 
 
 LEX is the program as LLVM links it, as crates/lex/out/lex, and TESTS are tests that are linked so:
 crates/lextest_calls/out/lextest_calls_tests and crates/lextest_parts/out/lextest_parts_tests. The requests are those to the C library: a small library
-that counts them and refuses the Nth is made by cc in a folder of its own. It is no part of the gate."""
+that counts them and refuses the Nth is made by cc in a folder of its own. The gate runs it."""
 import os
 import subprocess
 import sys
