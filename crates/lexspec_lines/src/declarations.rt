@@ -14,7 +14,7 @@ ghost use Rattle.lexspec_lines.specs.Outcome.{UnlessMemory};
 ghost use Rattle.lexre.specs.declared.options.ReadOptions.{ReadOptions as Reading};
 
 use crate::definition::Definition;
-use crate::lines::next_word;
+use crate::lines::{has_word, next_word};
 use crate::skipped::Skipped;
 use lex_semantics::MAX_CONDITIONS;
 use lexre::{Defs, DefsError, ReadOptions};
@@ -80,21 +80,14 @@ fn declare(
     Ok(())
 }
 
+const KNOWN_OPTIONS: &[u8] =
+    b"noyywrap nounput noinput yylineno 8bit batch interactive always-interactive never-interactive case-insensitive stack";
+
 /// Whether the word is an option that is known, with or without an effect.
 fn is_known(word: &[u8]) -> bool
     ensures { result ≡ has_name known_options word.now }
 {
-    b"noyywrap".as_slice() == word
-        || b"nounput".as_slice() == word
-        || b"noinput".as_slice() == word
-        || b"yylineno".as_slice() == word
-        || b"8bit".as_slice() == word
-        || b"batch".as_slice() == word
-        || b"interactive".as_slice() == word
-        || b"always-interactive".as_slice() == word
-        || b"never-interactive".as_slice() == word
-        || b"case-insensitive".as_slice() == word
-        || b"stack".as_slice() == word
+    has_word(KNOWN_OPTIONS, word)
 }
 
 /// Whether patterns ignore case after these options, where `fold` says whether they do before. None where an option is
@@ -115,25 +108,11 @@ fn with_options(fold: bool, text: &[u8]) -> Option<bool>
     Some(folds)
 }
 
-/// Whether the option `stack` is among these.
-fn asks_stack(text: &[u8]) -> bool
-    ensures { result ≡ has_name (words text.now) (codes "stack") }
-{
-    let mut rest = text;
-    while let Some((word, after)) = next_word(rest) {
-        if word == b"stack".as_slice() {
-            return true;
-        }
-        rest = after;
-    }
-    false
-}
-
 /// Whether actions may push and pop after these options, where `stack` says whether they might before.
 fn with_stack(stack: bool, text: &[u8]) -> bool
     ensures { result ≡ (stack || has_name (words text.now) (codes "stack")) }
 {
-    stack || asks_stack(text)
+    stack || has_word(text, b"stack")
 }
 
 impl Declarations {

@@ -1,17 +1,17 @@
 //! The lines of the definitions section. (POSIX, lex, Definitions in lex; flex, Format of the Input File.)
 ghost use Rattle.std.specs.Prelude.{◌≡◌, ◌<◌, ◌&&◌, ◌==◌, if◌then◌else◌, List, [], ◌∷◌, ℕ};
 ghost use Rattle.std.specs.Prelude.{nat_eq, not, Option, Some, None, length, option_map, IfOk, OnErr, codes};
-ghost use Rattle.std.specs.List.{list_any, list_all, ends_with};
+ghost use Rattle.std.specs.List.{list_all, ends_with};
 ghost use Rattle.lexspec_lines.specs.Lines.{words};
 ghost use Rattle.lexspec_lines.specs.DefinitionLines.{DefinitionLine as Meant, options, ignored, is_name};
 ghost use Rattle.lexspec_lines.specs.DefinitionLines.{trimmed, declaration};
 ghost use Rattle.lexspec_lines.specs.DefinitionLines.{definition_in, percent_line, definition_at};
 ghost use Rattle.lexspec_lines.specs.DefinitionViews.{definition_of, are_names};
 ghost use Rattle.lex_semantics.specs.Reading.{begins};
-ghost use Rattle.lex_semantics.specs.ByteSets.{is_digit, same_bytes};
+ghost use Rattle.lex_semantics.specs.ByteSets.{is_digit};
 
 use crate::lines::{
-    is_all_blank, is_blank, next_word, skip_blanks, split_before, split_line, split_word,
+    has_word, is_all_blank, is_blank, next_word, skip_blanks, split_before, split_line, split_word,
     starts_blank,
 };
 use crate::skipping::{skip_block, skip_comment};
@@ -173,41 +173,15 @@ fn number(text: &[u8]) -> Option<Definition<'_>>
     Some(Definition::Ignored)
 }
 
-/// Whether the word declares inclusive conditions.
-fn declares_inclusive(word: &[u8]) -> bool
-    ensures { result ≡ list_any (same_bytes word.now) (words (codes "%s %S %start %Start")) }
-{
-    word == b"%s".as_slice()
-        || word == b"%S".as_slice()
-        || word == b"%start".as_slice()
-        || word == b"%Start".as_slice()
-}
+/// The words that declare inclusive conditions, and those that declare exclusive ones.
+const INCLUSIVE: &[u8] = b"%s %S %start %Start";
 
-/// Whether the word declares exclusive conditions.
-fn declares_exclusive(word: &[u8]) -> bool
-    ensures { result ≡ list_any (same_bytes word.now) (words (codes "%x %X")) }
-{
-    word == b"%x".as_slice() || word == b"%X".as_slice()
-}
+const EXCLUSIVE: &[u8] = b"%x %X";
 
-/// Whether the word says how yytext is kept.
-fn is_storage(word: &[u8]) -> bool
-    ensures { result ≡ list_any (same_bytes word.now) (words (codes "%array %pointer")) }
-{
-    word == b"%array".as_slice() || word == b"%pointer".as_slice()
-}
+/// The words that say how yytext is kept, and those that give the size of a table.
+const STORAGE: &[u8] = b"%array %pointer";
 
-/// Whether the word gives the size of a table.
-fn is_size(word: &[u8]) -> bool
-    ensures { result ≡ list_any (same_bytes word.now) (words (codes "%p %n %a %e %k %o")) }
-{
-    word == b"%p".as_slice()
-        || word == b"%n".as_slice()
-        || word == b"%a".as_slice()
-        || word == b"%e".as_slice()
-        || word == b"%k".as_slice()
-        || word == b"%o".as_slice()
-}
+const SIZES: &[u8] = b"%p %n %a %e %k %o";
 
 /// A line that begins with `%`.
 #[tactic(auto, unfolding(crate::specs::DefinitionLines::percent_line))]
@@ -215,15 +189,15 @@ fn percent_line(line: &[u8]) -> Option<Definition<'_>>
     ensures { ◌≡◌ {A = Option Meant} (option_map definition_of result) (percent_line line.now) }
 {
     let (word, rest) = split_word(line);
-    if declares_inclusive(word) {
+    if has_word(INCLUSIVE, word) {
         declaration(false, rest)
-    } else if declares_exclusive(word) {
+    } else if has_word(EXCLUSIVE, word) {
         declaration(true, rest)
     } else if word == b"%option".as_slice() {
         options(rest)
-    } else if is_storage(word) {
+    } else if has_word(STORAGE, word) {
         alone(rest)
-    } else if is_size(word) {
+    } else if has_word(SIZES, word) {
         number(rest)
     } else {
         None

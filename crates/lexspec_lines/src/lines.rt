@@ -2,7 +2,8 @@
 ghost use Rattle.std.specs.Prelude.{◌≡◌, ℕ, ◌<◌, ◌≤◌, ◌∷◌, [], ◌++◌, Bool, length, take, IfOk, IfSome, MatchOption};
 ghost use Rattle.std.specs.List.{list_any};
 ghost use Rattle.lex_semantics.specs.Reading.{after_blanks};
-ghost use Rattle.lex_semantics.specs.ByteSets.{is_blank};
+ghost use Rattle.lex_semantics.specs.ByteSets.{is_blank, same_bytes};
+ghost use Rattle.lexspec_lines.specs.DefinitionLines.{has_name};
 ghost use Rattle.lexspec_lines.specs.Lines.{without_returns, line_in, before_blank, words, is_all_blank};
 ghost use Rattle.lexspec_lines.specs.Runs.{split_before};
 
@@ -101,4 +102,19 @@ pub(crate) fn next_word(text: &[u8]) -> Option<(&[u8], &[u8])>
         return None;
     }
     Some(split_word(first))
+}
+
+/// Whether the word is among those of the text.
+pub(crate) fn has_word(text: &[u8], word: &[u8]) -> bool
+    ensures named { result ≡ has_name (words text.now) word.now }
+    ensures among { result ≡ list_any (same_bytes word.now) (words text.now) }
+{
+    let mut rest = text;
+    while let Some((one, after)) = next_word(rest) {
+        if one == word {
+            return true;
+        }
+        rest = after;
+    }
+    false
 }
