@@ -11,7 +11,6 @@ The program lex scans by each definition: all 1,112,064 code points, each once, 
 texts of random bytes and of code points cut short, of which BAD of share/utf8.l alone has to take what is no UTF-8.
 
 The version that is told has to be that of the files."""
-import itertools
 import re
 import subprocess
 import sys
@@ -33,17 +32,34 @@ def asked(lexlook, words):
 def bytes_of(members):
     """The bytes of a class, by what stands between its brackets."""
     ranges = re.findall(rf"{BYTE}(?:-{BYTE})?", members)
-    return [byte for low, high in ranges for byte in range(int(low, 16), int(high or low, 16) + 1)]
+    return [bytes([byte]) for low, high in ranges for byte in range(int(low, 16), int(high or low, 16) + 1)]
+
+
+def words_of(tokens):
+    """The words of the branches that the next tokens are, each so often as they have it. A `)` or the end stands behind them."""
+    found, series = [], [b""]
+    while tokens and tokens[-1] != ")":
+        token = tokens.pop()
+        if token == "|":
+            found, series = found + series, [b""]
+            continue
+        if token == "(":
+            inner = words_of(tokens)
+            tokens.pop()
+        else:
+            inner = bytes_of(token)
+        series = [front + behind for front in series for behind in inner]
+    return found + series
 
 
 def points_of(pattern):
     """The code points whose encodings are the words of a pattern, so often as there are branches that have them."""
-    found = []
-    for branch in pattern.split("|"):
-        if not re.fullmatch(rf"(\[({BYTE}(-{BYTE})?)+\])+", branch):
-            raise SystemExit(f"{branch}: no classes")
-        for word in itertools.product(*map(bytes_of, re.findall(r"\[([^]]*)\]", branch))):
-            found.append(ord(bytes(word).decode("utf-8")))
+    if not re.fullmatch(rf"(\[({BYTE}(-{BYTE})?)+\]|[(|)])+", pattern):
+        raise SystemExit(f"{pattern}: no classes in branches")
+    tokens = re.findall(r"\[[^]]*\]|[(|)]", pattern)[::-1]
+    found = [ord(word.decode("utf-8")) for word in words_of(tokens)]
+    if tokens:
+        raise SystemExit(f"{pattern}: a parenthesis too many")
     return found
 
 

@@ -7,7 +7,7 @@ use Rattle.lexre_bytes.specs.declared.refusals.SpecErrorKind.{SpecErrorKind}
 use Rattle.lexre_bytes.specs.declared.refusals.SpecErrorKind.TheVariants as kinds
 use Rattle.lexlook_check.specs.SourceLines.{under}
 use Rattle.lexlook_check.specs.declared.notices.NoticeKind.{NoticeKind}
-use Rattle.lexlook_check.specs.declared.notices.NoticeKind.TheVariants.{LettersAsBytes, LetterAlone}
+use Rattle.lexlook_check.specs.declared.notices.NoticeKind.TheVariants.{LettersAsBytes, LetterAlone, Backspace}
 
 -- of a pattern
 abbrev pub pattern_hint : PatternErrorKind → List ℕ
@@ -79,6 +79,8 @@ notice_hint LettersAsBytes =
     codes "a class has bytes, and a letter beyond ASCII is several of them: `lexlook utf8` and share/utf8.l have patterns of letters"
 notice_hint LetterAlone =
     codes "`\\d`, `\\s` and `\\w` are the letters themselves, and so are `\\D`, `\\S` and `\\W`: [0-9], [ \\t\\n] and [A-Za-z0-9_] are classes"
+notice_hint Backspace =
+    codes "`\\b` is a backspace, the byte 8: no sign stands for the end of a word, and the longest text is taken anyway"
 
 -- the line of it, below a line with this number
 abbrev pub hint_words : ℕ → List ℕ → List ℕ

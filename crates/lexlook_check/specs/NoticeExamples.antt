@@ -3,7 +3,7 @@ use Rattle.std.specs.Prelude.{◌≡◌, [], ◌∷◌, ◌++◌, Some, None, co
 use Rattle.lexlook_check.specs.DefinitionLines.{definition_lines}
 use Rattle.lexlook_check.specs.Notices.{notice_of}
 use Rattle.lexlook_check.specs.Pieces.{pieces_from}
-use Rattle.lexlook_check.specs.declared.notices.NoticeKind.TheVariants.{LettersAsBytes, LetterAlone}
+use Rattle.lexlook_check.specs.declared.notices.NoticeKind.TheVariants.{LettersAsBytes, LetterAlone, Backspace}
 
 pub record NoticeExamples : Type 0 where
   -- a class with a blank, quotes with one, a name, an escape, and a byte before the blank that ends the pattern
@@ -17,6 +17,10 @@ pub record NoticeExamples : Type 0 where
   pub escape : notice_of (codes "\\w") ≡ Some LetterAlone
   pub inside : notice_of (codes "[a\\D]") ≡ Some LetterAlone
   pub escaped : notice_of (codes "[\\\\d]") ≡ None
+  -- a backspace, and not in a class or in quotes
+  pub backspace : notice_of (codes "\\b") ≡ Some Backspace
+  pub in_class : notice_of (codes "[\\b]") ≡ None
+  pub in_quotes : notice_of (codes "\"\\b\"") ≡ None
   -- lines of a block and of a comment are no definitions
   pub definitions : definition_lines (codes "%{\nx a\n%}\n/* y\nz b */\nD c\n%%\ne f\n") ≡ (6, codes "D c\n%%\ne f\n")
       ∷ []

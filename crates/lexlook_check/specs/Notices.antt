@@ -8,7 +8,7 @@ use Rattle.lexlook_check.specs.DefinitionLines.{definition_lines, lines_from}
 use Rattle.lexlook_check.specs.Pieces.{pieces_from}
 use Rattle.lexlook_check.specs.declared.notices.Notice.{Notice}
 use Rattle.lexlook_check.specs.declared.notices.NoticeKind.{NoticeKind}
-use Rattle.lexlook_check.specs.declared.notices.NoticeKind.TheVariants.{LettersAsBytes, LetterAlone}
+use Rattle.lexlook_check.specs.declared.notices.NoticeKind.TheVariants.{LettersAsBytes, LetterAlone, Backspace}
 
 -- so many are told of a text at most
 abbrev pub max_notices : ℕ
@@ -27,7 +27,10 @@ escapes_letter escaped (c ∷ t) = (escaped && contains (codes "dDsSwW") c) || e
 -- what is warned of in a piece
 abbrev pub notice_of : List ℕ → Option NoticeKind
 notice_of piece =
-    if has_letters piece then Some LettersAsBytes else if escapes_letter false piece then Some LetterAlone else None
+    if has_letters piece then Some LettersAsBytes
+    else if escapes_letter false piece then Some LetterAlone
+    else if begins (codes "\\b") piece then Some Backspace
+    else None
 
 -- of a piece at its place in a line
 abbrev pub piece_notices : ℕ → ℕ × List ℕ → List Notice

@@ -129,6 +129,9 @@ pub(crate) fn notice_hint(kind: NoticeKind) -> &'static str
         NoticeKind::LetterAlone => {
             "`\\d`, `\\s` and `\\w` are the letters themselves, and so are `\\D`, `\\S` and `\\W`: [0-9], [ \\t\\n] and [A-Za-z0-9_] are classes"
         }
+        NoticeKind::Backspace => {
+            "`\\b` is a backspace, the byte 8: no sign stands for the end of a word, and the longest text is taken anyway"
+        }
     }
 }
 

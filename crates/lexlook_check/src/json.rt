@@ -73,6 +73,7 @@ fn what_name(what: What) -> &'static str
         What::Warned(false) => "UselessRule",
         What::Noticed(NoticeKind::LettersAsBytes) => "LettersAsBytes",
         What::Noticed(NoticeKind::LetterAlone) => "LetterAlone",
+        What::Noticed(NoticeKind::Backspace) => "Backspace",
         What::Fault(_) | What::Limit(_) => what_text(what),
     }
 }

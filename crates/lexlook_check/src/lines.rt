@@ -71,6 +71,7 @@ fn notice_text(kind: NoticeKind) -> &'static str
     match kind {
         NoticeKind::LettersAsBytes => "letters of a class as bytes",
         NoticeKind::LetterAlone => "letter behind a backslash",
+        NoticeKind::Backspace => "backspace by its escape",
     }
 }
 

@@ -20,6 +20,8 @@ pub enum NoticeKind {
     LettersAsBytes,
     /// A backslash before d, D, s, S, w or W, which stand for themselves.
     LetterAlone,
+    /// `\b` outside of classes and quotes: a backspace.
+    Backspace,
 }
 
 /// A place of a specification, and what is warned of there.
@@ -83,6 +85,8 @@ fn notice_of(piece: &[u8]) -> Option<NoticeKind>
         Some(NoticeKind::LettersAsBytes)
     } else if escapes_letter(piece) {
         Some(NoticeKind::LetterAlone)
+    } else if piece.starts_with(b"\\b") {
+        Some(NoticeKind::Backspace)
     } else {
         None
     }

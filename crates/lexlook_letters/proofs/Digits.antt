@@ -9,7 +9,7 @@ use Rattle.lex_semantics.specs.Reading.{◌>>=◌, begins, digit_of, take_up_to}
 use Rattle.lex_semantics.specs.Tree.{Set}
 use Rattle.lexre_bytes.specs.ClassSets.{class_set_at, member_at, members_at}
 use Rattle.lexre_bytes.specs.Lexical.{after_word, bracketed_at, class_at, class_name_at, class_set, element_at, enclosed_by, escape_at, range_at, span, symbol_at}
-use Rattle.lexre_bytes.specs.Symbols.{Symbol, item, bar}
+use Rattle.lexre_bytes.specs.Symbols.{Symbol, item, opening, closing, bar}
 use Rattle.lexre_bytes.proofs.ClassLaws.{first_step, finished, next_step, onto, plain_found, union-lt}
 use Rattle.lexre_bytes.proofs.SetLaws.{set_of-lt}
 use Rattle.lexlook_letters.specs.Sequences.{IsSoundRange}
@@ -154,3 +154,11 @@ class_symbol r rs t h sound = item_of (class_at (range_text r ++ ranges_then rs 
 pub bar_symbol : (t : List ℕ) → ◌≡◌ {A = Front} (symbol_at false (codes "|" ++ t)) (Some (bar, t))
 unfolding symbol_at
 bar_symbol t = refl
+
+pub opening_symbol : (t : List ℕ) → ◌≡◌ {A = Front} (symbol_at false (codes "(" ++ t)) (Some (opening, t))
+unfolding symbol_at
+opening_symbol t = refl
+
+pub closing_symbol : (t : List ℕ) → ◌≡◌ {A = Front} (symbol_at false (codes ")" ++ t)) (Some (closing, t))
+unfolding symbol_at
+closing_symbol t = refl

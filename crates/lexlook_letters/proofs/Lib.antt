@@ -2,8 +2,10 @@ pub mod Wholes
 pub mod Boxes
 pub mod Runs
 pub mod Digits
+pub mod Groups
+pub mod Nodes
+pub mod Written
 pub mod Spelled
 pub mod Words
-pub mod Nodes
 pub mod Apart
 pub mod Remainders

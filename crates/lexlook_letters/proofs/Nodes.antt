@@ -1,78 +1,85 @@
--- How many nodes the tree of sequences has.
-use Rattle.std.proofs.Common.{◌≡◌, ℕ, ◌+◌, ◌-◌, ◌<◌, ◌≤◌, length, get_or, drop, Bool, true, false, if◌then◌else◌, List, [], ◌∷◌, map, refl, sym, ap, ◌∙◌, arith}
-use Rattle.std.proofs.lemmas.List.{drop_more}
+-- How many nodes the tree of branches has, and the text of some branches and others behind them.
+use Rattle.std.proofs.Common.{◌≡◌, ℕ, ◌+◌, Bool, true, false, if◌then◌else◌, List, [], ◌∷◌, ◌++◌, refl, sym, ap, ◌∙◌, append_assoc, append-nil, arith}
+use Rattle.std.specs.Prelude.{codes}
 use Rattle.lex_semantics.specs.Shapes.{nodes, nodes_of}
-use Rattle.lex_semantics.specs.Tree.{Alt, trees}
+use Rattle.lex_semantics.specs.Tree.{Tree, Cat, Alt, trees}
 use Rattle.lexre_bytes.specs.Symbols.{grouped}
-use Rattle.lexlook_letters.specs.Text.{Branch, branch_tree, later_branches, letters_tree, more_lasts, same_front}
+use Rattle.lexlook_letters.specs.Text.{Branches, none, last, through, branches_text, choices, class_text, class_tree, no_branch, is_one, parts}
 use Rattle.lexlook_letters.specs.declared.sequence.ByteRange.{ByteRange}
-use Rattle.lexlook_letters.specs.declared.sequence.Sequence.{Sequence}
-use Rattle.lexlook_letters.specs.declared.sequence.Sequence.TheVariants.{One, Two, Three, Four}
+use Rattle.lexlook_letters.proofs.Groups.{followed_by}
 
--- the nodes of the branches behind that of a sequence
-abbrev pub later_nodes : Sequence → List Sequence → ℕ
-later_nodes s ss = nodes_of (trees (map branch_tree (later_branches s ss)))
+-- the nodes of the parts of the first branch, and of all branches
+abbrev pub part_nodes : Branches → ℕ
+part_nodes bs = nodes_of (trees (parts bs))
 
--- a branch has as many nodes, whatever its last ranges are
-same_nodes : (s : Sequence) (rs : List ByteRange) → nodes (branch_tree (s, rs)) ≡ nodes (branch_tree (s, []))
-same_nodes (One a) rs = refl
-same_nodes (Two a b) rs = refl
-same_nodes (Three a b c) rs = refl
-same_nodes (Four a b c d) rs = refl
+abbrev pub choice_nodes : Branches → ℕ
+choice_nodes bs = nodes_of (trees (choices bs))
 
-some_nodes : (s : Sequence) → (1 ≤ nodes (branch_tree (s, []))) × (nodes (branch_tree (s, [])) ≤ 5)
-some_nodes (One a) = (omega arith, omega arith)
-some_nodes (Two a b) = (omega arith, omega arith)
-some_nodes (Three a b c) = (omega arith, omega arith)
-some_nodes (Four a b c d) = (omega arith, omega arith)
+-- the bar before branches, and these
+abbrev pub barred : Branches → List ℕ
+barred bs = if no_branch bs then [] else codes "|" ++ branches_text bs
 
--- one sequence more
-pub later_step : (s t : Sequence) (ts : List Sequence)
-    → later_nodes s (t ∷ ts) ≡ (if same_front s t then 0 else nodes (branch_tree (t, []))) + later_nodes t ts
-later_step s t ts = go (same_front s t)
+-- what follows a range
+abbrev tail_trees : Branches → List Tree
+tail_trees bs = if is_one bs then parts bs else grouped Alt (choices bs) ∷ []
+
+some_tail : (inner : Branches) → no_branch inner ≡ false → (t : Tree) × (ts : List Tree) × (tail_trees inner ≡ t ∷ ts)
+some_tail none h = cc
+some_tail (last r rs bs) h = go (is_one (last r rs bs))
   where
-    go : (b : Bool) → nodes_of (trees (map branch_tree (if b then later_branches t ts else (t, more_lasts t ts) ∷ later_branches t ts)))
-        ≡ (if b then 0 else nodes (branch_tree (t, []))) + later_nodes t ts
-    go true = omega arith
-    go false = ap (λ n. n + later_nodes t ts) (same_nodes t (more_lasts t ts))
+    go : (b : Bool) → (t : Tree) × (ts : List Tree) × ((if b then parts (last r rs bs) else grouped Alt (choices (last r rs bs)) ∷ []) ≡ t ∷ ts)
+    go true = (_, _, refl)
+    go false = (_, _, refl)
+some_tail (through r inner bs) h = go (is_one (through r inner bs))
+  where
+    go : (b : Bool) → (t : Tree) × (ts : List Tree) × ((if b then parts (through r inner bs) else grouped Alt (choices (through r inner bs)) ∷ []) ≡ t ∷ ts)
+    go true = (_, _, refl)
+    go false = (_, _, refl)
 
-few_of : (s : Sequence) (rs : List ByteRange) (bs : List Branch) (most : ℕ) → 5 ≤ most
-    → 1 + nodes (branch_tree (s, [])) + nodes_of (trees (map branch_tree bs)) ≤ most → nodes (grouped Alt (map branch_tree ((s, rs) ∷ bs))) ≤ most
-few_of s rs [] most room h = let e = same_nodes s rs in let k = (some_nodes s).1 in omega (arith, e, k)
-few_of s rs (b ∷ bs) most room h = let e = same_nodes s rs in omega (arith, e, h)
+series_nodes : (t : Tree) (ts us : List Tree) (u : Tree) → ts ≡ u ∷ us → nodes (grouped Cat (t ∷ ts)) ≡ 1 + nodes_of (trees (t ∷ ts))
+series_nodes t ts us u e = rw e refl
 
-many_of : (s : Sequence) (rs : List ByteRange) (bs : List Branch) (most : ℕ) → 0 < nodes_of (trees (map branch_tree bs))
-    → most < 1 + nodes (branch_tree (s, [])) + nodes_of (trees (map branch_tree bs)) → most < nodes (grouped Alt (map branch_tree ((s, rs) ∷ bs)))
-many_of s rs [] most some h = absurd (omega (arith, some))
-many_of s rs (b ∷ bs) most some h = let e = same_nodes s rs in omega (arith, e, h)
+-- one branch that goes on
+pub through_choice : (r : ByteRange) (inner : Branches) → no_branch inner ≡ false → choice_nodes (through r inner none) ≡ 1 + part_nodes (through r inner none)
+through_choice r inner some =
+    let (t, ts, e) = some_tail inner some in
+    let k = series_nodes (class_tree r []) (tail_trees inner) ts t e in
+    omega (arith, k)
 
-pub few_nodes : (s : Sequence) (ss : List Sequence) (most : ℕ) → 5 ≤ most → 1 + nodes (branch_tree (s, [])) + later_nodes s ss ≤ most
-    → nodes (letters_tree (s ∷ ss)) ≤ most
-few_nodes s ss most room h = few_of s (more_lasts s ss) (later_branches s ss) most room h
+-- Some branches, and others behind them.
 
-pub many_nodes : (s : Sequence) (ss : List Sequence) (most : ℕ) → 0 < later_nodes s ss → most < 1 + nodes (branch_tree (s, [])) + later_nodes s ss
-    → most < nodes (letters_tree (s ∷ ss))
-many_nodes s ss most some h = many_of s (more_lasts s ss) (later_branches s ss) most some h
+pub followed_nodes : (bs cs : Branches) → choice_nodes (followed_by bs cs) ≡ choice_nodes bs + choice_nodes cs
+followed_nodes none cs = omega arith
+followed_nodes (last r rs bs) cs = let h = followed_nodes bs cs in omega (arith, h)
+followed_nodes (through r inner bs) cs = let h = followed_nodes bs cs in omega (arith, h)
 
--- The branches that are still to be counted.
+pub followed_text : (bs cs : Branches) → is_one bs ≡ true → branches_text (followed_by bs cs) ≡ branches_text bs ++ barred cs
+followed_text none cs h = cc
+followed_text (last r rs none) cs h = ap (λ x. x ++ barred cs) (sym (append-nil (class_text (r ∷ rs))))
+followed_text (last r rs (last q qs bs)) cs h = cc
+followed_text (last r rs (through q inner bs)) cs h = cc
+followed_text (through r inner none) cs h =
+    let tail : List ℕ = if is_one inner then branches_text inner else codes "(" ++ (branches_text inner ++ codes ")") in
+    ap (λ x. class_text (r ∷ []) ++ (x ++ barred cs)) (sym (append-nil tail)) ∙ sym (append_assoc (class_text (r ∷ [])) (tail ++ []) (barred cs))
+followed_text (through r inner (last q qs bs)) cs h = cc
+followed_text (through r inner (through q other bs)) cs h = cc
 
-abbrev AddedBy : Sequence → Sequence → ℕ
-AddedBy s t = if same_front s t then 0 else nodes (branch_tree (t, []))
+-- The tree.
 
-step_at : (s : Sequence) (ss : List Sequence) (i : ℕ) (d : Sequence) (added : ℕ) → i < length ss → added ≡ AddedBy s (get_or ss i d)
-    → later_nodes s (drop i ss) ≡ added + later_nodes (get_or ss i d) (drop (i + 1) ss)
-step_at s ss i d added h e =
-    ap (later_nodes s) (drop_more ss i d h) ∙ later_step s (get_or ss i d) (drop (i + 1) ss) ∙ ap (λ n. n + later_nodes (get_or ss i d) (drop (i + 1) ss)) (sym e)
+pub one_tree : (bs : Branches) → is_one bs ≡ true → nodes (grouped Alt (choices bs)) ≡ choice_nodes bs
+one_tree none h = cc
+one_tree (last r rs none) h = refl
+one_tree (last r rs (last q qs bs)) h = cc
+one_tree (last r rs (through q inner bs)) h = cc
+one_tree (through r inner none) h = omega arith
+one_tree (through r inner (last q qs bs)) h = cc
+one_tree (through r inner (through q other bs)) h = cc
 
-pub too_many : (first s : Sequence) (ss : List Sequence) (i : ℕ) (d : Sequence) (left added most : ℕ) → i < length ss → added ≡ AddedBy s (get_or ss i d)
-    → left + (1 + nodes (branch_tree (first, [])) + later_nodes first ss) ≡ most + later_nodes s (drop i ss) → 6 ≤ most → left < added
-    → most < nodes (letters_tree (first ∷ ss))
-too_many first s ss i d left added most h e counted room less =
-    let step = step_at s ss i d added h e in
-    let few = (some_nodes first).1 in
-    many_nodes first ss most (omega (arith, step, counted, less, few, room)) (omega (arith, step, counted, less))
-
-pub counted_more : (first s : Sequence) (ss : List Sequence) (i : ℕ) (d : Sequence) (left added most : ℕ) → i < length ss → added ≡ AddedBy s (get_or ss i d)
-    → left + (1 + nodes (branch_tree (first, [])) + later_nodes first ss) ≡ most + later_nodes s (drop i ss) → added ≤ left
-    → (left - added) + (1 + nodes (branch_tree (first, [])) + later_nodes first ss) ≡ most + later_nodes (get_or ss i d) (drop (i + 1) ss)
-counted_more first s ss i d left added most h e counted enough = let step = step_at s ss i d added h e in omega (arith, step, counted, enough)
+pub many_trees : (bs : Branches) → no_branch bs ≡ false → is_one bs ≡ false → nodes (grouped Alt (choices bs)) ≡ 1 + choice_nodes bs
+many_trees none h k = cc
+many_trees (last r rs none) h k = cc
+many_trees (last r rs (last q qs bs)) h k = refl
+many_trees (last r rs (through q inner bs)) h k = refl
+many_trees (through r inner none) h k = cc
+many_trees (through r inner (last q qs bs)) h k = refl
+many_trees (through r inner (through q other bs)) h k = refl

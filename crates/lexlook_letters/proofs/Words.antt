@@ -1,17 +1,18 @@
--- The words of the tree of sequences.
-use Rattle.std.proofs.Common.{◌≡◌, ◌↔◌, ℕ, ◌<◌, ◌≤◌, nat_le, Bool, true, false, if◌then◌else◌, ◌&&◌, ◌||◌, ◌==◌, List, [], ◌∷◌, ◌++◌, map, ◌⊎◌, inl, inr, refl, sym, ap, ◌∙◌, subst, arith}
-use Rattle.std.proofs.lemmas.Bool.{and_from, and_parts, eqb-true, le-leb, leb-true}
+-- The words of the tree of branches.
+use Rattle.std.proofs.Common.{◌≡◌, ◌↔◌, ℕ, zero, suc, ◌<◌, ◌≤◌, nat_le, Bool, true, false, if◌then◌else◌, ◌&&◌, ◌||◌, List, [], ◌∷◌, ◌++◌, ◌⊎◌, inl, inr, refl, sym, ap, ◌∙◌, subst, append-nil, arith}
+use Rattle.std.proofs.lemmas.Bool.{and_from, and_parts, le-leb, leb-true}
 use Rattle.std.specs.List.{AllByRecursion}
 use Rattle.lex_semantics.specs.ByteSets.{ByteSet, IsIn, has, range_set, union, within}
-use Rattle.lex_semantics.specs.Tree.{Alt, In, InEach, InSome, Set, trees}
+use Rattle.lex_semantics.specs.Tree.{Tree, Alt, Cat, In, InEach, InSome, trees}
 use Rattle.lexre_bytes.specs.Symbols.{grouped}
 use Rattle.lexre_bytes.proofs.SetLaws.{has-set_of}
-use Rattle.lexlook_letters.specs.Sequences.{FollowsOne, HasByteOfEach, IsSoundRange, IsSoundSequence, byte_ranges, bytes_between}
-use Rattle.lexlook_letters.specs.Text.{Branch, branch_tree, bytes_in, class_tree, front, last_range, later_branches, letters_tree, more_lasts, same_front, same_range}
+use Rattle.lexlook_letters.specs.Sequences.{FollowsOne, HasByteOfEach, IsSoundRange, IsSoundSequence, byte_ranges}
+use Rattle.lexlook_letters.specs.Text.{Branches, none, last, through, branches_at, bytes_in, choices, class_tree, no_branch, is_one, letters_tree, parts, same_range, with_ranges}
 use Rattle.lexlook_letters.specs.declared.sequence.ByteRange.{ByteRange}
 use Rattle.lexlook_letters.specs.declared.sequence.Sequence.{Sequence}
 use Rattle.lexlook_letters.specs.declared.sequence.Sequence.TheVariants.{One, Two, Three, Four}
-use Rattle.lexlook_letters.proofs.Spelled.{IsSoundBranch, last_sound, later_sound, more_sound}
+use Rattle.lexlook_letters.proofs.Groups.{range_is}
+use Rattle.lexlook_letters.proofs.Spelled.{IsSoundWithin, sound_branches}
 
 abbrev Bytes : Type 1
 Bytes = ℕ → Type 0
@@ -23,17 +24,25 @@ abbrev InRanges : List ByteRange → Bytes
 InRanges [] b = ⊥
 InRanges (r ∷ rs) b = Within r b ⊎ InRanges rs b
 
--- a byte out of each range, and a last one that is so
-abbrev EndsIn : List ByteRange → Bytes → List ℕ → Type 0
-EndsIn [] P w = (b : ℕ) × (w ≡ b ∷ []) × P b
-EndsIn (r ∷ rs) P w = (b : ℕ) × (v : List ℕ) × (w ≡ b ∷ v) × Within r b × EndsIn rs P v
+-- a byte out of ranges, and nothing more
+abbrev OfClass : ByteRange → List ByteRange → List ℕ → Type 0
+OfClass r rs w = (b : ℕ) × (w ≡ b ∷ []) × (Within r b ⊎ InRanges rs b)
 
-abbrev InBranch : Branch → List ℕ → Type 0
-InBranch b w = EndsIn (front b.0) (λ x. Within (last_range b.0) x ⊎ InRanges b.1 x) w
+-- a byte out of a range, and a word that is so
+abbrev Then : ByteRange → (List ℕ → Type 0) → List ℕ → Type 0
+Then r P w = (b : ℕ) × (v : List ℕ) × (w ≡ b ∷ v) × Within r b × P v
 
-abbrev InBranches : List Branch → List ℕ → Type 0
-InBranches [] w = ⊥
-InBranches (b ∷ bs) w = InBranch b w ⊎ InBranches bs w
+-- a word of one of the branches
+abbrev Follows : Branches → List ℕ → Type 0
+Follows none w = ⊥
+Follows (last r rs bs) w = OfClass r rs w ⊎ Follows bs w
+Follows (through r inner bs) w = Then r (Follows inner) w ⊎ Follows bs w
+
+-- a word of the first branch
+abbrev FollowsFirst : Branches → List ℕ → Type 0
+FollowsFirst none w = w ≡ []
+FollowsFirst (last r rs bs) w = OfClass r rs w
+FollowsFirst (through r inner bs) w = Then r (Follows inner) w
 
 -- Sets.
 
@@ -98,190 +107,202 @@ from_class : (r : ByteRange) (rs : List ByteRange) (b : ℕ) → IsSoundRange r 
 from_class r rs b one sound (inl h) = from_bytes (range_set r.first r.last) rs b sound (inl (is_in_range r b one h))
 from_class r rs b one sound (inr h) = from_bytes (range_set r.first r.last) rs b sound (inr h)
 
--- Words by their ends.
+-- Branches of sequences.
 
-ends_so : (rs : List ByteRange) (P Q : Bytes) → ((b : ℕ) → P b → Q b) → (w : List ℕ) → EndsIn rs P w → EndsIn rs Q w
-ends_so [] P Q h w (b, e, k) = (b, e, h b k)
-ends_so (r ∷ rs) P Q h w (b, v, e, l, rest) = (b, v, e, l, ends_so rs P Q h v rest)
+abbrev Words : Type 1
+Words = List ℕ → Type 0
 
-ends_either : (rs : List ByteRange) (P Q : Bytes) (w : List ℕ) → EndsIn rs (λ b. P b ⊎ Q b) w → EndsIn rs P w ⊎ EndsIn rs Q w
-ends_either [] P Q w (b, e, inl h) = inl (b, e, h)
-ends_either [] P Q w (b, e, inr h) = inr (b, e, h)
-ends_either (r ∷ rs) P Q w (b, v, e, l, rest) = elim (ends_either rs P Q v rest) [ inl h ↦ inl (b, v, e, l, h) | inr h ↦ inr (b, v, e, l, h) ]
+-- one range, before others or not
+class_first : (r : ByteRange) (w : List ℕ) (X : Type 0) → (OfClass r [] w ⊎ X) ↔ (HasByteOfEach (r ∷ []) w ⊎ X)
+class_first r w X = (to, from)
+  where
+    to : OfClass r [] w ⊎ X → HasByteOfEach (r ∷ []) w ⊎ X
+    to (inl (b, e, inl h)) = inl (b, [], e, h.0, h.1, refl)
+    to (inl (b, e, inr h)) = absurd h
+    to (inr h) = inr h
 
-ends_never : (rs : List ByteRange) (w : List ℕ) → EndsIn rs (λ b. ⊥) w → ⊥
-ends_never [] w (b, e, h) = h
-ends_never (r ∷ rs) w (b, v, e, l, rest) = ends_never rs v rest
+    from : HasByteOfEach (r ∷ []) w ⊎ X → OfClass r [] w ⊎ X
+    from (inl (b, v, e, h, k, done)) = inl (b, e ∙ ap (λ x. b ∷ x) done, inl (h, k))
+    from (inr h) = inr h
 
-to_end : (rs : List ByteRange) (r : ByteRange) (w : List ℕ) → HasByteOfEach (rs ++ r ∷ []) w → EndsIn rs (Within r) w
-to_end [] r w (b, v, e, l, m, done) = (b, e ∙ ap (λ x. b ∷ x) done, (l, m))
-to_end (s ∷ rs) r w (b, v, e, l, m, rest) = (b, v, e, (l, m), to_end rs r v rest)
+class_more : (r q : ByteRange) (qs : List ByteRange) (w : List ℕ) (X : Type 0) → (OfClass r (q ∷ qs) w ⊎ X) ↔ (HasByteOfEach (r ∷ []) w ⊎ (OfClass q qs w ⊎ X))
+class_more r q qs w X = (to, from)
+  where
+    to : OfClass r (q ∷ qs) w ⊎ X → HasByteOfEach (r ∷ []) w ⊎ (OfClass q qs w ⊎ X)
+    to (inl (b, e, inl h)) = inl (b, [], e, h.0, h.1, refl)
+    to (inl (b, e, inr h)) = inr (inl (b, e, h))
+    to (inr h) = inr (inr h)
 
-from_end : (rs : List ByteRange) (r : ByteRange) (w : List ℕ) → EndsIn rs (Within r) w → HasByteOfEach (rs ++ r ∷ []) w
-from_end [] r w (b, e, (l, m)) = (b, [], e, l, m, refl)
-from_end (s ∷ rs) r w (b, v, e, (l, m), rest) = (b, v, e, l, m, from_end rs r v rest)
+    from : HasByteOfEach (r ∷ []) w ⊎ (OfClass q qs w ⊎ X) → OfClass r (q ∷ qs) w ⊎ X
+    from (inl (b, v, e, h, k, done)) = inl (b, e ∙ ap (λ x. b ∷ x) done, inl (h, k))
+    from (inr (inl (b, e, h))) = inl (b, e, inr h)
+    from (inr (inr h)) = inr h
 
--- the ranges of a sequence are those before the last, and the last
-ends_with_last : (s : Sequence) → byte_ranges s ≡ front s ++ last_range s ∷ []
-ends_with_last (One a) = refl
-ends_with_last (Two a b) = refl
-ends_with_last (Three a b c) = refl
-ends_with_last (Four a b c d) = refl
+-- ranges that go on, before others
+range_first : (r : ByteRange) (rs : List ByteRange) (P : Words) (w : List ℕ) (X : Type 0) → ((v : List ℕ) → P v ↔ (HasByteOfEach rs v ⊎ ⊥))
+    → (Then r P w ⊎ X) ↔ (HasByteOfEach (r ∷ rs) w ⊎ X)
+range_first r rs P w X same = (to, from)
+  where
+    to : Then r P w ⊎ X → HasByteOfEach (r ∷ rs) w ⊎ X
+    to (inl (b, v, e, h, k)) = elim ((same v).0 k) [ inl l ↦ inl (b, v, e, h.0, h.1, l) | inr l ↦ absurd l ]
+    to (inr h) = inr h
 
-follows : (s : Sequence) (w : List ℕ) → HasByteOfEach (byte_ranges s) w → EndsIn (front s) (Within (last_range s)) w
-follows s w h = to_end (front s) (last_range s) w (subst (λ (x : List ByteRange). HasByteOfEach x w) (ends_with_last s) h)
+    from : HasByteOfEach (r ∷ rs) w ⊎ X → Then r P w ⊎ X
+    from (inl (b, v, e, h, k, l)) = inl (b, v, e, (h, k), (same v).1 (inl l))
+    from (inr h) = inr h
 
-is_followed : (s : Sequence) (w : List ℕ) → EndsIn (front s) (Within (last_range s)) w → HasByteOfEach (byte_ranges s) w
-is_followed s w h = subst (λ (x : List ByteRange). HasByteOfEach x w) (sym (ends_with_last s)) (from_end (front s) (last_range s) w h)
+range_more : (r q : ByteRange) (rs : List ByteRange) (P Q : Words) (w : List ℕ) (X : Type 0) → r ≡ q → ((v : List ℕ) → P v ↔ (HasByteOfEach rs v ⊎ Q v))
+    → (Then r P w ⊎ X) ↔ (HasByteOfEach (r ∷ rs) w ⊎ (Then q Q w ⊎ X))
+range_more r q rs P Q w X is same = (to, from)
+  where
+    to : Then r P w ⊎ X → HasByteOfEach (r ∷ rs) w ⊎ (Then q Q w ⊎ X)
+    to (inl (b, v, e, h, k)) = elim ((same v).0 k) [
+      | inl l ↦ inl (b, v, e, h.0, h.1, l)
+      | inr l ↦ inr (inl (b, v, e, subst (λ x. Within x b) is h, l))
+    ]
+    to (inr h) = inr (inr h)
 
--- Sequences by branches.
+    from : HasByteOfEach (r ∷ rs) w ⊎ (Then q Q w ⊎ X) → Then r P w ⊎ X
+    from (inl (b, v, e, h, k, l)) = inl (b, v, e, (h, k), (same v).1 (inl l))
+    from (inr (inl (b, v, e, h, l))) = inl (b, v, e, subst (λ x. Within x b) (sym is) h, (same v).1 (inr l))
+    from (inr (inr h)) = inr h
 
-range_is : (a b : ByteRange) → same_range a b ≡ true → a ≡ b
-range_is a b h =
-    let both = and_parts (a.first == b.first) (a.last == b.last) h in
-    ap (λ x. bytes_between x a.last) (eqb-true a.first b.first both.0) ∙ ap (λ x. bytes_between b.first x) (eqb-true a.last b.last both.1)
+either_words : (b : Bool) (r q : ByteRange) (rs : List ByteRange) (x y inner bs : Branches) (w : List ℕ) → same_range r q ≡ b
+    → ((v : List ℕ) → Follows x v ↔ (HasByteOfEach rs v ⊎ Follows inner v)) → ((v : List ℕ) → Follows y v ↔ (HasByteOfEach rs v ⊎ ⊥))
+    → Follows (if b then through r x bs else through r y (through q inner bs)) w ↔ (HasByteOfEach (r ∷ rs) w ⊎ Follows (through q inner bs) w)
+either_words true r q rs x y inner bs w e one other = range_more r q rs (Follows x) (Follows inner) w (Follows bs w) (range_is r q e) one
+either_words false r q rs x y inner bs w e one other = range_first r rs (Follows y) w (Follows (through q inner bs) w) other
 
-two_are : (a b c d : ByteRange) → a ≡ c → b ≡ d → ◌≡◌ {A = List ByteRange} (a ∷ b ∷ []) (c ∷ d ∷ [])
-two_are a b c d e f = ap (λ x. x ∷ b ∷ []) e ∙ ap (λ x. c ∷ x ∷ []) f
+with_words : (rs : List ByteRange) (r : ByteRange) (bs : Branches) (w : List ℕ) → Follows (with_ranges (r ∷ rs) bs) w ↔ (HasByteOfEach (r ∷ rs) w ⊎ Follows bs w)
+with_words [] r none w = class_first r w ⊥
+with_words [] r (last q qs bs) w = class_more r q qs w (Follows bs w)
+with_words [] r (through q inner bs) w = class_first r w (Follows (through q inner bs) w)
+with_words (s ∷ rs) r none w = range_first r (s ∷ rs) (Follows (with_ranges (s ∷ rs) none)) w ⊥ (with_words rs s none)
+with_words (s ∷ rs) r (last q qs bs) w = range_first r (s ∷ rs) (Follows (with_ranges (s ∷ rs) none)) w (Follows (last q qs bs) w) (with_words rs s none)
+with_words (s ∷ rs) r (through q inner bs) w =
+    either_words (same_range r q) r q (s ∷ rs) (with_ranges (s ∷ rs) inner) (with_ranges (s ∷ rs) none) inner bs w refl (with_words rs s inner) (with_words rs s none)
 
-three_are : (a b c d e f : ByteRange) → a ≡ d → b ≡ e → c ≡ f → ◌≡◌ {A = List ByteRange} (a ∷ b ∷ c ∷ []) (d ∷ e ∷ f ∷ [])
-three_are a b c d e f h k l = ap (λ x. x ∷ b ∷ c ∷ []) h ∙ ap (λ x. d ∷ x) (two_are b c e f k l)
+with_sequence : (s : Sequence) (bs : Branches) (w : List ℕ) → Follows (with_ranges (byte_ranges s) bs) w ↔ (HasByteOfEach (byte_ranges s) w ⊎ Follows bs w)
+with_sequence (One a) bs w = with_words [] a bs w
+with_sequence (Two a b) bs w = with_words (b ∷ []) a bs w
+with_sequence (Three a b c) bs w = with_words (b ∷ c ∷ []) a bs w
+with_sequence (Four a b c d) bs w = with_words (b ∷ c ∷ d ∷ []) a bs w
 
-front_is : (s t : Sequence) → same_front s t ≡ true → front s ≡ front t
-front_is (One a) (One b) h = refl
-front_is (Two a b) (Two c d) h = ap (λ x. x ∷ []) (range_is a c h)
-front_is (Three a b c) (Three d e f) h =
-    let both = and_parts (same_range a d) (same_range b e) h in
-    two_are a b d e (range_is a d both.0) (range_is b e both.1)
-front_is (Four a b c d) (Four e f g i) h =
-    let both = and_parts (same_range a e) (same_range b f && same_range c g) h in
-    let more = and_parts (same_range b f) (same_range c g) both.1 in
-    three_are a b c e f g (range_is a e both.0) (range_is b f more.0) (range_is c g more.1)
-front_is s t h = cc
+to_sequences : (ss : List Sequence) (w : List ℕ) → Follows (branches_at 0 ss) w → FollowsOne ss w
+to_sequences [] w h = h
+to_sequences (s ∷ ss) w h = elim ((with_sequence s (branches_at 0 ss) w).0 h) [ inl k ↦ inl k | inr k ↦ inr (to_sequences ss w k) ]
 
--- what follows a sequence, in its branch or in a later one
-abbrev Behind : Sequence → List Sequence → List ℕ → Type 0
-Behind s ss w = EndsIn (front s) (InRanges (more_lasts s ss)) w ⊎ InBranches (later_branches s ss) w
-
--- the same where it is known whether the next one is in its branch
-abbrev BehindBy : Bool → Sequence → Sequence → List Sequence → List ℕ → Type 0
-BehindBy b s t ts w =
-    EndsIn (front s) (InRanges (if b then last_range t ∷ more_lasts t ts else [])) w ⊎ InBranches (if b then later_branches t ts else (t, more_lasts t ts) ∷ later_branches t ts) w
-
-to_behind : (s t : Sequence) (ts : List Sequence) (w : List ℕ) (b : Bool) → same_front s t ≡ b → EndsIn (front t) (Within (last_range t)) w ⊎ Behind t ts w → BehindBy b s t ts w
-to_behind s t ts w true e (inl h) =
-    let P : List ByteRange → Type 0 = λ x. EndsIn x (InRanges (last_range t ∷ more_lasts t ts)) w in
-    inl (subst P (sym (front_is s t e)) (ends_so (front t) (Within (last_range t)) (InRanges (last_range t ∷ more_lasts t ts)) (λ x k. inl k) w h))
-to_behind s t ts w true e (inr (inl h)) =
-    let P : List ByteRange → Type 0 = λ x. EndsIn x (InRanges (last_range t ∷ more_lasts t ts)) w in
-    inl (subst P (sym (front_is s t e)) (ends_so (front t) (InRanges (more_lasts t ts)) (InRanges (last_range t ∷ more_lasts t ts)) (λ x k. inr k) w h))
-to_behind s t ts w true e (inr (inr h)) = inr h
-to_behind s t ts w false e (inl h) =
-    inr (inl (ends_so (front t) (Within (last_range t)) (λ x. Within (last_range t) x ⊎ InRanges (more_lasts t ts) x) (λ x k. inl k) w h))
-to_behind s t ts w false e (inr (inl h)) =
-    inr (inl (ends_so (front t) (InRanges (more_lasts t ts)) (λ x. Within (last_range t) x ⊎ InRanges (more_lasts t ts) x) (λ x k. inr k) w h))
-to_behind s t ts w false e (inr (inr h)) = inr (inr h)
-
--- a branch is its first sequence, or what follows it
-parted : (t : Sequence) (ts : List Sequence) (w : List ℕ) → EndsIn (front t) (λ x. Within (last_range t) x ⊎ InRanges (more_lasts t ts) x) w
-    → EndsIn (front t) (Within (last_range t)) w ⊎ Behind t ts w
-parted t ts w h = elim (ends_either (front t) (Within (last_range t)) (InRanges (more_lasts t ts)) w h) [ inl k ↦ inl k | inr k ↦ inr (inl k) ]
-
-from_behind : (s t : Sequence) (ts : List Sequence) (w : List ℕ) (b : Bool) → same_front s t ≡ b → BehindBy b s t ts w → EndsIn (front t) (Within (last_range t)) w ⊎ Behind t ts w
-from_behind s t ts w true e (inl h) =
-    parted t ts w (subst (λ (x : List ByteRange). EndsIn x (InRanges (last_range t ∷ more_lasts t ts)) w) (front_is s t e) h)
-from_behind s t ts w true e (inr h) = inr (inr h)
-from_behind s t ts w false e (inl h) = absurd (ends_never (front s) w h)
-from_behind s t ts w false e (inr (inl h)) = parted t ts w h
-from_behind s t ts w false e (inr (inr h)) = inr (inr h)
-
-is_behind : (s : Sequence) (ss : List Sequence) (w : List ℕ) → FollowsOne ss w → Behind s ss w
-is_behind s [] w h = absurd h
-is_behind s (t ∷ ts) w (inl h) = to_behind s t ts w (same_front s t) refl (inl (follows t w h))
-is_behind s (t ∷ ts) w (inr h) = to_behind s t ts w (same_front s t) refl (inr (is_behind t ts w h))
-
-of_behind : (s : Sequence) (ss : List Sequence) (w : List ℕ) → Behind s ss w → FollowsOne ss w
-of_behind s [] w (inl h) = absurd (ends_never (front s) w h)
-of_behind s [] w (inr h) = absurd h
-of_behind s (t ∷ ts) w h = elim (from_behind s t ts w (same_front s t) refl h) [
-  | inl k ↦ inl (is_followed t w k)
-  | inr k ↦ inr (of_behind t ts w k)
-]
+from_sequences : (ss : List Sequence) (w : List ℕ) → FollowsOne ss w → Follows (branches_at 0 ss) w
+from_sequences [] w h = h
+from_sequences (s ∷ ss) w (inl h) = (with_sequence s (branches_at 0 ss) w).1 (inl h)
+from_sequences (s ∷ ss) w (inr h) = (with_sequence s (branches_at 0 ss) w).1 (inr (from_sequences ss w h))
 
 -- Trees.
 
-to_each : (rs : List ByteRange) (s : ByteSet) (w : List ℕ) → InEach (trees (map (λ r. class_tree r []) rs ++ Set s ∷ [])) w → EndsIn rs (IsIn s) w
-to_each [] s w (u, v, e, (b, f, is), done) = (b, e ∙ ap (λ x. x ++ v) f ∙ ap (λ x. b ∷ x) done, is)
-to_each (r ∷ rs) s w (u, v, e, (b, f, is), rest) = (b, v, e ∙ ap (λ x. x ++ v) f, in_range_of r b is, to_each rs s v rest)
+to_alt : (t : Tree) (ts : List Tree) (w : List ℕ) → In (grouped Alt (t ∷ ts)) w → InSome (trees (t ∷ ts)) w
+to_alt t [] w h = inl h
+to_alt t (u ∷ ts) w h = h
 
-from_each : (rs : List ByteRange) (s : ByteSet) (w : List ℕ) → AllByRecursion IsSoundRange rs → EndsIn rs (IsIn s) w → InEach (trees (map (λ r. class_tree r []) rs ++ Set s ∷ [])) w
-from_each [] s w sound (b, e, is) = (b ∷ [], [], e, (b, refl, is), refl)
-from_each (r ∷ rs) s w sound (b, v, e, l, rest) = (b ∷ [], v, e, (b, refl, is_in_range r b sound.0 l), from_each rs s v sound.1 rest)
+from_alt : (t : Tree) (ts : List Tree) (w : List ℕ) → InSome (trees (t ∷ ts)) w → In (grouped Alt (t ∷ ts)) w
+from_alt t [] w (inl h) = h
+from_alt t [] w (inr h) = absurd h
+from_alt t (u ∷ ts) w h = h
 
-to_branch : (s : Sequence) (rs : List ByteRange) (w : List ℕ) → In (branch_tree (s, rs)) w → EndsIn (front s) (IsIn (bytes_in (range_set (last_range s).first (last_range s).last) rs)) w
-to_branch (One a) rs w h = h
-to_branch (Two a b) rs w h = to_each (a ∷ []) _ w h
-to_branch (Three a b c) rs w h = to_each (a ∷ b ∷ []) _ w h
-to_branch (Four a b c d) rs w h = to_each (a ∷ b ∷ c ∷ []) _ w h
+to_cat : (t : Tree) (ts : List Tree) (w : List ℕ) → In (grouped Cat (t ∷ ts)) w → InEach (trees (t ∷ ts)) w
+to_cat t [] w h = (w, [], sym (append-nil w), h, refl)
+to_cat t (u ∷ ts) w h = h
 
-from_branch : (s : Sequence) (rs : List ByteRange) (w : List ℕ) → IsSoundSequence s
-    → EndsIn (front s) (IsIn (bytes_in (range_set (last_range s).first (last_range s).last) rs)) w → In (branch_tree (s, rs)) w
-from_branch (One a) rs w sound h = h
-from_branch (Two a b) rs w sound h = from_each (a ∷ []) _ w (sound.0, tt) h
-from_branch (Three a b c) rs w sound h = from_each (a ∷ b ∷ []) _ w (sound.0, (sound.1.0, tt)) h
-from_branch (Four a b c d) rs w sound h = from_each (a ∷ b ∷ c ∷ []) _ w (sound.0, (sound.1.0, (sound.1.1.0, tt))) h
+from_cat : (t : Tree) (ts : List Tree) (w : List ℕ) → InEach (trees (t ∷ ts)) w → In (grouped Cat (t ∷ ts)) w
+from_cat t [] w (u, v, e, h, done) = subst (In t) (sym (e ∙ ap (λ x. u ++ x) done ∙ append-nil u)) h
+from_cat t (u ∷ ts) w h = h
 
-to_in_branch : (s : Sequence) (rs : List ByteRange) (w : List ℕ) → In (branch_tree (s, rs)) w → InBranch (s, rs) w
-to_in_branch s rs w h =
-    ends_so (front s) (IsIn (bytes_in (range_set (last_range s).first (last_range s).last) rs)) (λ x. Within (last_range s) x ⊎ InRanges rs x)
-    (to_class (last_range s) rs) w (to_branch s rs w h)
+-- a choice of some branches
+to_choice : (bs : Branches) (w : List ℕ) → no_branch bs ≡ false → In (grouped Alt (choices bs)) w → InSome (trees (choices bs)) w
+to_choice none w some h = absurd cc
+to_choice (last r rs bs) w some h = to_alt (class_tree r rs) (choices bs) w h
+to_choice (through r inner bs) w some h = to_alt _ (choices bs) w h
 
-from_in_branch : (s : Sequence) (rs : List ByteRange) (w : List ℕ) → IsSoundSequence s → AllByRecursion IsSoundRange rs → InBranch (s, rs) w → In (branch_tree (s, rs)) w
-from_in_branch s rs w sound more h =
-    from_branch s rs w sound
-    (ends_so (front s) (λ x. Within (last_range s) x ⊎ InRanges rs x) (IsIn (bytes_in (range_set (last_range s).first (last_range s).last) rs))
-    (λ x k. from_class (last_range s) rs x (last_sound s sound) more k) w h)
+from_choice : (bs : Branches) (w : List ℕ) → no_branch bs ≡ false → InSome (trees (choices bs)) w → In (grouped Alt (choices bs)) w
+from_choice none w some h = absurd cc
+from_choice (last r rs bs) w some h = from_alt (class_tree r rs) (choices bs) w h
+from_choice (through r inner bs) w some h = from_alt _ (choices bs) w h
 
-to_some : (bs : List Branch) (w : List ℕ) → InSome (trees (map branch_tree bs)) w → InBranches bs w
-to_some [] w h = h
-to_some (b ∷ bs) w (inl h) = inl (to_in_branch b.0 b.1 w h)
-to_some (b ∷ bs) w (inr h) = inr (to_some bs w h)
+-- a class, and what follows it
 
-from_some : (bs : List Branch) (w : List ℕ) → AllByRecursion IsSoundBranch bs → InBranches bs w → InSome (trees (map branch_tree bs)) w
-from_some [] w sound h = h
-from_some (b ∷ bs) w sound (inl h) = inl (from_in_branch b.0 b.1 w sound.0.0 sound.0.1 h)
-from_some (b ∷ bs) w sound (inr h) = inr (from_some bs w sound.1 h)
+to_then : (r : ByteRange) (ts : List Tree) (P : Words) (w : List ℕ) → ((v : List ℕ) → InEach (trees ts) v → P v) → InEach (trees (class_tree r [] ∷ ts)) w → Then r P w
+to_then r ts P w so (u, v, e, (b, f, is), rest) = (b, v, e ∙ ap (λ x. x ++ v) f, in_range_of r b is, so v rest)
 
-to_branches : (b : Branch) (bs : List Branch) (w : List ℕ) → In (grouped Alt (map branch_tree (b ∷ bs))) w → InBranches (b ∷ bs) w
-to_branches b [] w h = inl (to_in_branch b.0 b.1 w h)
-to_branches b (c ∷ bs) w h = to_some (b ∷ c ∷ bs) w h
+from_then : (r : ByteRange) (ts : List Tree) (P : Words) (w : List ℕ) → IsSoundRange r → ((v : List ℕ) → P v → InEach (trees ts) v) → Then r P w
+    → InEach (trees (class_tree r [] ∷ ts)) w
+from_then r ts P w sound so (b, v, e, h, rest) = (b ∷ [], v, e, (b, refl, is_in_range r b sound h), so v rest)
 
-from_branches : (b : Branch) (bs : List Branch) (w : List ℕ) → AllByRecursion IsSoundBranch (b ∷ bs) → InBranches (b ∷ bs) w
-    → In (grouped Alt (map branch_tree (b ∷ bs))) w
-from_branches b [] w sound (inl h) = from_in_branch b.0 b.1 w sound.0.0 sound.0.1 h
-from_branches b [] w sound (inr h) = absurd h
-from_branches b (c ∷ bs) w sound h = from_some (b ∷ c ∷ bs) w sound h
+abbrev tails_by : Bool → Branches → List Tree
+tails_by one bs = if one then parts bs else grouped Alt (choices bs) ∷ []
 
-to_sequences : (s : Sequence) (ss : List Sequence) (w : List ℕ) → InBranches ((s, more_lasts s ss) ∷ later_branches s ss) w → FollowsOne (s ∷ ss) w
-to_sequences s ss w (inl h) = elim (parted s ss w h) [ inl k ↦ inl (is_followed s w k) | inr k ↦ inr (of_behind s ss w k) ]
-to_sequences s ss w (inr h) = inr (of_behind s ss w (inr h))
+only_first : (bs : Branches) (w : List ℕ) → is_one bs ≡ true → FollowsFirst bs w ↔ Follows bs w
+only_first none w h = cc
+only_first (last r rs none) w h = ((λ k. inl k), (λ k. elim k [ inl l ↦ l | inr l ↦ absurd l ]))
+only_first (last r rs (last q qs bs)) w h = cc
+only_first (last r rs (through q inner bs)) w h = cc
+only_first (through r inner none) w h = ((λ k. inl k), (λ k. elim k [ inl l ↦ l | inr l ↦ absurd l ]))
+only_first (through r inner (last q qs bs)) w h = cc
+only_first (through r inner (through q other bs)) w h = cc
 
-from_sequences : (s : Sequence) (ss : List Sequence) (w : List ℕ) → FollowsOne (s ∷ ss) w → InBranches ((s, more_lasts s ss) ∷ later_branches s ss) w
-from_sequences s ss w (inl h) =
-    inl (ends_so (front s) (Within (last_range s)) (λ x. Within (last_range s) x ⊎ InRanges (more_lasts s ss) x) (λ x k. inl k) w (follows s w h))
-from_sequences s ss w (inr h) = elim (is_behind s ss w h) [
-  | inl k ↦ inl (ends_so (front s) (InRanges (more_lasts s ss)) (λ x. Within (last_range s) x ⊎ InRanges (more_lasts s ss) x) (λ x l. inr l) w k)
-  | inr k ↦ inr k
-]
+to_tail : (bs : Branches) (b : Bool) → is_one bs ≡ b → no_branch bs ≡ false → ((v : List ℕ) → InEach (trees (parts bs)) v → FollowsFirst bs v)
+    → ((v : List ℕ) → InSome (trees (choices bs)) v → Follows bs v) → (v : List ℕ) → InEach (trees (tails_by b bs)) v → Follows bs v
+to_tail bs true e some first all v h = (only_first bs v e).0 (first v h)
+to_tail bs false e some first all v (u, x, f, h, done) =
+    all v (to_choice bs v some (subst (In (grouped Alt (choices bs))) (sym (f ∙ ap (λ y. u ++ y) done ∙ append-nil u)) h))
 
--- the words of the tree of one sequence or more
-letters_words : (s : Sequence) (ss : List Sequence) → AllByRecursion IsSoundSequence (s ∷ ss) → (w : List ℕ) → In (letters_tree (s ∷ ss)) w ↔ FollowsOne (s ∷ ss) w
-letters_words s ss sound w = (
-  λ h. to_sequences s ss w (to_branches (s, more_lasts s ss) (later_branches s ss) w h),
-  λ h. from_branches (s, more_lasts s ss) (later_branches s ss) w ((sound.0, more_sound s ss sound.1), later_sound s ss sound.1) (from_sequences s ss w h),
-)
+from_tail : (bs : Branches) (b : Bool) → is_one bs ≡ b → no_branch bs ≡ false → ((v : List ℕ) → FollowsFirst bs v → InEach (trees (parts bs)) v)
+    → ((v : List ℕ) → Follows bs v → InSome (trees (choices bs)) v) → (v : List ℕ) → Follows bs v → InEach (trees (tails_by b bs)) v
+from_tail bs true e some first all v h = first v ((only_first bs v e).1 h)
+from_tail bs false e some first all v h = (v, [], sym (append-nil v), from_choice bs v some (all v h), refl)
 
-pub words_as : (ss more : List Sequence) (s : Sequence) → ss ≡ s ∷ more → AllByRecursion IsSoundSequence ss → (w : List ℕ) → In (letters_tree ss) w ↔ FollowsOne ss w
-words_as ss more s e =
-    let P : List Sequence → Type 0 = λ x. AllByRecursion IsSoundSequence x → (w : List ℕ) → In (letters_tree x) w ↔ FollowsOne x w in
-    subst P (sym e) (letters_words s more)
+mutual
+  to_first : (bs : Branches) (d : ℕ) → IsSoundWithin d bs → (w : List ℕ) → InEach (trees (parts bs)) w → FollowsFirst bs w
+  to_first none d sound w h = h
+  to_first (last r rs bs) d sound w (u, v, e, (b, f, is), done) = (b, e ∙ ap (λ x. x ++ v) f ∙ ap (λ x. b ∷ x) done, to_class r rs b is)
+  to_first (through r inner bs) zero sound w h = absurd sound
+  to_first (through r inner bs) (suc d) sound w h =
+      to_then r (tails_by (is_one inner) inner) (Follows inner) w (to_tail inner (is_one inner) refl sound.1 (to_first inner d sound.2) (to_all inner d sound.2)) h
+
+  to_all : (bs : Branches) (d : ℕ) → IsSoundWithin d bs → (w : List ℕ) → InSome (trees (choices bs)) w → Follows bs w
+  to_all none d sound w h = h
+  to_all (last r rs bs) d sound w (inl (b, f, is)) = inl (b, f, to_class r rs b is)
+  to_all (last r rs bs) d sound w (inr h) = inr (to_all bs d sound.2 w h)
+  to_all (through r inner bs) zero sound w h = absurd sound
+  to_all (through r inner bs) (suc d) sound w (inl h) =
+      inl (to_then r (tails_by (is_one inner) inner) (Follows inner) w (to_tail inner (is_one inner) refl sound.1 (to_first inner d sound.2) (to_all inner d sound.2))
+      (to_cat (class_tree r []) (tails_by (is_one inner) inner) w h))
+  to_all (through r inner bs) (suc d) sound w (inr h) = inr (to_all bs (suc d) sound.3 w h)
+
+mutual
+  from_first : (bs : Branches) (d : ℕ) → IsSoundWithin d bs → (w : List ℕ) → FollowsFirst bs w → InEach (trees (parts bs)) w
+  from_first none d sound w h = h
+  from_first (last r rs bs) d sound w (b, e, is) = (b ∷ [], [], e, (b, refl, from_class r rs b sound.0 sound.1 is), refl)
+  from_first (through r inner bs) zero sound w h = absurd sound
+  from_first (through r inner bs) (suc d) sound w h =
+      from_then r (tails_by (is_one inner) inner) (Follows inner) w sound.0
+      (from_tail inner (is_one inner) refl sound.1 (from_first inner d sound.2) (from_all inner d sound.2)) h
+
+  from_all : (bs : Branches) (d : ℕ) → IsSoundWithin d bs → (w : List ℕ) → Follows bs w → InSome (trees (choices bs)) w
+  from_all none d sound w h = h
+  from_all (last r rs bs) d sound w (inl (b, f, is)) = inl (b, f, from_class r rs b sound.0 sound.1 is)
+  from_all (last r rs bs) d sound w (inr h) = inr (from_all bs d sound.2 w h)
+  from_all (through r inner bs) zero sound w h = absurd sound
+  from_all (through r inner bs) (suc d) sound w (inl h) =
+      inl (from_cat (class_tree r []) (tails_by (is_one inner) inner) w
+      (from_then r (tails_by (is_one inner) inner) (Follows inner) w sound.0
+      (from_tail inner (is_one inner) refl sound.1 (from_first inner d sound.2) (from_all inner d sound.2)) h))
+  from_all (through r inner bs) (suc d) sound w (inr h) = inr (from_all bs (suc d) sound.3 w h)
+
+-- the words of the tree of some sequences
+pub letters_words : (ss : List Sequence) → AllByRecursion IsSoundSequence ss → no_branch (branches_at 0 ss) ≡ false → (w : List ℕ)
+    → In (letters_tree ss) w ↔ FollowsOne ss w
+letters_words ss sound some w =
+    let bs : Branches = branches_at 0 ss in
+    let within = sound_branches ss sound in (
+      λ h. to_sequences ss w (to_all bs 64 within w (to_choice bs w some h)),
+      λ h. from_choice bs w some (from_all bs 64 within w (from_sequences ss w h)),
+    )

@@ -16,6 +16,12 @@ byte_ranges (Two a b) = a ∷ b ∷ []
 byte_ranges (Three a b c) = a ∷ b ∷ c ∷ []
 byte_ranges (Four a b c d) = a ∷ b ∷ c ∷ d ∷ []
 
+abbrev pub last_range : Sequence → ByteRange
+last_range (One a) = a
+last_range (Two a b) = b
+last_range (Three a b c) = c
+last_range (Four a b c d) = d
+
 -- a byte out of each range
 abbrev pub HasByteOfEach : List ByteRange → List ℕ → Type 0
 HasByteOfEach [] w = w ≡ []

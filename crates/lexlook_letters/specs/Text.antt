@@ -1,7 +1,7 @@
--- The pattern of sequences, as a text and as a tree. Sequences next to each other that have the same first bytes, and
--- differ in the last one alone, are one branch of it. (POSIX, lex, Regular Expressions in lex; escapes as in C. The
--- branches are this project's.)
-use Rattle.std.specs.Prelude.{◌≡◌, ◌↔◌, ℕ, ◌+◌, ◌/◌, ◌%◌, ◌==◌, ◌&&◌, nat_lt, if◌then◌else◌, Bool, true, false, List, [], ◌∷◌, ◌++◌, map, codes}
+-- The pattern of sequences, as a text and as a tree. Sequences next to each other that begin with the same ranges are
+-- one branch up to there, with those that differ in the last range alone as one class. (POSIX, lex, Regular Expressions
+-- in lex; escapes as in C. The branches are this project's.)
+use Rattle.std.specs.Prelude.{◌≡◌, ◌↔◌, ℕ, ◌+◌, ◌/◌, ◌%◌, ◌==◌, ◌&&◌, nat_lt, if◌then◌else◌, ◌<◌, Bool, true, false, Option, Some, None, List, [], ◌∷◌, ◌++◌, codes, drop, length}
 use Rattle.lex_semantics.specs.ByteSets.{ByteSet, range_set, union}
 use Rattle.lex_semantics.specs.Tree.{Tree, Set, Cat, Alt, In}
 use Rattle.lexre.specs.Definitions.{Definitions}
@@ -9,54 +9,76 @@ use Rattle.lexre.specs.Spelling.{Spells}
 use Rattle.lexre.specs.declared.options.ReadOptions.{ReadOptions}
 use Rattle.lexre_bytes.specs.Symbols.{grouped}
 use Rattle.lexlook_letters.specs.Encoding.{InOneOf, IsEncodingOf}
+use Rattle.lexlook_letters.specs.Sequences.{byte_ranges}
 use Rattle.lexlook_letters.specs.declared.ranges.CodeRange.{CodeRange}
 use Rattle.lexlook_letters.specs.declared.sequence.ByteRange.{ByteRange}
 use Rattle.lexlook_letters.specs.declared.sequence.Sequence.{Sequence}
-use Rattle.lexlook_letters.specs.declared.sequence.Sequence.TheVariants.{One, Two, Three, Four}
 
 -- Branches.
 
--- the ranges of a sequence before its last one
-abbrev pub front : Sequence → List ByteRange
-front (One a) = []
-front (Two a b) = a ∷ []
-front (Three a b c) = a ∷ b ∷ []
-front (Four a b c d) = a ∷ b ∷ c ∷ []
-
-abbrev pub last_range : Sequence → ByteRange
-last_range (One a) = a
-last_range (Two a b) = b
-last_range (Three a b c) = c
-last_range (Four a b c d) = d
+-- the branches of a pattern, those that begin with one range together
+pub data Branches : Type 0 where
+  none : Branches
+  -- one that is a class of some ranges, and the others
+  last : (r : ByteRange) (more : List ByteRange) (others : Branches) → Branches
+  -- those that begin with a range, by what they go on with, and the others
+  through : (r : ByteRange) (inner others : Branches) → Branches
 
 abbrev pub same_range : ByteRange → ByteRange → Bool
 same_range a b = a.first == b.first && a.last == b.last
 
--- the ranges before the last one are the same
-abbrev pub same_front : Sequence → Sequence → Bool
-same_front (One a) (One b) = true
-same_front (Two a b) (Two c d) = same_range a c
-same_front (Three a b c) (Three d e f) = same_range a d && same_range b e
-same_front (Four a b c d) (Four e f g h) = same_range a e && (same_range b f && same_range c g)
-same_front s t = false
+-- Ranges, and the branches behind them. They join the first one if both are one range more, or begin with the same
+-- range and go on.
+abbrev pub with_ranges : List ByteRange → Branches → Branches
+with_ranges [] bs = bs
+with_ranges (r ∷ []) (last q qs bs) = last r (q ∷ qs) bs
+with_ranges (r ∷ []) bs = last r [] bs
+with_ranges (r ∷ s ∷ rs) (through q inner bs) =
+    if same_range r q then through r (with_ranges (s ∷ rs) inner) bs
+    else through r (with_ranges (s ∷ rs) none) (through q inner bs)
+with_ranges (r ∷ s ∷ rs) bs = through r (with_ranges (s ∷ rs) none) bs
 
--- a sequence, and the last ranges of those that are in its branch with it
-abbrev pub Branch : Type 0
-Branch = Sequence × List ByteRange
+-- the branches of sequences, by what these have from the range with this number on
+abbrev pub branches_at : ℕ → List Sequence → Branches
+branches_at at [] = none
+branches_at at (s ∷ ss) = with_ranges (drop at (byte_ranges s)) (branches_at at ss)
 
--- of the sequences behind one, the last ranges of those that are in its branch
-abbrev pub more_lasts : Sequence → List Sequence → List ByteRange
-more_lasts s [] = []
-more_lasts s (t ∷ ts) = if same_front s t then last_range t ∷ more_lasts t ts else []
+abbrev pub no_branch : Branches → Bool
+no_branch none = true
+no_branch (last r rs bs) = false
+no_branch (through r inner bs) = false
 
--- the branches behind that of a sequence
-abbrev pub later_branches : Sequence → List Sequence → List Branch
-later_branches s [] = []
-later_branches s (t ∷ ts) = if same_front s t then later_branches t ts else (t, more_lasts t ts) ∷ later_branches t ts
+abbrev pub is_one : Branches → Bool
+is_one none = false
+is_one (last r rs bs) = no_branch bs
+is_one (through r inner bs) = no_branch bs
 
-abbrev pub branches : List Sequence → List Branch
-branches [] = []
-branches (s ∷ ss) = (s, more_lasts s ss) ∷ later_branches s ss
+-- Which sequences share a branch.
+
+-- the first of some ranges, where others follow
+abbrev pub going_through : List ByteRange → Option ByteRange
+going_through [] = None
+going_through (r ∷ []) = None
+going_through (r ∷ s ∷ rs) = Some r
+
+-- both end with one range, or begin with the same range and go on
+abbrev pub alike : Option ByteRange → Option ByteRange → Bool
+alike None None = true
+alike (Some r) (Some q) = same_range r q
+alike a b = false
+
+-- from the range with this number on, sequences that stand next to each other are in one branch
+abbrev pub join : ℕ → Sequence → Sequence → Bool
+join at s t = alike (going_through (drop at (byte_ranges s))) (going_through (drop at (byte_ranges t)))
+
+-- how many of the sequences behind one are in its branch
+abbrev pub joined : ℕ → Sequence → List Sequence → ℕ
+joined at s [] = 0
+joined at s (t ∷ ts) = if join at s t then 1 + joined at t ts else 0
+
+-- it has a range with this number
+abbrev pub Reaches : ℕ → Sequence → Type 0
+Reaches at s = at < length (byte_ranges s)
 
 -- The tree.
 
@@ -69,13 +91,25 @@ bytes_in set (r ∷ rs) = bytes_in (union set (range_set r.first r.last)) rs
 abbrev pub class_tree : ByteRange → List ByteRange → Tree
 class_tree r rs = Set (bytes_in (range_set r.first r.last) rs)
 
--- the bytes of a branch in order
-abbrev pub branch_tree : Branch → Tree
-branch_tree b = grouped Cat (map (λ r. class_tree r []) (front b.0) ++ class_tree (last_range b.0) b.1 ∷ [])
+abbrev mutual
+  -- the parts of the first branch in order: what goes on as one branch alone has its parts there
+  pub parts : Branches → List Tree
+  parts none = []
+  parts (last r rs bs) = class_tree r rs ∷ []
+  parts (through r inner bs) =
+      class_tree r [] ∷ (if is_one inner then parts inner else grouped Alt (choices inner) ∷ [])
+
+  -- a series for each branch
+  pub choices : Branches → List Tree
+  choices none = []
+  choices (last r rs bs) = class_tree r rs ∷ choices bs
+  choices (through r inner bs) =
+      grouped Cat (class_tree r [] ∷ (if is_one inner then parts inner else grouped Alt (choices inner) ∷ []))
+      ∷ choices bs
 
 -- one of the branches
 abbrev pub letters_tree : List Sequence → Tree
-letters_tree ss = grouped Alt (map branch_tree (branches ss))
+letters_tree ss = grouped Alt (choices (branches_at 0 ss))
 
 -- The text.
 
@@ -92,28 +126,27 @@ abbrev pub range_text : ByteRange → List ℕ
 range_text r =
     if r.first == r.last then byte_escape r.first else byte_escape r.first ++ (codes "-" ++ byte_escape r.last)
 
--- a class of one range, for each
-abbrev pub classes_text : List ByteRange → List ℕ
-classes_text [] = []
-classes_text (r ∷ rs) = codes "[" ++ (range_text r ++ (codes "]" ++ classes_text rs))
+-- one after another
+abbrev pub ranges_text : List ByteRange → List ℕ
+ranges_text [] = []
+ranges_text (r ∷ rs) = range_text r ++ ranges_text rs
 
--- a sequence, with its last class left open
-abbrev pub open_text : Sequence → List ℕ
-open_text s = classes_text (front s) ++ (codes "[" ++ range_text (last_range s))
+-- a class of ranges
+abbrev pub class_text : List ByteRange → List ℕ
+class_text rs = codes "[" ++ (ranges_text rs ++ codes "]")
 
--- what a sequence adds behind another one: a range in the open class, or a branch
-abbrev pub next_text : Sequence → Sequence → List ℕ
-next_text s t = if same_front s t then range_text (last_range t) else codes "]|" ++ open_text t
+-- the branches, with bars between, and in parentheses behind a range that several go on from
+abbrev pub branches_text : Branches → List ℕ
+branches_text none = []
+branches_text (last r rs bs) =
+    class_text (r ∷ rs) ++ (if no_branch bs then [] else codes "|" ++ branches_text bs)
+branches_text (through r inner bs) =
+    class_text (r ∷ [])
+    ++ ((if is_one inner then branches_text inner else codes "(" ++ (branches_text inner ++ codes ")"))
+    ++ (if no_branch bs then [] else codes "|" ++ branches_text bs))
 
--- the sequences behind one, and the end of the last class
-abbrev pub rest_text : Sequence → List Sequence → List ℕ
-rest_text s [] = codes "]"
-rest_text s (t ∷ ts) = next_text s t ++ rest_text t ts
-
--- the branches, with bars between
 abbrev pub letters_text : List Sequence → List ℕ
-letters_text [] = []
-letters_text (s ∷ ss) = open_text s ++ rest_text s ss
+letters_text ss = branches_text (branches_at 0 ss)
 
 -- What is spelled.
 

@@ -1,14 +1,16 @@
 //! The pattern of sequences.
-ghost use Rattle.std.specs.Prelude.{◌≡◌, ◌↔◌, ◌<◌, ◌≤◌, [], ◌∷◌, ℕ, if◌then◌else◌, IfErr, IfOk, IsTrue, List, OnOk};
+ghost use Rattle.std.specs.Prelude.{◌≡◌, ◌↔◌, ◌+◌, ◌<◌, [], ◌++◌, ℕ, IfErr, IfOk, List, OnOk, true};
 ghost use Rattle.std.specs.List.{AllByRecursion};
-ghost use Rattle.lex_semantics.specs.Shapes.{nodes};
-ghost use Rattle.lex_semantics.specs.Tree.{In};
+ghost use Rattle.lex_semantics.specs.Shapes.{nodes, nodes_of};
+ghost use Rattle.lex_semantics.specs.Tree.{In, trees};
 ghost use Rattle.lexre.specs.Limits.{max_nodes};
 ghost use Rattle.lexlook_letters.specs.Sequences.{FollowsOne, IsSoundSequence};
-ghost use Rattle.lexlook_letters.specs.Text.{SpellsAlways, branch_tree, letters_text, letters_tree, same_front};
+ghost use Rattle.lexlook_letters.specs.Text.{Reaches, SpellsAlways, branches_at, branches_text, choices, is_one, letters_text, letters_tree, parts};
+ghost use Rattle.lexlook_letters.specs.Refusals.{IsRefusedFor};
 
+use crate::grouping::{going_through, run_length};
 use crate::sequence::Sequence;
-use crate::text::{add_letters, same_front};
+use crate::text::{add_byte, add_class, add_last_class};
 use std::alloc::{AllocError, Global};
 use thiserror::Error;
 
@@ -40,51 +42,89 @@ impl From<AllocError> for LettersError {
     }
 }
 
-/// How many nodes the tree of a branch has that begins with a sequence.
-fn node_count(sequence: Sequence) -> u64
-    ensures value { result ≡ nodes (branch_tree (sequence, [])) }
-    ensures few { result ≤ 5 }
+/// Takes a node of those that are left.
+fn use_node(left: &mut u64) -> Result<(), LettersError>
+    ensures nodes { OnOk result (left.new + 1 ≡ left.old) }
+    ensures refused { IfErr result (λ e. (e ≡ LettersError.TooBig) × (left.old ≡ 0)) }
 {
-    match sequence {
-        Sequence::One(_) => 1,
-        Sequence::Two(_, _) => 3,
-        Sequence::Three(_, _, _) => 4,
-        Sequence::Four(_, _, _, _) => 5,
+    if *left == 0 {
+        return Err(LettersError::TooBig);
     }
+    *left -= 1;
+    Ok(())
 }
 
-/// How many nodes a sequence adds behind another one.
-fn added_nodes(before: Sequence, sequence: Sequence) -> u64
-    ensures { result ≡ (if same_front before sequence then 0 else nodes (branch_tree (sequence, []))) }
+/// Adds sequences that are one branch from the range with a number on, and takes the nodes of its parts.
+#[cycle(branches)]
+fn add_branch(
+    text: &mut Vec<u8>,
+    left: &mut u64,
+    run: &[Sequence],
+    at: usize,
+) -> Result<(), LettersError>
+    requires reach { AllByRecursion (Reaches at) run.now }
+    requires one { is_one (branches_at at run.now) ≡ true }
+    ensures text { OnOk result (text.new.items ≡ text.old.items ++ branches_text (branches_at at run.now)) }
+    ensures nodes { OnOk result (left.new + nodes_of (trees (parts (branches_at at run.now))) ≡ left.old) }
+    ensures refused { IfErr result (λ e. IsRefusedFor e left.old (nodes_of (trees (parts (branches_at at run.now))))) }
 {
-    if same_front(before, sequence) {
-        0
-    } else {
-        node_count(sequence)
-    }
-}
-
-/// Whether the tree of sequences has as few nodes as a pattern may have.
-fn has_few_nodes(first: Sequence, more: &[Sequence]) -> bool
-    ensures { IsTrue result ↔ (nodes (letters_tree (first ∷ more.now)) ≤ max_nodes) }
-{
-    // A choice of two or more is a node itself.
-    let mut left = MAX_NODES - 1 - node_count(first);
-    let mut before = first;
-    for sequence in more {
-        let nodes = added_nodes(before, *sequence);
-        if left < nodes {
-            return false;
+    let Some((first, more)) = run.split_first() else {
+        return Ok(());
+    };
+    use_node(left)?;
+    match going_through(*first, at) {
+        None => {
+            add_last_class(text, run)?;
+            Ok(())
         }
-        left -= nodes;
-        before = *sequence;
+        Some(range) => {
+            add_class(text, range)?;
+            if run_length(*first, more, at + 1) == run.len() {
+                return add_branch(text, left, run, at + 1);
+            }
+            use_node(left)?;
+            add_byte(text, b'(')?;
+            add_branches(text, left, run, at + 1)?;
+            add_byte(text, b')')?;
+            Ok(())
+        }
     }
-    true
+}
+
+/// Adds the branches of sequences from the range with a number on, with bars between, and takes their nodes.
+#[cycle(branches)]
+fn add_branches(
+    text: &mut Vec<u8>,
+    left: &mut u64,
+    sequences: &[Sequence],
+    at: usize,
+) -> Result<(), LettersError>
+    requires reach { AllByRecursion (Reaches at) sequences.now }
+    ensures text { OnOk result (text.new.items ≡ text.old.items ++ branches_text (branches_at at sequences.now)) }
+    ensures nodes { OnOk result (left.new + nodes_of (trees (choices (branches_at at sequences.now))) ≡ left.old) }
+    ensures refused { IfErr result (λ e.
+        IsRefusedFor e left.old (nodes_of (trees (choices (branches_at at sequences.now))))) }
+{
+    let mut rest = sequences;
+    while let Some((first, more)) = rest.split_first() {
+        let (run, later) = rest.split_at(run_length(*first, more, at));
+        if going_through(*first, at).is_some() {
+            // A series of two parts or more is a node itself.
+            use_node(left)?;
+        }
+        add_branch(text, left, run, at)?;
+        if !later.is_empty() {
+            add_byte(text, b'|')?;
+        }
+        rest = later;
+    }
+    Ok(())
 }
 
 /// The text of a pattern whose words are those of the sequences: `[\xHH]` or `[\xHH-\xHH]` for a range of bytes, and `|`
-/// between branches. Sequences next to each other that differ in the last range alone are one branch, with one class for
-/// these ranges. Of `options` none matters but that letters stand for themselves.
+/// between branches. Sequences next to each other that begin with the same ranges are one branch up to there, and then
+/// branches in parentheses; those that differ in the last range alone have one class for these. Of `options` none matters
+/// but that letters stand for themselves.
 ///
 /// `NoCodePoint` where there is no sequence, and `TooBig` where the pattern has more nodes than one may have.
 pub fn spell(alloc: Global, sequences: &[Sequence]) -> Result<Vec<u8>, LettersError>
@@ -98,10 +138,12 @@ pub fn spell(alloc: Global, sequences: &[Sequence]) -> Result<Vec<u8>, LettersEr
     let Some((first, more)) = sequences.split_first() else {
         return Err(LettersError::NoCodePoint);
     };
-    if !has_few_nodes(*first, more) {
-        return Err(LettersError::TooBig);
+    let mut left = MAX_NODES;
+    if run_length(*first, more, 0) < sequences.len() {
+        // A choice of two branches or more is a node itself.
+        left -= 1;
     }
     let mut text = Vec::new(alloc);
-    add_letters(&mut text, *first, more)?;
+    add_branches(&mut text, &mut left, sequences, 0)?;
     Ok(text)
 }
