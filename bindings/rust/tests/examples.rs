@@ -174,7 +174,7 @@ fn a_stream_tells_what_is_decided() {
 
 #[test]
 fn a_loaded_table_tells_lines() {
-    let tables = Tables::load(&generate(b"%%\n[a-z]+\n ;\n", Options::default()).unwrap()).unwrap();
+    let tables = Tables::load(&generate(b"%%\n[a-z]+\\n ;\n", Options::default()).unwrap()).unwrap();
     let lexemes: Vec<_> = tables.read_tokens_with_lines(&b"a\n b\n"[..]).unwrap().map(Result::unwrap).collect();
     let places: Vec<_> = lexemes.iter().map(|lexeme| lexeme.place.unwrap()).collect();
     assert_eq!(places, [Place { line: 1, column: 1 }, Place { line: 2, column: 1 }, Place { line: 2, column: 2 }]);
