@@ -270,17 +270,25 @@ struct lex_next_token {
     size_t length;       /* how long its text is, up to trailing context or where yyless ends it */
     uint32_t rule;       /* its rule, from 0 on in the order of the file, or LEX_DEFAULT_RULE */
     uint32_t condition;  /* the start condition in which it was made, 0 for INITIAL, then in the order of the file */
+    uint64_t line;       /* by LEX_LINES, of its first byte: the line, from 1, which is 1 and the newlines before it; else 0 */
+    uint64_t column;     /* by LEX_LINES, of its first byte: the column, from 1, which is 1 and the bytes after these; else 0 */
 };
 
-/* Opens a stream by the rules of a table file. If `stream` was open, it is closed first. Nothing of `file` is kept.
+/* What a stream tells beside its tokens: none of these, or some of them added. Other bits count for nothing. */
+enum lex_stream_flags {
+    LEX_LINES = 1  /* the line and the column of each token. A stream without it spends no time on them */
+};
+
+/* Opens a stream by the rules of a table file, by the flags of enum lex_stream_flags. If `stream` was open, it is closed first. Nothing of
+   `file` is kept.
 
    LEX_OK: it is open, and was fed nothing.
    LEX_REFUSED, LEX_OUT_OF_MEMORY: it is closed. */
-int32_t lex_open_stream(struct lex_stream *stream, const uint8_t *file, size_t file_len);
+int32_t lex_open_stream(struct lex_stream *stream, const uint8_t *file, size_t file_len, uint32_t flags);
 
 /* What lex_open_stream does, by a table that is loaded. In place of LEX_REFUSED it answers LEX_CLOSED, where none is. The stream keeps what
    it needs of the table, which may be unloaded before it. */
-int32_t lex_open_stream_loaded(struct lex_stream *stream, struct lex_tables *tables);
+int32_t lex_open_stream_loaded(struct lex_stream *stream, struct lex_tables *tables, uint32_t flags);
 
 /* Feeds a piece more of the input, of any length. No token is looked for.
 

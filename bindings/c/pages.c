@@ -45,7 +45,7 @@ static int list_tokens(size_t size)
     struct lex_stream stream = LEX_STREAM_INIT;
     char token[100];
     int64_t rule;
-    int answer = lex_open_stream(&stream, table, size);
+    int answer = lex_open_stream(&stream, table, size, 0);
     if (answer != LEX_OK)
         return answer;
     while ((rule = next_rule(&stream, token, sizeof token)) >= 0)

@@ -254,17 +254,30 @@ static int tokens(void)
     return 0;
 }
 
-/* Whether the stream tells the next of some tokens, with its text, into a buffer that is too small first. */
-static int is_next(struct lex_stream *stream, struct bytes input, const struct lex_token *wanted)
+/* Whether the token stands in this line and column of the input, or tells neither, where lines are not counted. */
+static int stands(const struct lex_next_token *token, struct bytes input, int lines)
 {
-    struct lex_next_token token = {0, 0, 0, 0};
+    uint64_t line = 1, column = 1, at;
+    if (!lines)
+        return token->line == 0 && token->column == 0;
+    for (at = 0; at < token->start; at++) {
+        column = input.at[at] == '\n' ? 1 : column + 1;
+        line += input.at[at] == '\n';
+    }
+    return token->line == line && token->column == column;
+}
+
+/* Whether the stream tells the next of some tokens, with its text, into a buffer that is too small first. */
+static int is_next(struct lex_stream *stream, struct bytes input, const struct lex_token *wanted, int lines)
+{
+    struct lex_next_token token = {0, 0, 0, 0, 0, 0};
     uint8_t status = 9, few[1], *text;
     size_t count = 9;
     int answer = lex_next(stream, &token, &status), same_text;
     if (answer != LEX_OK)
         return answer;
     if (token.start != wanted->start || token.start + token.length != wanted->end || token.rule != wanted->rule ||
-        token.condition != wanted->condition || status != 0)
+        token.condition != wanted->condition || status != 0 || !stands(&token, input, lines))
         return fail("a token told otherwise", (int)token.start);
     answer = lex_text(stream, few, 1, &count);
     if (count != token.length || answer != (count > 1 ? LEX_TOO_SMALL : LEX_OK))
@@ -279,14 +292,15 @@ static int is_next(struct lex_stream *stream, struct bytes input, const struct l
 }
 
 /* The tokens of the input in pieces of a size, one by one: those that are listed for the whole. */
-static int pull_pieces(struct lex_stream *stream, struct bytes input, const struct lex_token *wanted, size_t all, int status, size_t piece)
+static int pull_pieces(struct lex_stream *stream, struct bytes input, const struct lex_token *wanted, size_t all, int status, size_t piece,
+                       int lines)
 {
     struct lex_next_token token;
     uint8_t ended = 9;
     size_t at = 0, told = 0;
     int answer;
     for (;;) {
-        answer = told < all ? is_next(stream, input, &wanted[told]) : lex_next(stream, &token, &ended);
+        answer = told < all ? is_next(stream, input, &wanted[told], lines) : lex_next(stream, &token, &ended);
         if (answer == LEX_OK && told < all) {
             told++;
         } else if (answer != LEX_MORE) {
@@ -321,9 +335,10 @@ static int pull(struct bytes table, struct bytes input, int status)
     if (answer == LEX_OK)
         answer = lex_load(&tables, table.at, table.len);
     for (i = 0; answer == LEX_OK && i < 4; i++) {
-        answer = i % 2 ? lex_open_stream(&stream, table.at, table.len) : lex_open_stream_loaded(&stream, &tables);
+        uint32_t flags = i > 0 ? LEX_LINES : 0;
+        answer = i % 2 ? lex_open_stream(&stream, table.at, table.len, flags) : lex_open_stream_loaded(&stream, &tables, flags);
         if (answer == LEX_OK)
-            answer = pull_pieces(&stream, input, wanted, all, status, sizes[i]);
+            answer = pull_pieces(&stream, input, wanted, all, status, sizes[i], flags == LEX_LINES);
     }
     lex_unload(&tables);
     lex_close_stream(&stream);
@@ -338,22 +353,22 @@ static int streams(void)
     static const char text[] = "%option stack\n%%\na ;\nb yy_pop_state();\n";
     struct lex_stream stream = LEX_STREAM_INIT;
     struct lex_tables tables = LEX_TABLES_INIT;
-    struct lex_next_token token = {7, 7, 7, 7};
+    struct lex_next_token token = {7, 7, 7, 7, 7, 7};
     struct bytes none = {(uint8_t *)text, strlen(text)}, table;
     uint8_t status = 9, out[2] = {7, 7};
     size_t count = 9, i;
     int answer = make(none, &table);
     if (answer != LEX_OK)
         return fail("table of streams", answer);
-    answer = lex_open_stream(&stream, none.at, none.len);
-    if (answer != LEX_REFUSED || lex_open_stream_loaded(&stream, &tables) != LEX_CLOSED)
+    answer = lex_open_stream(&stream, none.at, none.len, LEX_LINES);
+    if (answer != LEX_REFUSED || lex_open_stream_loaded(&stream, &tables, LEX_LINES) != LEX_CLOSED)
         return fail("a stream by no table", answer);
     if (lex_next(&stream, &token, &status) != LEX_CLOSED || token.rule != 7 || status != 0 ||
         lex_text(&stream, out, 2, &count) != LEX_CLOSED || count != 0 || out[0] != 7)
         return fail("a closed stream", status);
     if (lex_feed_stream(&stream, none.at, 1) != LEX_CLOSED || lex_end_stream(&stream) != LEX_CLOSED)
         return fail("a piece for a closed stream", 0);
-    answer = lex_open_stream(&stream, table.at, table.len);
+    answer = lex_open_stream(&stream, table.at, table.len, LEX_LINES);
     if (answer != LEX_OK)
         return fail("a stream", answer);
     answer = lex_next(&stream, &token, &status);
@@ -362,7 +377,7 @@ static int streams(void)
     answer = lex_feed_stream(&stream, (const uint8_t *)"ab", 2);
     if (answer == LEX_OK)
         answer = lex_next(&stream, &token, &status);
-    if (answer != LEX_OK || token.rule != 0 || token.start != 0 || token.length != 1)
+    if (answer != LEX_OK || token.rule != 0 || token.start != 0 || token.length != 1 || token.line != 1)
         return fail("a token before a fault", answer);
     for (i = 0; i < 2; i++) {
         answer = lex_next(&stream, &token, &status);

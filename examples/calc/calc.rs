@@ -3,7 +3,7 @@
 //!
 //!     cargo run --example calc -- calc.l
 
-use liblex::{generate, Lexeme, Options, Tokens};
+use liblex::{generate, Lexeme, Options, Place, Tokens};
 use std::error::Error;
 use std::{env, fs, io};
 
@@ -33,24 +33,24 @@ const KINDS: [Kind; 9] = [
     Kind::Skipped,
 ];
 
-/// What is wrong with a line, and where: in bytes from the beginning of the input.
+/// What is wrong with a line, and where.
 struct Fault {
-    at: u64,
+    at: Place,
     what: &'static str,
 }
 
-/// The tokens of a line, of which the parser has come to one. What no rule takes has no kind.
+/// The tokens of a line, of which the parser has come to one, and where the line ends. What no rule takes has no kind.
 struct Line {
     tokens: Vec<(Option<Kind>, Lexeme)>,
     next: usize,
-    end: u64,
+    end: Place,
 }
 
 impl Line {
     /// The kind of the next token, and where it begins.
-    fn peek(&self) -> (Option<Kind>, u64) {
+    fn peek(&self) -> (Option<Kind>, Place) {
         match self.tokens.get(self.next) {
-            Some((kind, lexeme)) => (*kind, lexeme.start),
+            Some((kind, lexeme)) => (*kind, lexeme.place.unwrap_or(self.end)),
             None => (Some(Kind::End), self.end),
         }
     }
@@ -124,35 +124,33 @@ impl Line {
     }
 }
 
-/// Answers a line that begins at that byte.
-fn answer(mut line: Line, number: u64, start: u64) {
+/// Answers a line.
+fn answer(mut line: Line) {
     if line.tokens.is_empty() {
         return;
     }
     match line.value() {
         Ok(value) => println!("{value}"),
-        Err(Fault { at, what }) => println!("line {number}, column {}: {what}", at - start + 1),
+        Err(Fault { at, what }) => println!("line {}, column {}: {what}", at.line, at.column),
     }
 }
 
 fn main() -> Result<(), Box<dyn Error>> {
     let name = env::args().nth(1).ok_or("it takes calc.l")?;
     let table = generate(&fs::read(name)?, Options::default())?;
-    let (mut number, mut start, mut end, mut tokens) = (1, 0, 0, Vec::new());
-    for lexeme in Tokens::open(&table, io::stdin())? {
+    let mut end = Place { line: 1, column: 1 };
+    let mut tokens = Vec::new();
+    for lexeme in Tokens::with_lines(&table, io::stdin())? {
         let lexeme = lexeme?;
         let kind = lexeme.rule.map(|rule| KINDS[rule as usize]);
-        let at = lexeme.start;
-        end = at + lexeme.text.len() as u64;
+        let at = lexeme.place.unwrap_or(end);
+        end = Place { line: at.line, column: at.column + lexeme.text.len() as u64 };
         match kind {
             Some(Kind::Skipped) => {}
-            Some(Kind::End) => {
-                answer(Line { tokens: std::mem::take(&mut tokens), next: 0, end: at }, number, start);
-                (number, start) = (number + 1, end);
-            }
+            Some(Kind::End) => answer(Line { tokens: std::mem::take(&mut tokens), next: 0, end: at }),
             kind => tokens.push((kind, lexeme)),
         }
     }
-    answer(Line { tokens, next: 0, end }, number, start);
+    answer(Line { tokens, next: 0, end });
     Ok(())
 }

@@ -53,9 +53,8 @@ static const int kinds[] = {NUMBER, PLUS, MINUS, TIMES, DIVIDE, OPEN, CLOSE, END
 
 enum { SKIPPED = sizeof kinds / sizeof kinds[0], PIECE = 1 << 16, LONGEST = 1 << 12 };
 
-/* The line of the next token, and the bytes of the input where that line begins and where the last token ended. */
-static int line = 1;
-static uint64_t line_start, last_end;
+/* The token that was told last. */
+static struct lex_next_token token;
 
 static void stop(const char *what, int answer)
 {
@@ -90,27 +89,32 @@ static double number(void)
     return strtod(text, NULL);
 }
 
-/* Tells the parser where a token stands. */
-static void place(uint64_t start)
+/* Tells the parser where the next token stands: so many bytes after the beginning of the last one that was told. */
+static void place(size_t after)
 {
-    yylloc.first_line = yylloc.last_line = line;
-    yylloc.first_column = yylloc.last_column = (int)(start - line_start) + 1;
+    yylloc.first_line = yylloc.last_line = (int)token.line;
+    yylloc.first_column = yylloc.last_column = (int)(token.column + after);
+}
+
+/* What the last token is for the parser. */
+static int kind(void)
+{
+    return token.rule < SKIPPED ? kinds[token.rule] : FAULT;
 }
 
 /* The end of the input ends its last line too. */
 static int end(void)
 {
-    place(last_end);
-    if (last_end == line_start)
+    place(token.length);
+    if (token.length == 0 || kind() == END)
         return YYEOF;
-    line_start = last_end;
+    token.length = 0;
     return END;
 }
 
 /* The next token for the parser, with its place. */
 static int yylex(void)
 {
-    struct lex_next_token token;
     uint8_t status;
     int answer;
     do {
@@ -120,18 +124,11 @@ static int yylex(void)
             return end();
         if (answer != LEX_OK)
             stop("next", answer);
-        last_end = token.start + token.length;
     } while (token.rule == SKIPPED);
-    place(token.start);
-    if (token.rule >= SKIPPED)
-        return FAULT;
-    if (kinds[token.rule] == NUMBER)
+    place(0);
+    if (kind() == NUMBER)
         yylval = number();
-    if (kinds[token.rule] == END) {
-        line++;
-        line_start = last_end;
-    }
-    return kinds[token.rule];
+    return kind();
 }
 
 static void yyerror(const char *fault)
@@ -152,7 +149,7 @@ static void open_by(const char *name)
     fclose(file);
     answer = lex_generate(text, len, 0, table, sizeof table, &size, &fault);
     if (answer == LEX_OK)
-        answer = lex_open_stream(&stream, table, size);
+        answer = lex_open_stream(&stream, table, size, LEX_LINES);
     if (answer != LEX_OK)
         stop(name, answer);
 }

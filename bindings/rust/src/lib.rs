@@ -63,6 +63,8 @@ mod ffi {
         pub length: usize,
         pub rule: u32,
         pub condition: u32,
+        pub line: u64,
+        pub column: u64,
     }
 
     extern "C" {
@@ -147,9 +149,9 @@ mod ffi {
 
         pub fn lex_close(scan: *mut Scan);
 
-        pub fn lex_open_stream(stream: *mut Stream, file: *const u8, file_len: usize) -> i32;
+        pub fn lex_open_stream(stream: *mut Stream, file: *const u8, file_len: usize, flags: u32) -> i32;
 
-        pub fn lex_open_stream_loaded(stream: *mut Stream, tables: *mut Tables) -> i32;
+        pub fn lex_open_stream_loaded(stream: *mut Stream, tables: *mut Tables, flags: u32) -> i32;
 
         pub fn lex_feed_stream(stream: *mut Stream, piece: *const u8, piece_len: usize) -> i32;
 
@@ -181,6 +183,9 @@ const MORE: i32 = 4;
 const REFUSED: i32 = 65;
 const STACK: i32 = 70;
 const OUT_OF_MEMORY: i32 = 71;
+
+/// The flag of a stream that counts lines.
+const LINES: u32 = 1;
 
 /// The version of the library that is linked: 10,000 times its first number, 100 times its second, and its third.
 pub fn version() -> u32 {
@@ -526,10 +531,19 @@ impl Tables {
 
     /// Opens a stream of tokens, which keeps the rules as long as it needs them.
     pub fn stream(&self) -> Result<Stream, LexError> {
+        self.stream_by(0)
+    }
+
+    /// Opens a stream of tokens that have lines and columns.
+    pub fn stream_with_lines(&self) -> Result<Stream, LexError> {
+        self.stream_by(LINES)
+    }
+
+    fn stream_by(&self, flags: u32) -> Result<Stream, LexError> {
         let mut share = self.share()?;
         let mut stream = Stream::closed();
         // Safety: the stream and the share do not overlap, and live through the call. The stream is closed.
-        match unsafe { ffi::lex_open_stream_loaded(&mut stream.inner, &mut share.inner) } {
+        match unsafe { ffi::lex_open_stream_loaded(&mut stream.inner, &mut share.inner, flags) } {
             OK => Ok(stream),
             _ => Err(LexError::OutOfMemory),
         }
@@ -538,6 +552,11 @@ impl Tables {
     /// The tokens of a source as they come, as `Tokens::open` has them by a file.
     pub fn read_tokens<R: Read>(&self, source: R) -> Result<Tokens<R>, LexError> {
         Ok(Tokens::over(self.stream()?, source))
+    }
+
+    /// The same with lines and columns.
+    pub fn read_tokens_with_lines<R: Read>(&self, source: R) -> Result<Tokens<R>, LexError> {
+        Ok(Tokens::over(self.stream_with_lines()?, source))
     }
 
     /// Begins a scan by pieces, which keeps the rules as long as it needs them.
@@ -552,6 +571,15 @@ impl Tables {
     }
 }
 
+/// Where the first byte of a token stands.
+#[derive(Clone, Copy, Debug, PartialEq, Eq)]
+pub struct Place {
+    /// The line, from 1: the newlines before it are counted.
+    pub line: u64,
+    /// The column, from 1: the bytes after the last of these are counted.
+    pub column: u64,
+}
+
 /// A token that was asked for.
 #[derive(Clone, Copy, Debug, PartialEq, Eq)]
 pub struct NextToken {
@@ -563,6 +591,8 @@ pub struct NextToken {
     pub rule: Option<u32>,
     /// The start condition in which it was made: 0 for INITIAL, then in the order of the file.
     pub condition: u32,
+    /// Its line and its column, where the stream counts lines.
+    pub place: Option<Place>,
 }
 
 /// What a stream answers that is asked for its next token.
@@ -599,9 +629,18 @@ impl Stream {
 
     /// Opens a stream by the rules of a table file.
     pub fn open(file: &[u8]) -> Result<Stream, LexError> {
+        Stream::open_by(file, 0)
+    }
+
+    /// Opens a stream by the rules of a table file, whose tokens have lines and columns.
+    pub fn with_lines(file: &[u8]) -> Result<Stream, LexError> {
+        Stream::open_by(file, LINES)
+    }
+
+    fn open_by(file: &[u8], flags: u32) -> Result<Stream, LexError> {
         let mut stream = Stream::closed();
         // Safety: the slice and the stream do not overlap, and live through the call. The stream is closed.
-        match unsafe { ffi::lex_open_stream(&mut stream.inner, file.as_ptr(), file.len()) } {
+        match unsafe { ffi::lex_open_stream(&mut stream.inner, file.as_ptr(), file.len(), flags) } {
             OK => Ok(stream),
             REFUSED => Err(LexError::Table),
             _ => Err(LexError::OutOfMemory),
@@ -635,6 +674,7 @@ impl Stream {
                 length: token.length,
                 rule: Some(token.rule).filter(|&rule| rule != u32::MAX),
                 condition: token.condition,
+                place: Some(Place { line: token.line, column: token.column }).filter(|place| place.line > 0),
             })),
             MORE => Ok(Next::More),
             ENDED => Ok(Next::Ended(status)),
@@ -670,6 +710,20 @@ pub struct Lexeme {
     pub rule: Option<u32>,
     /// The start condition in which it was made.
     pub condition: u32,
+    /// Its line and its column, where they are counted.
+    pub place: Option<Place>,
+}
+
+impl Lexeme {
+    /// The line of its first byte, from 1, where lines are counted.
+    pub fn line(&self) -> Option<u64> {
+        self.place.map(|place| place.line)
+    }
+
+    /// The column of its first byte, from 1, in bytes, where lines are counted.
+    pub fn column(&self) -> Option<u64> {
+        self.place.map(|place| place.column)
+    }
 }
 
 /// Why there is no next token.
@@ -706,6 +760,11 @@ impl<R: Read> Tokens<R> {
     /// The tokens by the rules of a table file.
     pub fn open(file: &[u8], source: R) -> Result<Tokens<R>, LexError> {
         Ok(Tokens::over(Stream::open(file)?, source))
+    }
+
+    /// The same with lines and columns.
+    pub fn with_lines(file: &[u8], source: R) -> Result<Tokens<R>, LexError> {
+        Ok(Tokens::over(Stream::with_lines(file)?, source))
     }
 
     fn over(stream: Stream, source: R) -> Tokens<R> {
@@ -749,6 +808,7 @@ impl<R: Read> Tokens<R> {
                         text: self.stream.text(),
                         rule: token.rule,
                         condition: token.condition,
+                        place: token.place,
                     }))
                 }
                 Next::More => self.read_on()?,

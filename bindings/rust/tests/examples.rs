@@ -1,7 +1,7 @@
 //! Each file of examples/, and refusals.
 
 use liblex::{
-    generate, rule_lines, scan, tokens, version, LexError, Next, NextToken, Options, Progress, Scan, Stream, Tables, Token, Tokens,
+    generate, rule_lines, scan, tokens, version, LexError, Next, NextToken, Options, Place, Progress, Scan, Stream, Tables, Token, Tokens,
     TokensError,
 };
 use std::fs;
@@ -116,12 +116,15 @@ impl Read for Slow<'_> {
 fn pulled(table: &[u8], input: &[u8], size: usize) -> (Vec<Token>, u8) {
     let source = Slow { rest: input, size, fails: false };
     let mut found = Vec::new();
-    let mut lexemes = Tokens::open(table, source).unwrap();
+    let mut lexemes = Tokens::with_lines(table, source).unwrap();
     for lexeme in &mut lexemes {
         let lexeme = lexeme.unwrap();
         let start = lexeme.start as usize;
         let end = start + lexeme.text.len();
         assert_eq!(lexeme.text, &input[start..end]);
+        let lines = input[..start].iter().filter(|&&byte| byte == b'\n').count() as u64;
+        let bytes = input[..start].iter().rev().take_while(|&&byte| byte != b'\n').count() as u64;
+        assert_eq!((lexeme.line(), lexeme.column()), (Some(lines + 1), Some(bytes + 1)));
         found.push(Token { start, end, rule: lexeme.rule, condition: lexeme.condition });
     }
     (found, lexemes.status().unwrap())
@@ -141,7 +144,7 @@ fn a_source_that_failed_is_read_again() {
 #[test]
 fn a_stream_tells_what_is_decided() {
     let table = generate(b"%option stack\n%%\n[0-9]+ ;\nb exit(3);\nc yy_pop_state();\n", Options::default()).unwrap();
-    let token = |start, length, rule| Ok(Next::Token(NextToken { start, length, rule, condition: 0 }));
+    let token = |start, length, rule| Ok(Next::Token(NextToken { start, length, rule, condition: 0, place: None }));
     let mut stream = Tables::load(&table).unwrap().stream().unwrap();
     assert_eq!(stream.next_token(), Ok(Next::More));
     assert_eq!(stream.feed(b"a12"), Ok(Progress::Going));
@@ -167,6 +170,15 @@ fn a_stream_tells_what_is_decided() {
         assert_eq!(stream.next_token(), Err(LexError::Stack(Vec::new())));
     }
     assert!(matches!(Stream::open(b"nothing"), Err(LexError::Table)));
+}
+
+#[test]
+fn a_loaded_table_tells_lines() {
+    let tables = Tables::load(&generate(b"%%\n[a-z]+\\n ;\n", Options::default()).unwrap()).unwrap();
+    let lexemes: Vec<_> = tables.read_tokens_with_lines(&b"a\n b\n"[..]).unwrap().map(Result::unwrap).collect();
+    let places: Vec<_> = lexemes.iter().map(|lexeme| lexeme.place.unwrap()).collect();
+    assert_eq!(places, [Place { line: 1, column: 1 }, Place { line: 2, column: 1 }, Place { line: 2, column: 2 }]);
+    assert_eq!(tables.read_tokens(&b"a\n"[..]).unwrap().next().unwrap().unwrap().place, None);
 }
 
 /// What a scan by pieces of a size writes, and the status.

@@ -1,6 +1,7 @@
 //! Streams of tokens as a program in C calls them: the same tokens from pieces of any size, and what is answered before the
 //! first piece, after the end, after a fault, and of a stream that is closed.
 use crate::building::made;
+use crate::c_rows::{DEFAULT, Row, SCANS, Scan};
 use liblex_calls::{
     Answer, LoadedTables, NextToken, TokenStream, close_stream, end_stream, feed_stream,
     load_tables, next_token, open_stream, open_stream_loaded, text_into, unload_tables,
@@ -13,13 +14,9 @@ const NO_TOKEN: NextToken = NextToken {
     length: 99,
     rule: 99,
     condition: 99,
+    line: 99,
+    column: 99,
 };
-
-/// The number of the default rule.
-const DEFAULT: u32 = 4_294_967_295;
-
-/// A rule, where the text begins, the condition, and the text.
-type Row = (u32, u64, u32, &'static str);
 
 /// Whether this text is shown.
 fn shows(alloc: Global, stream: &mut TokenStream, text: &str) -> bool {
@@ -29,14 +26,16 @@ fn shows(alloc: Global, stream: &mut TokenStream, text: &str) -> bool {
     answer == Answer::Done && buffer.get(..count) == Some(text.as_bytes())
 }
 
-/// Whether this token comes next, with its text.
-fn tells(alloc: Global, stream: &mut TokenStream, row: Row) -> bool {
-    let (rule, start, condition, text) = row;
+/// Whether this token comes next, with its text, and its line and column, where these are counted.
+fn tells(alloc: Global, stream: &mut TokenStream, row: Row, lines: bool) -> bool {
+    let (rule, start, condition, text, line, column) = row;
     let wanted = NextToken {
         start,
         length: text.len(),
         rule,
         condition,
+        line: if lines { line } else { 0 },
+        column: if lines { column } else { 0 },
     };
     let mut token = NO_TOKEN;
     let mut status = 99;
@@ -45,9 +44,15 @@ fn tells(alloc: Global, stream: &mut TokenStream, row: Row) -> bool {
 }
 
 /// How many of these tokens have come once those come that are decided, after as many as came before.
-fn count_told(alloc: Global, stream: &mut TokenStream, rows: &[Row], before: usize) -> usize {
+fn count_told(
+    alloc: Global,
+    stream: &mut TokenStream,
+    rows: &[Row],
+    before: usize,
+    lines: bool,
+) -> usize {
     for (count, &row) in rows.iter().enumerate() {
-        if count >= before && !tells(alloc, stream, row) {
+        if count >= before && !tells(alloc, stream, row, lines) {
             return count;
         }
     }
@@ -74,87 +79,32 @@ fn stays_ended(alloc: Global, stream: &mut TokenStream, status: u8) -> bool {
         && answers(alloc, stream, Answer::Ended, status)
 }
 
-/// Whether an input in pieces of a size has these tokens, and ends with a status.
-fn streams(
-    alloc: Global,
-    file: &[u8],
-    input: &[u8],
-    size: usize,
-    rows: &[Row],
-    status: u8,
-) -> bool {
+/// Whether the input of a scan has its tokens in pieces of a size, and ends with its status.
+fn streams(alloc: Global, file: &[u8], scan: &Scan, size: usize, lines: bool) -> bool {
+    let &(_, input, rows, status) = scan;
     let mut stream = TokenStream::closed();
-    let mut so = open_stream(alloc, &mut stream, file) == Answer::Done;
+    let mut so = open_stream(alloc, &mut stream, file, lines) == Answer::Done;
     let mut told = 0;
     for piece in input.chunks(size.max(1)) {
         let fed = feed_stream(alloc, &mut stream, piece);
         so = so && (fed == Answer::Done || fed == Answer::Ended);
-        told = count_told(alloc, &mut stream, rows, told);
+        told = count_told(alloc, &mut stream, rows, told, lines);
     }
     so = end_stream(alloc, &mut stream) == Answer::Done && so;
-    told = count_told(alloc, &mut stream, rows, told);
+    told = count_told(alloc, &mut stream, rows, told, lines);
     so = so && told == rows.len() && stays_ended(alloc, &mut stream, status);
     stream.close(alloc);
     so
 }
 
-/// A text, an input, its tokens, and the status.
-type Scan = (&'static [u8], &'static [u8], &'static [Row], u8);
-
-const SCANS: &[Scan] = &[
-    (
-        b"%%\nif printf(\"K\");\n[0-9]+ ;\n",
-        b"if 1234 x5",
-        &[
-            (0, 0, 0, "if"),
-            (DEFAULT, 2, 0, " "),
-            (1, 3, 0, "1234"),
-            (DEFAULT, 7, 0, " "),
-            (DEFAULT, 8, 0, "x"),
-            (1, 9, 0, "5"),
-        ],
-        0,
-    ),
-    (
-        b"%%\na+ yymore();\nb ECHO;\n",
-        b"aaab",
-        &[(0, 0, 0, "aaa"), (1, 0, 0, "aaab")],
-        0,
-    ),
-    (
-        b"%%\nabc yyless(1);\n[a-z] ;\n",
-        b"abc",
-        &[(0, 0, 0, "a"), (1, 1, 0, "b"), (1, 2, 0, "c")],
-        0,
-    ),
-    (
-        b"%%\nab/cd ;\n.|\\n ;\n",
-        b"abcdab",
-        &[
-            (0, 0, 0, "ab"),
-            (1, 2, 0, "c"),
-            (1, 3, 0, "d"),
-            (1, 4, 0, "a"),
-            (1, 5, 0, "b"),
-        ],
-        0,
-    ),
-    (
-        b"%x C\n%%\na BEGIN(C);\n<C>b BEGIN(INITIAL);\n<C><<EOF>> exit(3);\n",
-        b"aba",
-        &[(0, 0, 0, "a"), (1, 1, 1, "b"), (0, 2, 0, "a")],
-        3,
-    ),
-    (b"%%\nab exit(7);\n", b"abXY", &[(0, 0, 0, "ab")], 7),
-];
-
 #[test]
 fn pieces_of_any_size_have_the_same_tokens(rt: HostRuntime) -> Result<(), Fail> {
-    for &(text, input, rows, status) in SCANS {
-        let file = made(rt.alloc(), text)?;
+    for scan in SCANS {
+        let file = made(rt.alloc(), scan.0)?;
         for size in [1, 2, 7, 4_096] {
-            let so = streams(rt.alloc(), file.written(), input, size, rows, status);
-            assert!(rt; so, "{status} {size}");
+            let counted = streams(rt.alloc(), file.written(), scan, size, true);
+            let others = streams(rt.alloc(), file.written(), scan, size, false);
+            assert!(rt; counted && others, "{size}");
         }
     }
     Ok(())
@@ -163,12 +113,12 @@ fn pieces_of_any_size_have_the_same_tokens(rt: HostRuntime) -> Result<(), Fail> 
 /// Whether more is wanted before the first piece, and a fault is told again, after which pieces count for nothing.
 fn stops_at_a_fault(alloc: Global, file: &[u8]) -> bool {
     let mut stream = TokenStream::closed();
-    let so = open_stream(alloc, &mut stream, file) == Answer::Done
+    let so = open_stream(alloc, &mut stream, file, true) == Answer::Done
         && answers(alloc, &mut stream, Answer::More, 0)
         && feed_stream(alloc, &mut stream, b"") == Answer::Done
         && answers(alloc, &mut stream, Answer::More, 0)
         && feed_stream(alloc, &mut stream, b"aba") == Answer::Done
-        && tells(alloc, &mut stream, (0, 0, 0, "a"))
+        && tells(alloc, &mut stream, (0, 0, 0, "a", 1, 1), true)
         && answers(alloc, &mut stream, Answer::Stack, 0)
         && feed_stream(alloc, &mut stream, b"a") == Answer::Stack
         && end_stream(alloc, &mut stream) == Answer::Done
@@ -187,10 +137,14 @@ fn a_fault_of_the_stack_is_told_again(rt: HostRuntime) -> Result<(), Fail> {
 /// Whether a stream has all its tokens, or stops at a request for memory that was refused, which is told again. A piece that was
 /// refused is fed once more.
 fn streams_or_stops(alloc: Global, file: &[u8]) -> bool {
-    const ROWS: &[Row] = &[(0, 0, 0, "abc"), (DEFAULT, 3, 0, " "), (0, 4, 0, "d")];
-    const PIECES: &[&[u8]] = &[b"ab", b"c", b" d"];
+    const ROWS: &[Row] = &[
+        (0, 0, 0, "abc", 1, 1),
+        (DEFAULT, 3, 0, "\n", 1, 4),
+        (0, 4, 0, "d", 2, 1),
+    ];
+    const PIECES: &[&[u8]] = &[b"ab", b"c", b"\nd"];
     let mut stream = TokenStream::closed();
-    let opened = open_stream(alloc, &mut stream, file);
+    let opened = open_stream(alloc, &mut stream, file, true);
     let mut so = opened == Answer::Done;
     for piece in PIECES {
         let fed = feed_stream(alloc, &mut stream, piece);
@@ -199,7 +153,7 @@ fn streams_or_stops(alloc: Global, file: &[u8]) -> bool {
         so = so && (!again || feed_stream(alloc, &mut stream, piece) == Answer::Done);
     }
     so = so && end_stream(alloc, &mut stream) == Answer::Done;
-    let told = count_told(alloc, &mut stream, ROWS, 0);
+    let told = count_told(alloc, &mut stream, ROWS, 0, true);
     let stops = answers(alloc, &mut stream, Answer::OutOfMemory, 0);
     so = so && (stops || told == ROWS.len() && answers(alloc, &mut stream, Answer::Ended, 0));
     stream.close(alloc);
@@ -229,10 +183,10 @@ fn a_closed_stream_tells_that_it_is_closed(rt: HostRuntime) -> Result<(), Fail> 
     let file = made(rt.alloc(), b"%%\n[a-z]+ ;\n")?;
     let mut stream = TokenStream::closed();
     let first = is_closed(rt.alloc(), &mut stream);
-    let opened = open_stream(rt.alloc(), &mut stream, file.written());
-    let refused = open_stream(rt.alloc(), &mut stream, b"nothing");
+    let opened = open_stream(rt.alloc(), &mut stream, file.written(), false);
+    let refused = open_stream(rt.alloc(), &mut stream, b"nothing", false);
     let second = is_closed(rt.alloc(), &mut stream);
-    let again = open_stream(rt.alloc(), &mut stream, file.written());
+    let again = open_stream(rt.alloc(), &mut stream, file.written(), false);
     close_stream(rt.alloc(), &mut stream);
     close_stream(rt.alloc(), &mut stream);
     let third = is_closed(rt.alloc(), &mut stream);
@@ -261,14 +215,14 @@ fn a_loaded_table_serves_streams(rt: HostRuntime) -> Result<(), Fail> {
     let mut tables = LoadedTables::unloaded();
     let mut first = TokenStream::closed();
     let mut second = TokenStream::closed();
-    let closed = open_stream_loaded(rt.alloc(), &mut first, &mut tables);
+    let closed = open_stream_loaded(rt.alloc(), &mut first, &mut tables, true);
     let loaded = load_tables(rt.alloc(), &mut tables, file.written());
-    let opened = open_stream_loaded(rt.alloc(), &mut first, &mut tables);
-    let again = open_stream_loaded(rt.alloc(), &mut second, &mut tables);
+    let opened = open_stream_loaded(rt.alloc(), &mut first, &mut tables, true);
+    let again = open_stream_loaded(rt.alloc(), &mut second, &mut tables, false);
     unload_tables(rt.alloc(), &mut tables);
     tables.unload(rt.alloc());
     let fed = feed_stream(rt.alloc(), &mut first, b"abc 1");
-    let told = tells(rt.alloc(), &mut first, (0, 0, 0, "abc"));
+    let told = tells(rt.alloc(), &mut first, (0, 0, 0, "abc", 1, 1), true);
     let parts = hands_out_parts(rt.alloc(), &mut first);
     let none = answers(rt.alloc(), &mut second, Answer::More, 0);
     first.close(rt.alloc());

@@ -13,6 +13,8 @@ mod c_pieces;
 #[cfg(test)]
 mod c_refusals;
 #[cfg(test)]
+mod c_rows;
+#[cfg(test)]
 mod c_sizes;
 #[cfg(test)]
 mod c_streams;

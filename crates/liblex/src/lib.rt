@@ -22,7 +22,7 @@ ghost use Rattle.liblex_calls.specs.Numbers.{number_of};
 ghost use Rattle.liblex_calls.specs.Generating.{Generates};
 ghost use Rattle.liblex_calls.specs.Scanning.{ScansInto};
 ghost use Rattle.liblex_calls.specs.Listing.{ListsInto, TellsLines};
-ghost use Rattle.liblex_calls.specs.Flags.{options_of};
+ghost use Rattle.liblex_calls.specs.Flags.{options_of, counts_lines};
 ghost use Rattle.liblex_calls.specs.Progress.{fed_with};
 ghost use Rattle.liblex_calls.specs.Pieces.{Scanning, OpensScan, FeedsInto, FinishesInto, StaysOpen, StaysClosed};
 ghost use Rattle.liblex_calls.specs.Streams.{Streams, OpensStream, FeedsStream, TellsNext, AnswersAgain, ComesAsFar, HandsText};
@@ -30,9 +30,10 @@ ghost use Rattle.lexscan.specs.declared.token.Token.{Token as TokenModel};
 
 use liblex_calls::{
     LoadedTables, NextToken, Scan, TextFault, TextToken, TokenStream, close_scan, close_stream,
-    end_stream, feed_into, feed_stream, finish_into, generate_into, load_tables, next_token,
-    open_loaded, open_scan, open_stream, open_stream_loaded, options_of, rule_lines_into,
-    scan_into, scan_loaded, share_tables, text_into, tokens_into, tokens_loaded, unload_tables,
+    counts_lines, end_stream, feed_into, feed_stream, finish_into, generate_into, load_tables,
+    next_token, open_loaded, open_scan, open_stream, open_stream_loaded, options_of,
+    rule_lines_into, scan_into, scan_loaded, share_tables, text_into, tokens_into, tokens_loaded,
+    unload_tables,
 };
 use std::alloc::Global;
 
@@ -247,10 +248,16 @@ pub extern "C" fn lex_close(alloc: Global, scan: &mut Scan)
 
 /// Opens a stream of tokens by a table file.
 #[unsafe(no_mangle)]
-pub extern "C" fn lex_open_stream(alloc: Global, stream: &mut TokenStream, file: &[u8]) -> i32
-    ensures { (answer : Answer) × (result ≡ number_of answer) × OpensStream file.now stream.new answer }
+pub extern "C" fn lex_open_stream(
+    alloc: Global,
+    stream: &mut TokenStream,
+    file: &[u8],
+    flags: u32,
+) -> i32
+    ensures { (answer : Answer) × (result ≡ number_of answer)
+        × OpensStream file.now (counts_lines flags) stream.new answer }
 {
-    open_stream(alloc, stream, file).number()
+    open_stream(alloc, stream, file, counts_lines(flags)).number()
 }
 
 /// Opens a stream of tokens by a table that is loaded.
@@ -259,22 +266,23 @@ pub extern "C" fn lex_open_stream_loaded(
     alloc: Global,
     stream: &mut TokenStream,
     tables: &mut LoadedTables,
+    flags: u32,
 ) -> i32
     ensures { (answer : Answer) × (result ≡ number_of answer)
-        × ((file : List ℕ) → HoldsTable file tables.old → OpensStream file stream.new answer)
+        × ((file : List ℕ) → HoldsTable file tables.old → OpensStream file (counts_lines flags) stream.new answer)
         × (loaded_in tables.new ≡ loaded_in tables.old)
         × (loaded_in tables.old ≡ None → (answer ≡ answers.Closed) × (stream_in stream.new ≡ None)) }
 {
-    open_stream_loaded(alloc, stream, tables).number()
+    open_stream_loaded(alloc, stream, tables, counts_lines(flags)).number()
 }
 
 /// Feeds a stream of tokens a piece of the input.
 #[unsafe(no_mangle)]
 pub extern "C" fn lex_feed_stream(alloc: Global, stream: &mut TokenStream, piece: &[u8]) -> i32
     ensures { (answer : Answer) × (result ≡ number_of answer)
-        × ((file : List ℕ) (told : Bool) (fed : List ℕ) (tokens : List TokenModel) (text : List ℕ)
-        → Streams file told fed tokens text stream.old
-        → FeedsStream file told fed piece.now tokens text stream.new answer)
+        × ((file : List ℕ) (lines told : Bool) (fed : List ℕ) (tokens : List TokenModel) (text : List ℕ)
+        → Streams file lines told fed tokens text stream.old
+        → FeedsStream file lines told fed piece.now tokens text stream.new answer)
         × AnswersAgain stream.old stream.new answer
         × (stream_in stream.old ≡ None → (answer ≡ answers.Closed) × (stream_in stream.new ≡ None)) }
 {
@@ -285,9 +293,9 @@ pub extern "C" fn lex_feed_stream(alloc: Global, stream: &mut TokenStream, piece
 #[unsafe(no_mangle)]
 pub extern "C" fn lex_end_stream(alloc: Global, stream: &mut TokenStream) -> i32
     ensures { (answer : Answer) × (result ≡ number_of answer)
-        × ((file : List ℕ) (told : Bool) (fed : List ℕ) (tokens : List TokenModel) (text : List ℕ)
-        → Streams file told fed tokens text stream.old
-        → Streams file true fed tokens text stream.new × (answer ≡ answers.Done))
+        × ((file : List ℕ) (lines told : Bool) (fed : List ℕ) (tokens : List TokenModel) (text : List ℕ)
+        → Streams file lines told fed tokens text stream.old
+        → Streams file lines true fed tokens text stream.new × (answer ≡ answers.Done))
         × ComesAsFar stream.old stream.new
         × (stream_in stream.old ≡ None → (answer ≡ answers.Closed) × (stream_in stream.new ≡ None)) }
 {
@@ -303,9 +311,9 @@ pub extern "C" fn lex_next(
     status: &mut u8,
 ) -> i32
     ensures { (answer : Answer) × (result ≡ number_of answer)
-        × ((file : List ℕ) (told : Bool) (fed : List ℕ) (tokens : List TokenModel) (text : List ℕ)
-        → Streams file told fed tokens text stream.old
-        → TellsNext file told fed tokens stream.new token.old token.new status.new answer)
+        × ((file : List ℕ) (lines told : Bool) (fed : List ℕ) (tokens : List TokenModel) (text : List ℕ)
+        → Streams file lines told fed tokens text stream.old
+        → TellsNext file lines told fed tokens stream.new token.old token.new status.new answer)
         × AnswersAgain stream.old stream.new answer
         × (stream_in stream.old ≡ None → (answer ≡ answers.Closed) × (stream_in stream.new ≡ None)
         × (token.new ≡ token.old) × (status.new ≡ 0)) }
@@ -322,8 +330,8 @@ pub extern "C" fn lex_text(
     count: &mut usize,
 ) -> i32
     ensures { (answer : Answer) × (result ≡ number_of answer)
-        × ((file : List ℕ) (told : Bool) (fed : List ℕ) (tokens : List TokenModel) (text : List ℕ)
-        → Streams file told fed tokens text stream.old
+        × ((file : List ℕ) (lines told : Bool) (fed : List ℕ) (tokens : List TokenModel) (text : List ℕ)
+        → Streams file lines told fed tokens text stream.old
         → HandsText text stream.old stream.new buffer.old buffer.new count.new answer)
         × (stream_in stream.old ≡ None → (answer ≡ answers.Closed) × (stream_in stream.new ≡ None)
         × NothingOut buffer.old buffer.new count.new) }

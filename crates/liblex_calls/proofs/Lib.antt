@@ -5,6 +5,7 @@ mod Loosened
 mod Held
 mod HeldRules
 mod HeldStream
+mod Lining
 mod Flowing
 mod Opened
 mod Piecing

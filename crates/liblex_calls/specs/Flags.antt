@@ -1,5 +1,6 @@
--- How a specification is read, as a number. (flex, Scanner Options: case-insensitive, posix.)
-use Rattle.std.specs.Prelude.{ℕ, ◌==◌, ◌%◌, ◌/◌}
+-- How a specification is read, and whether a stream counts lines, as numbers. (flex, Scanner Options: case-insensitive,
+-- posix, yylineno.)
+use Rattle.std.specs.Prelude.{ℕ, Bool, ◌==◌, ◌%◌, ◌/◌}
 use Rattle.lex_semantics.specs.Limits.{max_positions, max_states}
 use Rattle.lexkit.specs.declared.options.Options.{Options}
 
@@ -12,3 +13,7 @@ options_of flags =
       posix = flags / 2 % 2 == 1;
       limits = record { positions = max_positions; states = max_states };
     }
+
+-- bit 0: lines are counted. Other bits count for nothing.
+abbrev pub counts_lines : ℕ → Bool
+counts_lines flags = flags % 2 == 1

@@ -5,6 +5,8 @@ pub mod Buffers
 pub mod Files
 pub mod Generating
 pub mod Scanning
+pub mod Lines
+pub mod LinesExamples
 pub mod Listing
 pub mod Ends
 pub mod Backlogs

@@ -19,6 +19,7 @@ use Rattle.liblex_calls.specs.Buffers.{HandedOut, FitsInto, NothingOut}
 use Rattle.liblex_calls.specs.Files.{ByFile}
 use Rattle.liblex_calls.specs.declared.answer.Answer.{Answer}
 use Rattle.liblex_calls.specs.declared.answer.Answer.TheVariants as answers
+use Rattle.liblex_calls.specs.declared.lines.Spot.{Spot}
 use Rattle.liblex_calls.specs.declared.listing.TextToken.{TextToken}
 use Rattle.liblex_calls.specs.declared.token_scan.NextToken.{NextToken}
 
@@ -31,9 +32,17 @@ rule_number rules.Default = 4294967295
 abbrev pub text_token : Token → TextToken
 text_token t = record { start = t.start; end = t.end; rule = rule_number t.rule; condition = t.condition }
 
--- the same of one that was asked for
-abbrev pub next_token : PulledToken → NextToken
-next_token t = record { start = t.start; length = t.length; rule = rule_number t.rule; condition = t.condition }
+-- the same of one that was asked for, with where it stands
+abbrev pub next_token : PulledToken → Spot → NextToken
+next_token t spot =
+    record {
+      start = t.start;
+      length = t.length;
+      rule = rule_number t.rule;
+      condition = t.condition;
+      line = spot.line;
+      column = spot.column;
+    }
 
 -- All tokens of the scan of the input by the rules of the file were handed out, with the status that it ends with.
 pub record TokensHandedOut (file input : List ℕ) (old new : List TextToken) (count status : ℕ)

@@ -2,7 +2,7 @@
 //! is for liblex, whose functions make these calls; docs/C.md is for their callers.
 //!
 //! - `answer`: what a call answers, as a number.
-//! - `flags` and `kinds`: how a specification is read, and the kinds of refusals, as numbers.
+//! - `flags` and `kinds`: how a specification is read, whether a stream counts lines, and the kinds of refusals, as numbers.
 //! - `buffers` and `memory`: buffers of a caller, and the sink that keeps what a scan writes.
 //! - `generating`: table files, made into a buffer.
 //! - `machines`: the machine of a table file, laid flat.
@@ -13,6 +13,7 @@
 //! - `tables`: the struct that C holds of a loaded table, with `rules_holder`, the owning pointer in it. `loading` has its calls.
 //! - `handle`: the struct that C holds of a scan by pieces. `holder` and `loose` are the owning pointer in it, and
 //!   `by_pieces` has its calls.
+//! - `lines`: the line and the column of a token.
 //! - `token_scan`: a scan that is asked for its tokens one by one. `stream` is the struct that C holds of one, with
 //!   `stream_holder`, the owning pointer in it. `streaming` has its calls.
 //!
@@ -31,6 +32,9 @@
 //!   answered. A feed takes each piece whole. After out of memory a scan by pieces has stopped.
 //! - **The text of a token is copied out.** A pointer into the scan could be read after the next call has moved what it
 //!   leads to, and no contract could say what stands there. Who needs no text pays nothing for it.
+//! - **Lines are counted as a stream goes, over the bytes that its tokens take for good**, and not where they are read: what
+//!   trailing context and yyless give back is counted with the token that takes it. Where a token begins is known from the one
+//!   before it: at its end, or, after yymore, at its beginning.
 //! - **A stream of tokens may be fed again after a refusal.** A feed that is refused keeps nothing of its piece and changes
 //!   nothing, since no turn was made. After a turn that was refused each call answers the same again.
 //! - **Answers are the exit statuses of the program lex**, so that a number has one meaning in a log. The default rule has the
@@ -47,6 +51,7 @@ mod generating;
 mod handle;
 mod holder;
 mod kinds;
+mod lines;
 mod listing;
 mod loading;
 mod loose;
@@ -65,9 +70,10 @@ mod token_scan;
 
 pub use answer::Answer;
 pub use by_pieces::{close_scan, feed_into, finish_into, open_loaded, open_scan};
-pub use flags::options_of;
+pub use flags::{counts_lines, options_of};
 pub use generating::{TextFault, generate_into};
 pub use handle::Scan;
+pub use lines::examples_of_lines;
 pub use listing::{TextToken, rule_lines_into, tokens_into, tokens_loaded};
 pub use loading::{load_tables, share_tables, unload_tables};
 pub use scanning::{scan_into, scan_loaded};

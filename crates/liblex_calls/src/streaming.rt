@@ -15,15 +15,15 @@ use crate::token_scan::{NextToken, TokenScan};
 use lexkit::TableError;
 use std::alloc::Global;
 
-/// Opens a stream of tokens by a table file. What the stream was open for before is closed.
-pub fn open_stream(alloc: Global, stream: &mut TokenStream, file: &[u8]) -> Answer
-    ensures { OpensStream file.now stream.new result }
+/// Opens a stream of tokens by a table file, which counts lines or not. What the stream was open for before is closed.
+pub fn open_stream(alloc: Global, stream: &mut TokenStream, file: &[u8], lines: bool) -> Answer
+    ensures { OpensStream file.now lines stream.new result }
 {
     close_stream(alloc, stream);
     match Rules::read(alloc, file) {
         Err(TableError::OutOfMemory) => Answer::OutOfMemory,
         Err(_) => Answer::Refused,
-        Ok(rules) => open_with(alloc, stream, rules),
+        Ok(rules) => open_with(alloc, stream, rules, lines),
     }
 }
 
@@ -33,24 +33,25 @@ pub fn open_stream_loaded(
     alloc: Global,
     stream: &mut TokenStream,
     tables: &mut LoadedTables,
+    lines: bool,
 ) -> Answer
-    ensures opened { (file : List ℕ) → HoldsTable file tables.old → OpensStream file stream.new result }
+    ensures opened { (file : List ℕ) → HoldsTable file tables.old → OpensStream file lines stream.new result }
     ensures same { loaded_in tables.new ≡ loaded_in tables.old }
     ensures unloaded { loaded_in tables.old ≡ None → (result ≡ Answer.Closed) × (stream_in stream.new ≡ None) }
 {
     close_stream(alloc, stream);
     match rules_of(alloc, tables) {
         Err(answer) => answer,
-        Ok(rules) => open_with(alloc, stream, rules),
+        Ok(rules) => open_with(alloc, stream, rules, lines),
     }
 }
 
 /// Opens a stream that is closed, by these rules.
-fn open_with(alloc: Global, stream: &mut TokenStream, rules: Rules) -> Answer
+fn open_with(alloc: Global, stream: &mut TokenStream, rules: Rules, lines: bool) -> Answer
     requires { stream_in stream.old ≡ None }
-    ensures { (file : List ℕ) → AreRulesOf file rules → OpensStream file stream.new result }
+    ensures { (file : List ℕ) → AreRulesOf file rules → OpensStream file lines stream.new result }
 {
-    match Box::new(alloc, TokenScan::new(alloc, rules)) {
+    match Box::new(alloc, TokenScan::new(alloc, rules, lines)) {
         Err(_) => Answer::OutOfMemory,
         Ok(held) => {
             put(stream, held);
@@ -62,9 +63,9 @@ fn open_with(alloc: Global, stream: &mut TokenStream, rules: Rules) -> Answer
 /// Feeds a piece of the input, of any length. Once the end was told, or the scan has ended or stopped, it counts for nothing.
 /// Where memory is refused or too much was fed, nothing has changed, and it may be fed again.
 pub fn feed_stream(alloc: Global, stream: &mut TokenStream, piece: &[u8]) -> Answer
-    ensures fed { (file : List ℕ) (told : Bool) (fed : List ℕ) (tokens : List TokenModel) (text : List ℕ)
-        → Streams file told fed tokens text stream.old
-        → FeedsStream file told fed piece.now tokens text stream.new result }
+    ensures fed { (file : List ℕ) (lines told : Bool) (fed : List ℕ) (tokens : List TokenModel) (text : List ℕ)
+        → Streams file lines told fed tokens text stream.old
+        → FeedsStream file lines told fed piece.now tokens text stream.new result }
     ensures again { AnswersAgain stream.old stream.new result }
     ensures closed { stream_in stream.old ≡ None → (result ≡ Answer.Closed) × (stream_in stream.new ≡ None) }
 {
@@ -78,9 +79,9 @@ pub fn feed_stream(alloc: Global, stream: &mut TokenStream, piece: &[u8]) -> Ans
 
 /// Tells the end of the input.
 pub fn end_stream(alloc: Global, stream: &mut TokenStream) -> Answer
-    ensures told { (file : List ℕ) (told : Bool) (fed : List ℕ) (tokens : List TokenModel) (text : List ℕ)
-        → Streams file told fed tokens text stream.old
-        → Streams file true fed tokens text stream.new × (result ≡ Answer.Done) }
+    ensures told { (file : List ℕ) (lines told : Bool) (fed : List ℕ) (tokens : List TokenModel) (text : List ℕ)
+        → Streams file lines told fed tokens text stream.old
+        → Streams file lines true fed tokens text stream.new × (result ≡ Answer.Done) }
     ensures as_far { ComesAsFar stream.old stream.new }
     ensures closed { stream_in stream.old ≡ None → (result ≡ Answer.Closed) × (stream_in stream.new ≡ None) }
 {
@@ -101,9 +102,9 @@ pub fn next_token(
     token: &mut NextToken,
     status: &mut u8,
 ) -> Answer
-    ensures told { (file : List ℕ) (told : Bool) (fed : List ℕ) (tokens : List TokenModel) (text : List ℕ)
-        → Streams file told fed tokens text stream.old
-        → TellsNext file told fed tokens stream.new token.old token.new status.new result }
+    ensures told { (file : List ℕ) (lines told : Bool) (fed : List ℕ) (tokens : List TokenModel) (text : List ℕ)
+        → Streams file lines told fed tokens text stream.old
+        → TellsNext file lines told fed tokens stream.new token.old token.new status.new result }
     ensures again { AnswersAgain stream.old stream.new result }
     ensures closed { stream_in stream.old ≡ None → (result ≡ Answer.Closed) × (stream_in stream.new ≡ None)
         × (token.new ≡ token.old) × (status.new ≡ 0) }
@@ -125,8 +126,8 @@ pub fn text_into(
     buffer: &mut [u8],
     count: &mut usize,
 ) -> Answer
-    ensures handed { (file : List ℕ) (told : Bool) (fed : List ℕ) (tokens : List TokenModel) (text : List ℕ)
-        → Streams file told fed tokens text stream.old
+    ensures handed { (file : List ℕ) (lines told : Bool) (fed : List ℕ) (tokens : List TokenModel) (text : List ℕ)
+        → Streams file lines told fed tokens text stream.old
         → HandsText text stream.old stream.new buffer.old buffer.new count.new result }
     ensures closed { stream_in stream.old ≡ None → (result ≡ Answer.Closed) × (stream_in stream.new ≡ None)
         × NothingOut buffer.old buffer.new count.new }

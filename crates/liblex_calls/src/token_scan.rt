@@ -6,6 +6,7 @@ ghost use Rattle.liblex_calls.specs.Listing.{next_token};
 
 use crate::answer::Answer;
 use crate::buffers::hand_out;
+use crate::lines::{Lines, Spot};
 use crate::listing::rule_number;
 use crate::rules::Rules;
 use crate::stage::Stage;
@@ -15,7 +16,8 @@ use std::alloc::Global;
 
 /// A token that was asked for: where its text begins, counted in bytes from the beginning of the input, how long that is,
 /// the number of its rule, from 0 on in the order of the file, or 4,294,967,295 for the default rule, and the number of the
-/// start condition in which it was made.
+/// start condition in which it was made. Where lines are counted, the line and the column of its first byte, from 1, and
+/// else 0 and 0. (flex: yylineno, but of the first byte.)
 #[repr(C)]
 #[derive(Clone, Copy, Debug, PartialEq, Eq)]
 pub struct NextToken {
@@ -23,17 +25,21 @@ pub struct NextToken {
     pub length: usize,
     pub rule: u32,
     pub condition: u32,
+    pub line: u64,
+    pub column: u64,
 }
 
-/// The token with a number for its rule.
-fn shown(token: PulledToken) -> NextToken
-    ensures { result ≡ next_token token }
+/// The token with a number for its rule, and with where it stands.
+fn shown(token: PulledToken, spot: Spot) -> NextToken
+    ensures { result ≡ next_token token spot }
 {
     NextToken {
         start: token.start,
         length: token.length,
         rule: rule_number(token.rule),
         condition: u32::from(token.condition),
+        line: spot.line,
+        column: spot.column,
     }
 }
 
@@ -43,6 +49,7 @@ pub struct TokenScan {
     scanner: PullScanner<Rules>,
     /// Goes on until the end or a fault is told.
     stage: Stage,
+    lines: Lines,
 }
 
 impl TokenScan {
@@ -52,22 +59,23 @@ impl TokenScan {
     ghost use Rattle.liblex_calls.specs.Stages.{status_in};
     ghost use Rattle.liblex_calls.specs.Told.{Told, FeedTells, NextTells, TellsAgain};
 
-    /// One that was fed nothing.
-    pub(crate) fn new(alloc: Global, rules: Rules) -> TokenScan
+    /// One that was fed nothing, and counts lines or not.
+    pub(crate) fn new(alloc: Global, rules: Rules, lines: bool) -> TokenScan
         ensures going { result.stage ≡ Stage.Going }
-        ensures told { (file : List ℕ) → IsMachineOf file (rules_machine rules) → Told file false [] [] [] result }
+        ensures told { (file : List ℕ) → IsMachineOf file (rules_machine rules) → Told file lines false [] [] [] result }
     {
         TokenScan {
             scanner: PullScanner::new(alloc, rules),
             stage: Stage::Going,
+            lines: Lines::new(lines),
         }
     }
 
     /// Keeps a piece more. Once the end was told, or the scan has ended or stopped, it counts for nothing.
     pub(crate) fn feed(&mut self, piece: &[u8]) -> Answer
-        ensures fed { (file : List ℕ) (told : Bool) (fed : List ℕ) (tokens : List TokenModel) (text : List ℕ)
-            → Told file told fed tokens text self.old
-            → FeedTells file told fed piece.now tokens text self.new result }
+        ensures fed { (file : List ℕ) (lines told : Bool) (fed : List ℕ) (tokens : List TokenModel) (text : List ℕ)
+            → Told file lines told fed tokens text self.old
+            → FeedTells file lines told fed piece.now tokens text self.new result }
         ensures again { TellsAgain self.old self.new result }
     {
         let Stage::Going = self.stage else {
@@ -85,8 +93,8 @@ impl TokenScan {
 
     /// Tells the end of the input.
     pub(crate) fn end(&mut self)
-        ensures told { (file : List ℕ) (told : Bool) (fed : List ℕ) (tokens : List TokenModel) (text : List ℕ)
-            → Told file told fed tokens text self.old → Told file true fed tokens text self.new }
+        ensures told { (file : List ℕ) (lines told : Bool) (fed : List ℕ) (tokens : List TokenModel) (text : List ℕ)
+            → Told file lines told fed tokens text self.old → Told file lines true fed tokens text self.new }
         ensures stage { self.new.stage ≡ self.old.stage }
     {
         self.scanner.finish();
@@ -95,9 +103,9 @@ impl TokenScan {
     /// Tells the next token, or that it asks for more than was fed, or the end with its status, or a fault. After the end
     /// and a fault the same is told again.
     pub(crate) fn next(&mut self, token: &mut NextToken, status: &mut u8) -> Answer
-        ensures told { (file : List ℕ) (told : Bool) (fed : List ℕ) (tokens : List TokenModel) (text : List ℕ)
-            → Told file told fed tokens text self.old
-            → NextTells file told fed tokens self.new token.old token.new status.new result }
+        ensures told { (file : List ℕ) (lines told : Bool) (fed : List ℕ) (tokens : List TokenModel) (text : List ℕ)
+            → Told file lines told fed tokens text self.old
+            → NextTells file lines told fed tokens self.new token.old token.new status.new result }
         ensures again { TellsAgain self.old self.new result }
     {
         let answer = self.pull(token);
@@ -107,9 +115,9 @@ impl TokenScan {
 
     /// The same, with the status in the stage.
     fn pull(&mut self, token: &mut NextToken) -> Answer
-        ensures told { (file : List ℕ) (told : Bool) (fed : List ℕ) (tokens : List TokenModel) (text : List ℕ)
-            → Told file told fed tokens text self.old
-            → NextTells file told fed tokens self.new token.old token.new (status_in self.new.stage) result }
+        ensures told { (file : List ℕ) (lines told : Bool) (fed : List ℕ) (tokens : List TokenModel) (text : List ℕ)
+            → Told file lines told fed tokens text self.old
+            → NextTells file lines told fed tokens self.new token.old token.new (status_in self.new.stage) result }
         ensures again { TellsAgain self.old self.new result }
     {
         let Stage::Going = self.stage else {
@@ -117,7 +125,8 @@ impl TokenScan {
         };
         match self.scanner.next() {
             Ok(Pulled::Token(found)) => {
-                *token = shown(found);
+                let spot = self.lines.tell(found.start, self.scanner.text());
+                *token = shown(found, spot);
                 Answer::Done
             }
             Ok(Pulled::More) => Answer::More,

@@ -4,11 +4,11 @@ use Rattle.liblex_calls.specs.declared.token_scan.TokenScan.{TokenScan}
 use Rattle.liblex_calls.proofs.streaming.feed_stream.Goals as goal
 
 pub returns-clause-fed : goal.returns-clause-fed
-returns-clause-fed c file told fed tokens text (p, is, T) =
+returns-clause-fed c file lines told fed tokens text (p, is, T) =
     let e : c.deref_mut.result.now ≡ p = c.deref_mut.ensures.value ∙ c.in-Some.ensures.value p is in (
       c.feed-answer.new.self,
       c.put.ensures,
-      c.feed-answer.ensures.fed file told fed tokens text (subst (Told file told fed tokens text) (sym e) T),
+      c.feed-answer.ensures.fed file lines told fed tokens text (subst (Told file lines told fed tokens text) (sym e) T),
     )
 
 pub returns-clause-again : goal.returns-clause-again

@@ -4,11 +4,11 @@ use Rattle.liblex_calls.specs.declared.token_scan.TokenScan.{TokenScan}
 use Rattle.liblex_calls.proofs.streaming.next_token.Goals as goal
 
 pub returns-clause-told : goal.returns-clause-told
-returns-clause-told c file told fed tokens text (p, is, T) =
+returns-clause-told c file lines told fed tokens text (p, is, T) =
     let e : c.deref_mut.result.now ≡ p = c.deref_mut.ensures.value ∙ c.in-Some.ensures.value p is in (
       c.next-answer.new.self,
       c.put.ensures,
-      c.next-answer.ensures.told file told fed tokens text (subst (Told file told fed tokens text) (sym e) T),
+      c.next-answer.ensures.told file lines told fed tokens text (subst (Told file lines told fed tokens text) (sym e) T),
     )
 
 pub returns-clause-again : goal.returns-clause-again

@@ -9,7 +9,7 @@ returns c file is = (
   (
     c.in-Ok.held.value,
     c.put.ensures,
-    subst (Told file false [] [] []) (sym c.in-Ok.ensures.ok) (c.new.ensures.told file is),
+    subst (Told file c.args.lines false [] [] []) (sym c.in-Ok.ensures.ok) (c.new.ensures.told file is),
   ),
   (c.in-Ok.held.value, c.put.ensures, subst (λ (p : TokenScan). p.stage ≡ stages.Going) (sym c.in-Ok.ensures.ok) c.new.ensures.going),
 )

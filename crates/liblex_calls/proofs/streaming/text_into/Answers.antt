@@ -5,7 +5,7 @@ use Rattle.liblex_calls.specs.declared.token_scan.TokenScan.{TokenScan}
 use Rattle.liblex_calls.proofs.streaming.text_into.Goals as goal
 
 pub returns-clause-handed : goal.returns-clause-handed
-returns-clause-handed c file told fed tokens text (p, is, T) =
+returns-clause-handed c file lines told fed tokens text (p, is, T) =
     let e : c.in-Some.held.value ≡ p = c.in-Some.ensures.value p is in
     let shown = ap (λ (x : TokenScan). pull_text x.scanner) (c.deref.ensures ∙ e) ∙ T.shows in (
       c.put.ensures ∙ ap Some e ∙ sym is,

@@ -3,5 +3,5 @@ use Rattle.liblex_calls.specs.Told.{NextTells}
 use Rattle.liblex_calls.proofs.token_scan.TokenScan.next.Goals as goal
 
 pub returns-clause-told : goal.returns-clause-told
-returns-clause-told c file told fed tokens text T =
-    subst (λ (n : ℕ). NextTells file told fed tokens c.pull-answer.new.self c.args.token.now c.pull-answer.new.token n c.pull-answer.result) (sym c.status.ensures) (c.pull-answer.ensures.told file told fed tokens text T)
+returns-clause-told c file lines told fed tokens text T =
+    subst (λ (n : ℕ). NextTells file lines told fed tokens c.pull-answer.new.self c.args.token.now c.pull-answer.new.token n c.pull-answer.result) (sym c.status.ensures) (c.pull-answer.ensures.told file lines told fed tokens text T)

@@ -1,0 +1,9 @@
+use Rattle.std.proofs.Common.{rules, ◌≡◌, Bool, subst, w32, to_z, of_z}
+use Rattle.liblex_calls.specs.Numbers.{number_of}
+use Rattle.liblex_calls.specs.Streams.{OpensStream}
+use Rattle.liblex.proofs.lex_open_stream.Goals as goal
+
+pub returns : goal.returns
+returns c =
+    let number : to_z w32 (of_z w32 c.number.result) ≡ number_of c.open_stream.result = search rules in
+    (c.open_stream.result, number, subst (λ (b : Bool). OpensStream c.args.file.now b c.open_stream.new.stream c.open_stream.result) c.counts_lines.ensures c.open_stream.ensures)
