@@ -40,8 +40,8 @@ TokensStand M stages.OutOfMemory told fed tokens text s waiting =
     StoppedSo (rules_of_machine M) fed told tokens runs.OutOfMemory × (text ≡ [])
 TokensStand M stages.TooManyReads told fed tokens text s waiting = ⊥
 
--- A scan by the rules of this file, which counts lines or not, was fed these bytes, and their end was told or not. It has
--- told these tokens, and shows this text.
+-- A scan by the rules of this file, which counts lines or not, was fed these bytes, and their end was told or not. It
+-- has told these tokens, and shows this text.
 pub record Told (file : List ℕ) (lines told : Bool) (fed : List ℕ) (tokens : List Token) (text : List ℕ)
     (p : TokenScan) : Type 0 where
   pub machine : IsMachineOf file (token_machine p)
