@@ -1,5 +1,5 @@
--- Where the tokens of an input stand: their lines and columns. (flex, Values Available To the User: yylineno, but of the
--- first byte of a token; columns are this project's.)
+-- Where the tokens of an input stand: their lines and columns. (flex, Values Available To the User: yylineno, but of
+-- the first byte of a token; columns are this project's.)
 use Rattle.std.specs.Prelude.{◌≡◌, ℕ, ◌+◌, ◌≤◌, Bool, true, false, not, List, length, take, reverse, fold, count_by, ◌==◌, ◌⊎◌, ⊤}
 use Rattle.std.specs.List.{prefix_len}
 use Rattle.lexscan.specs.declared.token.Token.{Token}

@@ -13,8 +13,8 @@ use Rattle.liblex_calls.specs.declared.stream.TokenStream.{TokenStream}
 use Rattle.liblex_calls.specs.declared.token_scan.TokenScan.{TokenScan}
 use Rattle.liblex_calls.specs.declared.token_scan.NextToken.{NextToken}
 
--- the stream is open, by the rules of this file, and counts lines or not; it was fed these bytes, has told these tokens,
--- and shows this text
+-- the stream is open, by the rules of this file, and counts lines or not; it was fed these bytes, has told these
+-- tokens, and shows this text
 abbrev pub Streams : List ℕ → Bool → Bool → List ℕ → List Token → List ℕ → TokenStream → Type 0
 Streams file lines told fed tokens text stream =
     (p : TokenScan) × (stream_in stream ≡ Some p) × Told file lines told fed tokens text p
