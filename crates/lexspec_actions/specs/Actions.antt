@@ -81,30 +81,32 @@ module _ (known : Scope) where
       else None)
 
   -- behind BEGIN stands a condition, in parentheses or not
-  abbrev pub begun_at : Reader (List Statement)
-  begun_at t = if begins (codes "(") (after_spaces t) then in_parentheses (condition_at Begin) t else condition_at Begin t
+  abbrev pub begun_condition : Reader (List Statement)
+  begun_condition t =
+      if begins (codes "(") (after_spaces t) then in_parentheses (condition_at Begin) t
+      else condition_at Begin t
 
   -- what fputs writes to yyout
-  abbrev pub put_at : Reader (List Statement)
-  put_at t = literal_at t >>= λ (text, rest). second_word (codes "yyout") rest >>= says_only (Print text)
+  abbrev pub literal_to_yyout : Reader (List Statement)
+  literal_to_yyout t = literal_at t >>= λ (text, rest). second_word (codes "yyout") rest >>= says_only (Print text)
 
   -- what puts writes, and a newline behind it
-  abbrev pub line_at : Reader (List Statement)
-  line_at t = literal_at t >>= λ (text, rest). says_only (Print (text ++ codes "\n")) rest
+  abbrev pub literal_as_line : Reader (List Statement)
+  literal_as_line t = literal_at t >>= λ (text, rest). says_only (Print (text ++ codes "\n")) rest
 
   -- the statements: the first word of each, and what follows it
   abbrev pub statements : List (List ℕ × Reader (List Statement))
   statements =
       (codes "ECHO", says_only Echo)
       ∷ (codes "REJECT", says_only Reject)
-      ∷ (codes "BEGIN", begun_at)
+      ∷ (codes "BEGIN", begun_condition)
       ∷ (codes "yymore", in_parentheses (says_only More))
       ∷ (codes "yyless", in_parentheses (number_within 1 max_kept Less))
       ∷ (codes "yyterminate", in_parentheses (says_only (End 0)))
       ∷ (codes "exit", in_parentheses (number_within 0 max_status End))
       ∷ (codes "printf", in_parentheses format_at)
-      ∷ (codes "fputs", in_parentheses put_at)
-      ∷ (codes "puts", in_parentheses line_at)
+      ∷ (codes "fputs", in_parentheses literal_to_yyout)
+      ∷ (codes "puts", in_parentheses literal_as_line)
       ∷ (if not known.stack then []
       else (codes "yy_push_state", in_parentheses (condition_at Push))
       ∷ (codes "yy_pop_state", in_parentheses (says_only Pop)) ∷ [])
