@@ -3,8 +3,8 @@
 cites, and those that these are made of.
 
     scripts/gate/definitions.py             how many there are, by crate, and what is missing on the page
-    scripts/gate/definitions.py --status    the same, and a status of 1 where something is missing, a name has two meanings, or a line of
-                                            specs/ has more than 120 columns
+    scripts/gate/definitions.py --status    the same, and a status of 1 where something is missing, a name has two meanings, a line of
+                                            specs/ has more than 120 columns, or a definition more than 20 lines
     scripts/gate/definitions.py --write     the same, and the table at the end of the page is written
     scripts/gate/definitions.py NAME ..     the definitions that the contracts of these calls lead to, with their lines
     scripts/gate/definitions.py --std NAME .. the names from outside this project that those definitions are written with
@@ -262,10 +262,21 @@ def wide():
                     yield f"crates/{crate}/specs/{file}:{number}"
 
 
+def long(specs, targets):
+    """The definitions of more than 20 lines, but for tables that have a line for each case."""
+    for target in sorted(targets):
+        lines = specs.lines[target]
+        cases = sum(line.strip().startswith(target[2] + " ") for line in lines)
+        if len(lines) > 20 and cases < len(lines) - 1:
+            yield ".".join(target)
+
+
 def faults(specs, direct, whole):
-    """What the page lacks, what it has that is not so, which names have two meanings, and which lines are too long."""
+    """What the page lacks, what it has that is not so, which names have two meanings, and what is too long."""
     for place in wide():
         yield f"more than 120 columns: {place}"
+    for name in long(specs, specs.closure(direct)):
+        yield f"more than 20 lines: {name}"
     for name, modules in homes(specs.closure(direct)).items():
         yield f"two meanings: {name} of {', '.join(modules)}"
     page = read(ROOT, "docs", "DEFINITIONS.md")
