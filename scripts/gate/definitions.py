@@ -263,11 +263,11 @@ def wide():
 
 
 def long(specs, targets):
-    """The definitions of more than 20 lines, but for tables that have a line for each case."""
+    """The definitions of more than 20 lines, but for tables that have a line or two for each case."""
     for target in sorted(targets):
         lines = specs.lines[target]
         cases = sum(line.strip().startswith(target[2] + " ") for line in lines)
-        if len(lines) > 20 and cases < len(lines) - 1:
+        if len(lines) > 20 and 2 * cases < len(lines) - 1:
             yield ".".join(target)
 
 
