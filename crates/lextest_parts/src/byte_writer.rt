@@ -100,30 +100,40 @@ fn flushes(writer: &mut ByteWriter<Drip<'_>>, want: Result<(), ErrorKind>) -> bo
 // Nothing is poured then.
 const HELD: &[(&[u8], usize)] = &[(b"abc", 3), (b"", 0), (b"d", 1)];
 
+/// Whether what there is room for is taken, and nothing is poured.
+fn holds(writer: &mut ByteWriter<Drip<'_>>, tally: &Tally) -> bool {
+    let mut so = true;
+    for &(bytes, count) in HELD {
+        so = writes(writer, bytes, count) && tally.is_empty() && so;
+    }
+    so
+}
+
+/// Whether it is poured when it is full, and in a flush.
+fn pours(writer: &mut ByteWriter<Drip<'_>>, tally: &Tally, dots: &[u8], long: &[u8]) -> bool {
+    writes(writer, b"ef", 2)
+        && tally.has(dots, b"abcd")
+        && writes(writer, long, 3)
+        && tally.has(dots, b"abcdefghi")
+        && writes(writer, b"j", 1)
+        && flushes(writer, Ok(()))
+        && tally.has(dots, b"abcdefghij")
+        && tally.flushes.get() == 1
+}
+
 /// Dots come first, so that it is full after a few bytes. More bytes than it may hold are handed on.
 #[test]
 fn pours_when_it_is_full_and_in_a_flush(rt: HostRuntime) -> Result<(), Fail> {
     let dots = dots(rt.alloc(), CAPACITY - 4)?;
+    let long = followed(rt.alloc(), b"ghijk", &dots)?;
     let tally = Tally::new(rt.alloc(), usize::MAX);
     let drip = Drip {
         tally: &tally,
         full: None,
     };
     let mut writer = ByteWriter::new(rt.alloc(), drip)?;
-    assert!(rt; writes(&mut writer, &dots, 65_532));
-    for &(bytes, count) in HELD {
-        assert!(rt; writes(&mut writer, bytes, count));
-        assert!(rt; tally.is_empty());
-    }
-    assert!(rt; writes(&mut writer, b"ef", 2));
-    assert!(rt; tally.has(&dots, b"abcd"));
-    let long = followed(rt.alloc(), b"ghijk", &dots)?;
-    assert!(rt; writes(&mut writer, &long, 3));
-    assert!(rt; tally.has(&dots, b"abcdefghi"));
-    assert!(rt; writes(&mut writer, b"j", 1));
-    assert!(rt; flushes(&mut writer, Ok(())));
-    assert!(rt; tally.has(&dots, b"abcdefghij"));
-    assert!(rt; tally.flushes.get() == 1);
+    let held = writes(&mut writer, &dots, 65_532) && holds(&mut writer, &tally);
+    assert!(rt; held && pours(&mut writer, &tally, &dots, &long));
     Ok(())
 }
 
@@ -133,6 +143,23 @@ const FAULTS: &[(Option<ErrorKind>, ErrorKind)] = &[
     (Some(ErrorKind::Interrupted), ErrorKind::Interrupted),
     (Some(ErrorKind::Other), ErrorKind::Other),
 ];
+
+/// Whether a full writer refuses so, and what it did not take is poured later.
+fn loses_nothing(
+    writer: &mut ByteWriter<Drip<'_>>,
+    tally: &Tally,
+    dots: &[u8],
+    want: ErrorKind,
+) -> bool {
+    let refused = writes(writer, dots, 65_528)
+        && writes(writer, b"abcdefg", 7)
+        && refuses(writer, b"hij", want)
+        && tally.has(dots, b"abcde")
+        && flushes(writer, Err(want))
+        && writes(writer, b"hij", 3);
+    tally.room.set(99);
+    refused && flushes(writer, Ok(())) && tally.has(dots, b"abcdefghij")
+}
 
 /// What the writer behind it does not take stays held, and is poured later.
 #[test]
@@ -145,15 +172,7 @@ fn loses_and_repeats_nothing_at_a_fault(rt: HostRuntime) -> Result<(), Fail> {
             full,
         };
         let mut writer = ByteWriter::new(rt.alloc(), drip)?;
-        assert!(rt; writes(&mut writer, &dots, 65_528));
-        assert!(rt; writes(&mut writer, b"abcdefg", 7));
-        assert!(rt; refuses(&mut writer, b"hij", want));
-        assert!(rt; tally.has(&dots, b"abcde"));
-        assert!(rt; flushes(&mut writer, Err(want)));
-        assert!(rt; writes(&mut writer, b"hij", 3));
-        tally.room.set(99);
-        assert!(rt; flushes(&mut writer, Ok(())));
-        assert!(rt; tally.has(&dots, b"abcdefghij"));
+        assert!(rt; loses_nothing(&mut writer, &tally, &dots, want));
     }
     Ok(())
 }

@@ -93,15 +93,19 @@ fn folds_signs() -> bool {
     signs.fold_case() == signs.union(&ByteSet::range(b'a', b'z'))
 }
 
+/// Whether a union has the bytes of both sets, and its complement the others.
+fn joins_sets() -> bool {
+    let letters = ByteSet::range(b'a', b'c').union(&ByteSet::of(b'x'));
+    let others = letters.complement();
+    let within = letters.contains(b'b') && letters.contains(b'x') && !letters.contains(b'd');
+    within && !others.contains(b'b') && others.contains(b'd')
+}
+
 #[test]
 fn sets(rt: HostRuntime) {
-    assert!(rt; folds_letters());
-    assert!(rt; folds_signs());
+    assert!(rt; folds_letters() && folds_signs() && joins_sets());
     assert!(rt; ByteSet::of(200).complement().complement() == ByteSet::of(200));
     assert!(rt; ByteSet::of(7).union(&ByteSet::empty()) == ByteSet::of(7));
-    let letters = ByteSet::range(b'a', b'c').union(&ByteSet::of(b'x'));
-    assert!(rt; letters.contains(b'b') && letters.contains(b'x') && !letters.contains(b'd'));
-    assert!(rt; !letters.complement().contains(b'b') && letters.complement().contains(b'd'));
     assert!(rt; ByteSet::range(0, 255).complement().is_empty() && !ByteSet::of(255).is_empty());
 }
 
@@ -274,11 +278,9 @@ fn adds_names(definitions: &mut Defs) -> bool {
 #[test]
 fn definitions(rt: HostRuntime) {
     let mut definitions = Defs::new(rt.alloc());
-    assert!(rt; definitions.find(b"D").is_none());
-    assert!(rt; adds_names(&mut definitions));
-    assert!(rt; has_text(&definitions, b"D", b"[0-9]"));
-    assert!(rt; has_text(&definitions, b"N", b"{D}+"));
-    assert!(rt; definitions.find(b"d").is_none());
+    assert!(rt; definitions.find(b"D").is_none() && adds_names(&mut definitions));
+    let both = has_text(&definitions, b"D", b"[0-9]") && has_text(&definitions, b"N", b"{D}+");
+    assert!(rt; both && definitions.find(b"d").is_none());
 }
 
 /// A name that finds no room is not added, and those before it stay (`scripts/campaigns/refuse-memory.py` refuses the room).

@@ -54,12 +54,17 @@ const ROWS: &[(usize, Full, bool, &[u8])] = &[
     (4, Full::Fault, false, b"abcd"),
 ];
 
+/// Whether all of five bytes are written into this room or not, and these are.
+fn writes_so(alloc: Global, room: usize, full: Full, all: bool, written: &[u8]) -> bool {
+    let mut sink = ToWrite::new(dripping(alloc, room, full));
+    let so = sink.put(b"abcde").is_ok() == all;
+    so && sink.into_inner().taken.as_slice() == written
+}
+
 #[test]
 fn writes_all_or_tells_a_fault(rt: HostRuntime) {
     for &(room, full, all, written) in ROWS {
-        let mut sink = ToWrite::new(dripping(rt.alloc(), room, full));
-        assert!(rt; sink.put(b"abcde").is_ok() == all, "room {room}");
-        assert!(rt; sink.into_inner().taken.as_slice() == written);
+        assert!(rt; writes_so(rt.alloc(), room, full, all, written));
     }
 }
 
@@ -88,19 +93,24 @@ impl Write for FailsOnce {
     }
 }
 
+/// Whether a fault after so many writes is told, and these bytes are written.
+fn stops_so(alloc: Global, before: usize, written: &[u8]) -> bool {
+    let taken = Vec::new(alloc);
+    let mut sink = ToWrite::new(FailsOnce {
+        taken,
+        before,
+        failed: false,
+    });
+    let so = sink.put(b"abcde").is_err();
+    so && sink.into_inner().taken.as_slice() == written
+}
+
 /// A write that failed is not tried again, though it would work: nothing comes behind what was written before it.
 #[test]
 fn tries_no_failed_write_again(rt: HostRuntime) {
     const ROWS: &[(usize, &[u8])] = &[(0, b""), (1, b"ab"), (2, b"abcd")];
     for &(before, written) in ROWS {
-        let taken = Vec::new(rt.alloc());
-        let mut sink = ToWrite::new(FailsOnce {
-            taken,
-            before,
-            failed: false,
-        });
-        assert!(rt; sink.put(b"abcde").is_err(), "after {before}");
-        assert!(rt; sink.into_inner().taken.as_slice() == written);
+        assert!(rt; stops_so(rt.alloc(), before, written));
     }
 }
 

@@ -45,14 +45,6 @@ fn are_conditions(conditions: &[Condition]) -> bool {
     conditions.len() == CONDITIONS.len()
 }
 
-/// The conditions of a file, with their ends. (flex, Start Conditions and End-of-File Rules.)
-#[test]
-fn conditions_of_a_file(rt: HostRuntime) -> Result<(), Fail> {
-    let spec = read(rt.alloc(), WHOLE)?;
-    assert!(rt; are_conditions(spec.conditions()));
-    Ok(())
-}
-
 /// Which of three actions a rule has.
 fn action_of(rule: &Rule) -> &'static str {
     match rule.statements.as_slice() {
@@ -79,11 +71,11 @@ fn has_cut(alloc: Global, text: &str, cut: Cut) -> bool {
 #[test]
 fn longest_cuts(rt: HostRuntime) -> Result<(), Fail> {
     let alloc = rt.alloc();
-    let rows = &[
+    const ROWS: &[(&str, &str, Cut)] = &[
         ("%%\n(a{255}){255}", "/b* ;", Cut::Head(65_535)),
         ("%%\nb*/(a{255}){255}", " ;", Cut::Trail(65_535)),
     ];
-    for &(before, after, cut) in rows {
+    for &(before, after, cut) in ROWS {
         let text = repeated(alloc, before, "a{255}", 2, after)?;
         assert!(rt; has_cut(alloc, &text, cut), "{before}");
     }
@@ -126,12 +118,13 @@ fn are_rules(rules: &[Rule]) -> bool {
     rules.len() == RULES.len()
 }
 
-/// The rules of a file. (POSIX, lex, Rules in lex; flex, Patterns.)
+/// The rules of a file, and its conditions with their ends. (POSIX, lex, Rules in lex; flex, Patterns, Start Conditions and
+/// End-of-File Rules.)
 #[test]
-fn rules_of_a_file(rt: HostRuntime) -> Result<(), Fail> {
+fn rules_and_conditions_of_a_file(rt: HostRuntime) -> Result<(), Fail> {
     let spec = read(rt.alloc(), WHOLE)?;
-    assert!(rt; spec.rejects());
-    assert!(rt; are_rules(spec.rules()));
+    assert!(rt; are_conditions(spec.conditions()));
+    assert!(rt; spec.rejects() && are_rules(spec.rules()));
     Ok(())
 }
 
@@ -139,13 +132,13 @@ fn rules_of_a_file(rt: HostRuntime) -> Result<(), Fail> {
 #[test]
 fn folded_letters(rt: HostRuntime) {
     let alloc = rt.alloc();
-    let rows = &[
+    const ROWS: &[(&str, bool, bool)] = &[
         ("%%\na ;", false, false),
         ("%%\na ;", true, true),
         ("%option case-insensitive\n%%\na ;", false, true),
     ];
-    for &(text, fold, both) in rows {
-        assert_eq!(rt; has_capital(alloc, text, fold), Some(both));
+    for &(text, fold, both) in ROWS {
+        assert!(rt; has_capital(alloc, text, fold) == Some(both));
     }
 }
 
