@@ -79,6 +79,16 @@ fn stays_ended(alloc: Global, stream: &mut TokenStream, status: u8) -> bool {
         && answers(alloc, stream, Answer::Ended, status)
 }
 
+/// Whether a stream is told its end, twice, and then takes no piece, twice, also where tokens are still to come.
+fn is_at_end(alloc: Global, stream: &mut TokenStream) -> bool {
+    let mut so = true;
+    for _ in 0..2u32 {
+        so = so && end_stream(alloc, stream) == Answer::Done;
+        so = so && feed_stream(alloc, stream, b"1") == Answer::Ended;
+    }
+    so
+}
+
 /// Whether the input of a scan has its tokens in pieces of a size, and ends with its status.
 fn streams(alloc: Global, file: &[u8], scan: &Scan, size: usize, lines: bool) -> bool {
     let &(_, input, rows, status) = scan;
@@ -90,7 +100,7 @@ fn streams(alloc: Global, file: &[u8], scan: &Scan, size: usize, lines: bool) ->
         so = so && (fed == Answer::Done || fed == Answer::Ended);
         told = count_told(alloc, &mut stream, rows, told, lines);
     }
-    so = end_stream(alloc, &mut stream) == Answer::Done && so;
+    so = is_at_end(alloc, &mut stream) && so;
     told = count_told(alloc, &mut stream, rows, told, lines);
     so = so && told == rows.len() && stays_ended(alloc, &mut stream, status);
     stream.close(alloc);

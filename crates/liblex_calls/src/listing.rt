@@ -1,8 +1,8 @@
 //! The tokens of whole inputs and the lines of rules, into a buffer of the caller.
-ghost use Rattle.std.specs.Prelude.{◌≡◌, ℕ, List, None, map, IfOk};
+ghost use Rattle.std.specs.Prelude.{◌≡◌, ℕ, List, None, map};
 ghost use Rattle.liblex_calls.specs.Loading.{AreRulesOf, HoldsTable};
 ghost use Rattle.liblex_calls.specs.Handles.{loaded_in};
-ghost use Rattle.liblex_calls.specs.Buffers.{NothingOut};
+ghost use Rattle.liblex_calls.specs.Buffers.{FitsInto, HandedOut, NothingOut};
 ghost use Rattle.liblex_calls.specs.Listing.{ListsInto, TellsLines, rule_number, text_token};
 
 use crate::answer::Answer;
@@ -14,7 +14,7 @@ use crate::tables::LoadedTables;
 use lexkit::{
     GenError, MatchedRule, Options, RunError, TableError, Token, lines_of, read_text, tokens,
 };
-use std::alloc::{AllocError, Global};
+use std::alloc::Global;
 
 /// A match of a scan: where its text begins and ends in the input, the number of its rule, from 0 on in the order of
 /// the file, or 4,294,967,295 for the default rule, and the number of the start condition in which it was made.
@@ -37,20 +37,34 @@ pub(crate) fn rule_number(rule: MatchedRule) -> u32
     }
 }
 
-/// The tokens, with numbers for their rules.
-fn shown_of(alloc: Global, list: &[Token]) -> Result<Vec<TextToken>, AllocError>
-    ensures { IfOk result (λ tokens. tokens.items ≡ map text_token list.now) }
+/// The token with a number for its rule.
+fn text_token(token: &Token) -> TextToken
+    ensures { result ≡ text_token token.now }
 {
-    let mut tokens = Vec::new(alloc);
-    for token in list {
-        tokens.push(TextToken {
-            start: token.start,
-            end: token.end,
-            rule: rule_number(token.rule),
-            condition: u32::from(token.condition),
-        })?;
+    TextToken {
+        start: token.start,
+        end: token.end,
+        rule: rule_number(token.rule),
+        condition: u32::from(token.condition),
     }
-    Ok(tokens)
+}
+
+/// Puts the tokens at the front of a buffer, as many as it has room for, with numbers for their rules, and tells how many
+/// there are.
+fn hand_tokens(list: &[Token], buffer: &mut [TextToken], count: &mut usize) -> Answer
+    ensures handed { HandedOut (map text_token list.now) buffer.old buffer.new count.new }
+    ensures fits { FitsInto (map text_token list.now) buffer.old result }
+{
+    *count = list.len();
+    let room = list.len().min(buffer.len());
+    for i in 0..room {
+        buffer[i] = text_token(&list[i]);
+    }
+    if list.len() <= buffer.len() {
+        Answer::Done
+    } else {
+        Answer::TooSmall
+    }
 }
 
 /// Lists the tokens of an input by a table file, and hands them out into the buffer. How many there are is told in
@@ -112,18 +126,13 @@ fn tokens_by_rules(
     *count = 0;
     *status = 0;
     let mut list = Vec::new(alloc);
-    let ended = tokens(alloc, rules, input, &mut list);
-    let shown = match shown_of(alloc, &list) {
-        Err(_) => return Answer::OutOfMemory,
-        Ok(shown) => shown,
-    };
-    match ended {
+    match tokens(alloc, rules, input, &mut list) {
         Ok(end) => {
             *status = end;
-            hand_out(&shown, buffer, count)
+            hand_tokens(&list, buffer, count)
         }
         Err(RunError::Stack) => {
-            hand_out(&shown, buffer, count);
+            hand_tokens(&list, buffer, count);
             Answer::Stack
         }
         Err(_) => Answer::OutOfMemory,
