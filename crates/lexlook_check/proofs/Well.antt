@@ -47,27 +47,27 @@ passes limits S builds.TooManyPositions off h within = omega (arith, h, within.f
 passes limits S builds.TooManyStates off h within = let many = h within.states within.subsets in omega (arith, many, within.few_states)
 passes limits S builds.OutOfMemory off h within = off refl
 
-good_spells : (options : Options) (text : List ℕ) (faults : List SpecError) (limit : Option BuildError) (ws : List Warning) (ns : List Notice) (left : Option (List ℕ))
-    → AreFaultsOf (ReadsSpec (reading options)) max_faults text faults left → IsFoundOf options left limit ws ns → is_good faults limit ≡ true → IsSpelled options text
-good_spells options text [] None ws ns (Some left) faults found good =
+good_spells : (options : Options) (own : ℕ) (text : List ℕ) (faults : List SpecError) (limit : Option BuildError) (ws : List Warning) (ns : List Notice) (left : Option (List ℕ))
+    → AreFaultsOf (ReadsSpec (reading options)) max_faults text faults left → IsFoundOf options own text left limit ws ns → is_good faults limit ≡ true → IsSpelled options text
+good_spells options own text [] None ws ns (Some left) faults found good =
     subst (λ (t : List ℕ). IsSpelled options t) faults.0 (found.1.0, found.1.1, found.1.4.tables.within)
-good_spells options text [] None ws ns None faults found good = absurd cc
-good_spells options text [] (Some e) ws ns left faults found good = absurd cc
-good_spells options text (e ∷ es) limit ws ns left faults found good = absurd (not_empty e es limit good)
+good_spells options own text [] None ws ns None faults found good = absurd cc
+good_spells options own text [] (Some e) ws ns left faults found good = absurd cc
+good_spells options own text (e ∷ es) limit ws ns left faults found good = absurd (not_empty e es limit good)
 
-spelled_good : OneSpec → (options : Options) (text : List ℕ) (faults : List SpecError) (limit : Option BuildError) (ws : List Warning) (ns : List Notice) (left : Option (List ℕ))
-    → AreFaultsOf (ReadsSpec (reading options)) max_faults text faults left → IsFoundOf options left limit ws ns → IsSpelled options text → is_good faults limit ≡ true
-spelled_good one options text [] None ws ns left faults found spelled = refl
-spelled_good one options text [] (Some e) ws ns (Some left) faults found (S, spells, within) =
+spelled_good : OneSpec → (options : Options) (own : ℕ) (text : List ℕ) (faults : List SpecError) (limit : Option BuildError) (ws : List Warning) (ns : List Notice) (left : Option (List ℕ))
+    → AreFaultsOf (ReadsSpec (reading options)) max_faults text faults left → IsFoundOf options own text left limit ws ns → IsSpelled options text → is_good faults limit ≡ true
+spelled_good one options own text [] None ws ns left faults found spelled = refl
+spelled_good one options own text [] (Some e) ws ns (Some left) faults found (S, spells, within) =
     let at : SpellsSpec (reading options) left S = subst (λ (t : List ℕ). SpellsSpec (reading options) t S) (sym faults.0) spells in
     let same : found.1.0 ≡ S = one (reading options) left found.1.0 S found.1.1 at in
     absurd (passes options.limits S e found.0 (subst (λ (T : Spec). BuildRefusal options.limits T e) same found.1.2) within)
-spelled_good one options text [] (Some e) ws ns None faults found spelled = absurd cc
-spelled_good one options text (e ∷ es) limit ws ns left faults found (S, spells, within) =
+spelled_good one options own text [] (Some e) ws ns None faults found spelled = absurd cc
+spelled_good one options own text (e ∷ es) limit ws ns left faults found (S, spells, within) =
     absurd ((told e.kind _ faults.1 faults.2).0 S spells)
 
 pub nothing_told_of : OneSpec → NothingToldJustOf
-nothing_told_of one options text c h = (
-  good_spells options text c.faults.items c.limit c.warnings.items c.notices.items h.left h.faults h.found,
-  spelled_good one options text c.faults.items c.limit c.warnings.items c.notices.items h.left h.faults h.found,
+nothing_told_of one options own text c h = (
+  good_spells options own text c.faults.items c.limit c.warnings.items c.notices.items h.left h.faults h.found,
+  spelled_good one options own text c.faults.items c.limit c.warnings.items c.notices.items h.left h.faults h.found,
 )

@@ -12,7 +12,7 @@ use Rattle.lexlook_check.specs.declared.findings.Finding.{Finding}
 use Rattle.lexlook_check.specs.declared.findings.What.{What}
 use Rattle.lexlook_check.specs.declared.findings.What.TheVariants.{Fault, Limit, Noticed, Warned}
 use Rattle.lexlook_check.specs.declared.notices.NoticeKind.{NoticeKind}
-use Rattle.lexlook_check.specs.declared.notices.NoticeKind.TheVariants.{LettersAsBytes, LetterAlone, Backspace}
+use Rattle.lexlook_check.specs.declared.notices.NoticeKind.TheVariants.{LettersAsBytes, LetterAlone, Backspace, UnusedDefinition}
 use Rattle.lexlook_check.specs.declared.places.SourceFile.{SourceFile}
 
 -- the file and the line there; of line 0, which is the whole, the file alone
@@ -38,6 +38,7 @@ abbrev pub notice_words : NoticeKind → List ℕ
 notice_words LettersAsBytes = codes "letters of a class as bytes"
 notice_words LetterAlone = codes "letter behind a backslash"
 notice_words Backspace = codes "backspace by its escape"
+notice_words UnusedDefinition = codes "definition that no pattern uses"
 
 -- what it is called: a fault as by lex, without its place
 abbrev pub what_words : What → List ℕ

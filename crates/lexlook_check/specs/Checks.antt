@@ -17,19 +17,20 @@ use Rattle.lexlook_check.specs.declared.notices.Notice.{Notice}
 
 -- of the text that is left: the limit that its automaton passes, or else its warnings, and what is warned of beside
 -- them, 100 of that at most
-abbrev pub IsFoundOf : Options → Option (List ℕ) → Option BuildError → List Warning → List Notice → Type 0
-IsFoundOf options None limit warnings notices = (limit ≡ None) × (warnings ≡ []) × (notices ≡ [])
-IsFoundOf options (Some left) (Some e) warnings notices =
+abbrev pub IsFoundOf : Options → ℕ → List ℕ → Option (List ℕ) → Option BuildError → List Warning → List Notice → Type 0
+IsFoundOf options own whole None limit warnings notices = (limit ≡ None) × (warnings ≡ []) × (notices ≡ [])
+IsFoundOf options own whole (Some left) (Some e) warnings notices =
     (e ≢ builds.OutOfMemory) × Refusal options left (gens.Build e) × (warnings ≡ []) × (notices ≡ [])
-IsFoundOf options (Some left) None warnings notices =
+IsFoundOf options own whole (Some left) None warnings notices =
     (m : Made) × MakesTables options left (Ok m) × (warnings ≡ m.warnings.items)
-    × (notices ≡ take max_notices (notices_of m.rule_lines.items left))
+    × (notices ≡ take max_notices (notices_of own whole m.rule_lines.items left))
 
--- the faults of a text, and what is found of the text that is left without them
-pub record IsChecked (options : Options) (text : List ℕ) (c : Checked) : Type 0 where
+-- the faults of a text, and what is found of the text that is left without them: what is defined before the line `own`
+-- is there for others
+pub record IsChecked (options : Options) (own : ℕ) (text : List ℕ) (c : Checked) : Type 0 where
   pub left : Option (List ℕ)
   pub faults : AreFaultsOf (ReadsSpec (reading options)) max_faults text c.faults.items left
-  pub found : IsFoundOf options left c.limit c.warnings.items c.notices.items
+  pub found : IsFoundOf options own text left c.limit c.warnings.items c.notices.items
 
 -- neither a fault nor a limit was found
 abbrev pub is_well : Checked → Bool
@@ -37,5 +38,5 @@ is_well c = (length c.faults.items == 0) && is_none c.limit
 
 -- nothing was found just of a text that spells a specification whose automaton is within the limits
 abbrev pub NothingToldJustOf : Type 0
-NothingToldJustOf = (options : Options) (text : List ℕ) (c : Checked) → IsChecked options text c
+NothingToldJustOf = (options : Options) (own : ℕ) (text : List ℕ) (c : Checked) → IsChecked options own text c
     → (is_well c ≡ true) ↔ ((S : Spec) × SpellsSpec (reading options) text S × IsWithin options.limits S)

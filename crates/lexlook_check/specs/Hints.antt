@@ -7,7 +7,7 @@ use Rattle.lexre_bytes.specs.declared.refusals.SpecErrorKind.{SpecErrorKind}
 use Rattle.lexre_bytes.specs.declared.refusals.SpecErrorKind.TheVariants as kinds
 use Rattle.lexlook_check.specs.SourceLines.{under}
 use Rattle.lexlook_check.specs.declared.notices.NoticeKind.{NoticeKind}
-use Rattle.lexlook_check.specs.declared.notices.NoticeKind.TheVariants.{LettersAsBytes, LetterAlone, Backspace}
+use Rattle.lexlook_check.specs.declared.notices.NoticeKind.TheVariants.{LettersAsBytes, LetterAlone, Backspace, UnusedDefinition}
 
 -- of a pattern
 abbrev pub pattern_hint : PatternErrorKind → List ℕ
@@ -81,6 +81,8 @@ notice_hint LetterAlone =
     codes "`\\d`, `\\s` and `\\w` are the letters themselves, and so are `\\D`, `\\S` and `\\W`: [0-9], [ \\t\\n] and [A-Za-z0-9_] are classes"
 notice_hint Backspace =
     codes "`\\b` is a backspace, the byte 8: no sign stands for the end of a word, and the longest text is taken anyway"
+notice_hint UnusedDefinition =
+    codes "a definition stands for its pattern where its name is in braces, as `{DIGIT}`"
 
 -- the line of it, below a line with this number
 abbrev pub hint_words : ℕ → List ℕ → List ℕ

@@ -11,7 +11,7 @@ use Rattle.lexlook_check.specs.SourceLines.{end_of_span, place_in}
 use Rattle.lexlook_check.specs.declared.findings.Finding.{Finding}
 use Rattle.lexlook_check.specs.declared.findings.What.{What}
 use Rattle.lexlook_check.specs.declared.findings.What.TheVariants.{Fault, Limit, Noticed, Warned}
-use Rattle.lexlook_check.specs.declared.notices.NoticeKind.TheVariants.{LettersAsBytes, LetterAlone, Backspace}
+use Rattle.lexlook_check.specs.declared.notices.NoticeKind.TheVariants.{LettersAsBytes, LetterAlone, Backspace, UnusedDefinition}
 use Rattle.lexlook_check.specs.declared.places.SourceFile.{SourceFile}
 
 -- the code point of this number below 256, as an escape
@@ -49,6 +49,7 @@ what_name (Warned false) = codes "UselessRule"
 what_name (Noticed LettersAsBytes) = codes "LettersAsBytes"
 what_name (Noticed LetterAlone) = codes "LetterAlone"
 what_name (Noticed Backspace) = codes "Backspace"
+what_name (Noticed UnusedDefinition) = codes "UnusedDefinition"
 
 -- the line of a place is told but for the whole
 abbrev pub known_line : ℕ → Option ℕ

@@ -5,6 +5,7 @@ pub mod Pieces
 pub mod PieceViews
 pub mod DefinitionLines
 pub mod LineViews
+pub mod Unused
 pub mod Notices
 pub mod NoticeExamples
 pub mod Checks

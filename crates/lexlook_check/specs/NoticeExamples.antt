@@ -1,8 +1,9 @@
 -- Pieces of patterns and what is warned of, worked by hand. α is the bytes 206 and 177.
-use Rattle.std.specs.Prelude.{◌≡◌, [], ◌∷◌, ◌++◌, Some, None, codes}
+use Rattle.std.specs.Prelude.{◌≡◌, [], ◌∷◌, ◌++◌, Some, None, true, false, codes}
 use Rattle.lexlook_check.specs.DefinitionLines.{definition_lines}
 use Rattle.lexlook_check.specs.Notices.{notice_of}
 use Rattle.lexlook_check.specs.Pieces.{pieces_from}
+use Rattle.lexlook_check.specs.Unused.{stands_in}
 use Rattle.lexlook_check.specs.declared.notices.NoticeKind.TheVariants.{LettersAsBytes, LetterAlone, Backspace}
 
 pub record NoticeExamples : Type 0 where
@@ -21,6 +22,10 @@ pub record NoticeExamples : Type 0 where
   pub backspace : notice_of (codes "\\b") ≡ Some Backspace
   pub in_class : notice_of (codes "[\\b]") ≡ None
   pub in_quotes : notice_of (codes "\"\\b\"") ≡ None
+  -- a name behind a brace, and none that goes on, or stands alone
+  pub used : stands_in (codes "D") (codes "D [0-9]\n%%\n{D}+ ;\n") ≡ true
+  pub longer : stands_in (codes "D") (codes "%%\n{D2} ;\n") ≡ false
+  pub alone : stands_in (codes "D") (codes "D [0-9]\n%%\nD ;\n") ≡ false
   -- lines of a block and of a comment are no definitions
   pub definitions : definition_lines (codes "%{\nx a\n%}\n/* y\nz b */\nD c\n%%\ne f\n") ≡ (6, codes "D c\n%%\ne f\n")
       ∷ []

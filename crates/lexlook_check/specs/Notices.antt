@@ -1,11 +1,12 @@
 -- What is warned of in patterns, beside what lex warns of. (This project's.)
-use Rattle.std.specs.Prelude.{ℕ, ◌-◌, ◌==◌, ◌&&◌, ◌||◌, Bool, true, false, not, nat_le, if◌then◌else◌, List, [], ◌∷◌, ◌++◌, flat_map, length, slice_get, Option, Some, None, codes}
+use Rattle.std.specs.Prelude.{ℕ, ◌-◌, ◌==◌, ◌&&◌, ◌||◌, Bool, true, false, not, nat_le, if◌then◌else◌, List, [], ◌∷◌, ◌++◌, flat_map, length, slice_get, take, Option, Some, None, codes}
 use Rattle.std.specs.List.{list_any}
 use Rattle.std.specs.Str.{is_utf8}
 use Rattle.lex_semantics.specs.Active.{contains}
 use Rattle.lex_semantics.specs.Reading.{after_blanks, begins, goes_on_name, take_run}
 use Rattle.lexlook_check.specs.DefinitionLines.{definition_lines, lines_from}
 use Rattle.lexlook_check.specs.Pieces.{pieces_from}
+use Rattle.lexlook_check.specs.Unused.{max_looked_for, unused_notices}
 use Rattle.lexlook_check.specs.declared.notices.Notice.{Notice}
 use Rattle.lexlook_check.specs.declared.notices.NoticeKind.{NoticeKind}
 use Rattle.lexlook_check.specs.declared.notices.NoticeKind.TheVariants.{LettersAsBytes, LetterAlone, Backspace}
@@ -56,7 +57,9 @@ line_notices (Some l) = pattern_notices l.0 0 l.1
 abbrev pub rule_notices : List (ℕ × List ℕ) → ℕ → List Notice
 rule_notices lines n = line_notices (slice_get lines (n - 1))
 
--- of the definitions of a text, and then of its rules, which stand at these lines
-abbrev pub notices_of : List ℕ → List ℕ → List Notice
-notices_of rules text =
+-- of the definitions of a text, and then of its rules, which stand at these lines; then the definitions from the line
+-- `own` on that nothing in the whole text uses
+abbrev pub notices_of : ℕ → List ℕ → List ℕ → List ℕ → List Notice
+notices_of own whole rules text =
     flat_map definition_notices (definition_lines text) ++ flat_map (rule_notices (lines_from 1 true text)) rules
+    ++ flat_map (unused_notices own whole) (take max_looked_for (definition_lines text))

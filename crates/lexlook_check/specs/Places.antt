@@ -1,6 +1,6 @@
 -- The files of a specification, and where its lines stand. (This project's; POSIX, lex: files are read in order, as
 -- one.)
-use Rattle.std.specs.Prelude.{ℕ, ◌-◌, ◌==◌, ◌||◌, ◌&&◌, Bool, not, nat_le, if◌then◌else◌, List, [], ◌∷◌, flat_map, length}
+use Rattle.std.specs.Prelude.{ℕ, ◌+◌, ◌-◌, ◌==◌, ◌||◌, ◌&&◌, Bool, not, nat_le, if◌then◌else◌, List, [], ◌∷◌, flat_map, length}
 use Rattle.lexspec_lines.specs.Lines.{newlines}
 use Rattle.lexspec_lines.specs.Sections.{ends_line}
 use Rattle.lexlook_check.specs.declared.places.SourceFile.{SourceFile}
@@ -19,3 +19,12 @@ abbrev pub line_place : List SourceFile → ℕ → List ℕ × ℕ
 line_place [] n = ([], n)
 line_place (f ∷ fs) n =
     if (length fs == 0) || begins_in f.bytes.now n then (f.name.now, n) else line_place fs (n - newlines f.bytes.now)
+
+abbrev pub last_text : List SourceFile → List ℕ
+last_text [] = []
+last_text (f ∷ []) = f.bytes.now
+last_text (f ∷ g ∷ fs) = last_text (g ∷ fs)
+
+-- the line at which the last file begins: what is defined before it is there for others
+abbrev pub own_line : List SourceFile → ℕ
+own_line files = 1 + (newlines (joined_text files) - newlines (last_text files))

@@ -10,7 +10,7 @@ use Rattle.lexlook_check.specs.CheckLines.{finding_lines}
 use Rattle.lexlook_check.specs.Checks.{IsChecked, is_well}
 use Rattle.lexlook_check.specs.Findings.{AreInOrder, findings_of}
 use Rattle.lexlook_check.specs.JsonLines.{finding_json}
-use Rattle.lexlook_check.specs.Places.{joined_text}
+use Rattle.lexlook_check.specs.Places.{joined_text, own_line}
 use Rattle.lexlook_check.specs.declared.checking.Checked.{Checked}
 use Rattle.lexlook_check.specs.declared.error.CheckError.{CheckError}
 use Rattle.lexlook_check.specs.declared.error.CheckError.TheVariants.{OutOfMemory, Write}
@@ -27,7 +27,7 @@ told_bytes Json files text findings = flat_map (finding_json files text) finding
 -- of files these bytes are to be written: all that was found, in order of place
 pub record IsTellingOf (options : Options) (form : Form) (files : List SourceFile) (bytes : List ℕ)
     (checked : Checked) : Type 0 where
-  pub is_checked : IsChecked options (joined_text files) checked
+  pub is_checked : IsChecked options (own_line files) (joined_text files) checked
   pub told : List Finding
   pub in_order : AreInOrder (findings_of checked) told
   pub bytes_are : bytes ≡ told_bytes form files (without_returns (joined_text files)) told

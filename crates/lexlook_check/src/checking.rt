@@ -42,12 +42,13 @@ fn check_left(
     faults: Vec<SpecError>,
     left: &[u8],
     options: Options,
+    own: usize,
     text: &[u8],
 ) -> Result<Checked, AllocError>
     requires few_positions { options.limits.positions ≤ max_positions }
     requires few_states { options.limits.states ≤ max_states }
     requires faults { AreFaultsOf (ReadsSpec (reading options)) max_faults text.now faults.items (Some left.now) }
-    ensures { IfOk result (IsChecked options text.now) }
+    ensures { IfOk result (IsChecked options own text.now) }
 {
     match generate_tables(alloc, left, options) {
         Ok(
@@ -57,7 +58,7 @@ fn check_left(
                 ..
             },
         ) => {
-            let notices = notices_of(alloc, rule_lines.as_slice(), left)?;
+            let notices = notices_of(alloc, own, text, rule_lines.as_slice(), left)?;
             Ok(Checked {
                 faults,
                 limit: None,
@@ -78,11 +79,17 @@ fn check_left(
 
 /// Every fault of a text, up to 100: that which `read_spec` tells, then that of the text in which the rule or the
 /// definition of the one before is empty, and so on. Then, where what is left is a specification, the limit that its
-/// automaton passes, or its warnings.
-pub fn check(alloc: Global, text: &[u8], options: Options) -> Result<Checked, AllocError>
+/// automaton passes, or its warnings. Definitions before the line `own`, from 1, are there for others, and no one is warned
+/// of them where nothing uses them.
+pub fn check(
+    alloc: Global,
+    own: usize,
+    text: &[u8],
+    options: Options,
+) -> Result<Checked, AllocError>
     requires few_positions { options.limits.positions ≤ max_positions }
     requires few_states { options.limits.states ≤ max_states }
-    ensures { IfOk result (IsChecked options text.now) }
+    ensures { IfOk result (IsChecked options own text.now) }
 {
     let reader = LexReader {
         options: ReadOptions {
@@ -92,7 +99,7 @@ pub fn check(alloc: Global, text: &[u8], options: Options) -> Result<Checked, Al
     };
     let Found { faults, left } = find_faults(alloc, &reader, text)?;
     match left {
-        Some(left) => check_left(alloc, faults, left.as_slice(), options, text),
+        Some(left) => check_left(alloc, faults, left.as_slice(), options, own, text),
         None => Ok(Checked {
             faults,
             limit: None,

@@ -132,6 +132,9 @@ pub(crate) fn notice_hint(kind: NoticeKind) -> &'static str
         NoticeKind::Backspace => {
             "`\\b` is a backspace, the byte 8: no sign stands for the end of a word, and the longest text is taken anyway"
         }
+        NoticeKind::UnusedDefinition => {
+            "a definition stands for its pattern where its name is in braces, as `{DIGIT}`"
+        }
     }
 }
 

@@ -74,6 +74,7 @@ fn what_name(what: What) -> &'static str
         What::Noticed(NoticeKind::LettersAsBytes) => "LettersAsBytes",
         What::Noticed(NoticeKind::LetterAlone) => "LetterAlone",
         What::Noticed(NoticeKind::Backspace) => "Backspace",
+        What::Noticed(NoticeKind::UnusedDefinition) => "UnusedDefinition",
         What::Fault(_) | What::Limit(_) => what_text(what),
     }
 }

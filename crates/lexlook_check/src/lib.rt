@@ -6,7 +6,8 @@
 //! - `finding`: the faults that a reader answers of a text, each behind that of the text without the rules before.
 //! - `pieces`: classes, texts in quotes and other pieces of a pattern, as they stand.
 //! - `definitions`: the lines of a text, and which of them are definitions.
-//! - `notices`: what is warned of in patterns, beside what lex warns of.
+//! - `unused`: definitions that no pattern uses.
+//! - `notices`: what is warned of in patterns and definitions, beside what lex warns of.
 //! - `checking`: the faults, the limit that the automaton of what is left passes, and the warnings: `check`.
 //! - `places`: the files, as one text, and in which of them a line stands.
 //! - `source`: the line of a fault as it stands, with a mark under its place.
@@ -52,6 +53,7 @@ mod places;
 mod reader;
 mod source;
 mod telling;
+mod unused;
 
 pub use checking::{Checked, check};
 pub use error::CheckError;

@@ -72,6 +72,7 @@ fn notice_text(kind: NoticeKind) -> &'static str
         NoticeKind::LettersAsBytes => "letters of a class as bytes",
         NoticeKind::LetterAlone => "letter behind a backslash",
         NoticeKind::Backspace => "backspace by its escape",
+        NoticeKind::UnusedDefinition => "definition that no pattern uses",
     }
 }
 

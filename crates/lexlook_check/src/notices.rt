@@ -9,6 +9,7 @@ ghost use Rattle.lexlook_check.specs.Notices.{definition_notices, escapes_letter
 
 use crate::definitions::{Line, definitions_of, lines_of};
 use crate::pieces::{Piece, pieces_of};
+use crate::unused::add_unused;
 use lexre_bytes::split_name;
 use lexspec_lines::skip_blanks;
 use std::alloc::{AllocError, Global};
@@ -22,6 +23,8 @@ pub enum NoticeKind {
     LetterAlone,
     /// `\b` outside of classes and quotes: a backspace.
     Backspace,
+    /// A definition whose name stands in braces nowhere.
+    UnusedDefinition,
 }
 
 /// A place of a specification, and what is warned of there.
@@ -188,23 +191,31 @@ fn add_all_rule_notices(
     Ok(())
 }
 
-/// The most places that are told of in patterns.
+/// The most places that are told of.
 const MAX_NOTICES: usize = 100;
 
-/// What is warned of in the definitions of a text, and then in its rules, which stand at these lines: the first 100.
+/// The most definitions whose names are looked for.
+const MAX_LOOKED_FOR: usize = 1000;
+
+/// What is warned of in the definitions of a text, and then in its rules, which stand at these lines. Then those of its
+/// definitions from the line `own` on that nothing in `whole` uses. Of all these the first 100.
 pub(crate) fn notices_of(
     alloc: Global,
+    own: usize,
+    whole: &[u8],
     rules: &[u32],
     text: &[u8],
 ) -> Result<Vec<Notice>, AllocError>
     requires { length text.now ≤ max_file_bytes }
-    ensures { IfOk result (λ notices. notices.items ≡ take max_notices (notices_of rules.now text.now)) }
+    ensures { IfOk result (λ notices. notices.items ≡ take max_notices (notices_of own whole.now rules.now text.now)) }
 {
     let lines = lines_of(alloc, text)?;
-    let definitions = definitions_of(alloc, lines.as_slice())?;
+    let mut definitions = definitions_of(alloc, lines.as_slice())?;
     let mut notices = Vec::new(alloc);
     add_all_definition_notices(alloc, &mut notices, definitions.as_slice())?;
     add_all_rule_notices(alloc, &mut notices, lines.as_slice(), rules)?;
+    definitions.truncate(MAX_LOOKED_FOR);
+    add_unused(&mut notices, own, whole, definitions.as_slice())?;
     notices.truncate(MAX_NOTICES);
     Ok(notices)
 }

@@ -2,7 +2,7 @@
 ghost use Rattle.std.specs.Prelude.{◌≡◌, ◌-◌, IfOk};
 ghost use Rattle.lexspec_lines.specs.Lines.{newlines};
 ghost use Rattle.lexspec_lines.specs.Sections.{ends_line};
-ghost use Rattle.lexlook_check.specs.Places.{begins_in, joined_text, line_place};
+ghost use Rattle.lexlook_check.specs.Places.{begins_in, joined_text, line_place, own_line};
 
 use lexlook_specs::add;
 use std::alloc::{AllocError, Global};
@@ -34,6 +34,17 @@ pub(crate) fn joined_text(alloc: Global, files: &[SourceFile<'_>]) -> Result<Vec
         add(&mut text, file.bytes)?;
     }
     Ok(text)
+}
+
+/// The line at which the last file begins, of files that are this text together.
+pub(crate) fn own_line(files: &[SourceFile<'_>], text: &[u8]) -> usize
+    requires { text.now ≡ joined_text files.now }
+    ensures { result ≡ own_line files.now }
+{
+    match files.last() {
+        None => 1,
+        Some(last) => 1 + newlines(text).saturating_sub(newlines(last.bytes)),
+    }
 }
 
 /// How many newlines the text has.

@@ -8,7 +8,7 @@ use crate::error::CheckError;
 use crate::findings::{Finding, findings_in_order};
 use crate::json::told_json;
 use crate::lines::told_lines;
-use crate::places::{SourceFile, joined_text};
+use crate::places::{SourceFile, joined_text, own_line};
 use lexkit::{Options, Sink};
 use lexspec_lines::without_returns;
 use std::alloc::{AllocError, Global};
@@ -59,7 +59,8 @@ fn telling_of(
     ensures { IfOk result (λ t. IsTellingOf options form files.now t.bytes.items t.checked) }
 {
     let text = joined_text(alloc, files)?;
-    let checked = check(alloc, text.as_slice(), options)?;
+    let own = own_line(files, text.as_slice());
+    let checked = check(alloc, own, text.as_slice(), options)?;
     let findings = findings_in_order(alloc, &checked)?;
     let whole = without_returns(alloc, text.as_slice())?;
     let bytes = told_bytes(alloc, form, files, whole.as_slice(), findings.as_slice())?;

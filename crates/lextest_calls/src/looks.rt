@@ -166,7 +166,7 @@ fn faults_of(alloc: Global, rules: usize) -> Option<usize> {
     for _ in 0..rules {
         text.extend_from_slice(b"a b();\n").ok()?;
     }
-    let found = check(alloc, text.as_slice(), Options::new()).ok()?;
+    let found = check(alloc, 1, text.as_slice(), Options::new()).ok()?;
     Some(found.faults.len())
 }
 

@@ -37,6 +37,7 @@ const FILES: &[&str] = &[
     "checks.txt",
     "cuttings.txt",
     "examples.txt",
+    "flex_files.txt",
     "letters.txt",
     "limits.txt",
     "long_names.txt",

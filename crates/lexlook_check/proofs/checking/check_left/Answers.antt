@@ -11,6 +11,6 @@ returns-in_ok-notices-in-Ok c =
         c.in-Ok.field-0,
         c.in-Ok.ensures,
         refl,
-        c.in_ok-notices-in-Ok.ensures ∙ ap (λ rules. take max_notices (notices_of rules c.args.left.now)) c.as_slice.ensures.value,
+        c.in_ok-notices-in-Ok.ensures ∙ ap (λ rules. take max_notices (notices_of c.args.own c.args.text.now rules c.args.left.now)) c.as_slice.ensures.value,
       );
     }

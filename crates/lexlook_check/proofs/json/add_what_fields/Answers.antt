@@ -1,6 +1,5 @@
 use Rattle.std.proofs.Common.{◌++◌, ◌∙◌, List, ℕ, ap, codes}
 use Rattle.std.proofs.lemmas.Result.{on_ok_weaker}
-use Rattle.lexlook_check.specs.CheckLines.{hint_of}
 use Rattle.lexlook_check.specs.JsonLines.{hint_fields, string_field}
 use Rattle.lexlook_check.proofs.Parts.{five}
 use Rattle.lexlook_check.proofs.json.add_what_fields.Goals as goal

@@ -1,4 +1,4 @@
-use Rattle.std.proofs.Common.{◌∙◌, ℕ, Bool, List, Err, subst}
+use Rattle.std.proofs.Common.{ℕ, Bool, List, Err, subst}
 use Rattle.lex_io.specs.Sink.{Appended}
 use Rattle.lexlook_check.specs.declared.error.CheckError.TheVariants.{Write}
 use Rattle.lexlook_check.proofs.telling.tell_check.Goals as goal

@@ -1,0 +1,7 @@
+use Rattle.std.proofs.Common.{◌≡◌, ◌++◌, flat_map, map, take}
+use Rattle.lexlook_check.specs.LineViews.{line_of}
+use Rattle.lexlook_check.specs.Unused.{unused_notices}
+use Rattle.lexlook_check.proofs.unused.add_unused.Given as goal
+
+abbrev pub invariant-loop-line : goal.invariant-loop-line
+invariant-loop-line l = l.notices.items ≡ l.fn.notices.items ++ flat_map (unused_notices l.own l.whole) (map line_of (take l.line-index l.definitions))
