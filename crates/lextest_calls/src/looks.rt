@@ -159,13 +159,19 @@ fn a_fault_leaves_a_front_of_the_faults(rt: HostRuntime) {
     }
 }
 
-/// How many faults are found in so many rules at fault.
-fn faults_of(alloc: Global, rules: usize) -> Option<usize> {
+/// A text of so many rules, each of which is this.
+fn rules_of(alloc: Global, rule: &[u8], count: usize) -> Option<Vec<u8>> {
     let mut text = Vec::new(alloc);
     text.extend_from_slice(b"%%\n").ok()?;
-    for _ in 0..rules {
-        text.extend_from_slice(b"a b();\n").ok()?;
+    for _ in 0..count {
+        text.extend_from_slice(rule).ok()?;
     }
+    Some(text)
+}
+
+/// How many faults are found in so many rules at fault.
+fn faults_of(alloc: Global, rules: usize) -> Option<usize> {
+    let text = rules_of(alloc, b"a b();\n", rules)?;
     let found = check(alloc, 1, text.as_slice(), Options::new()).ok()?;
     Some(found.faults.len())
 }
@@ -175,4 +181,18 @@ fn a_hundred_faults_are_the_most(rt: HostRuntime) {
     assert!(rt; faults_of(rt.alloc(), 99) == Some(99));
     assert!(rt; faults_of(rt.alloc(), 100) == Some(100));
     assert!(rt; faults_of(rt.alloc(), 101) == Some(MAX_FAULTS));
+}
+
+/// How many bytes are written of the texts that so many rules take, of which the first takes all.
+fn words_of(alloc: Global, rules: usize) -> Option<usize> {
+    let text = rules_of(alloc, b"a ;\n", rules)?;
+    let mut sink = MemorySink::new(alloc);
+    tell_words(alloc, text.as_slice(), Options::new(), &mut sink).ok()?;
+    Some(sink.written().len())
+}
+
+/// A line of each rule: of the first its text, and of each other that its texts are taken at line 2.
+#[test]
+fn tells_the_texts_of_the_most_rules(rt: HostRuntime) {
+    assert!(rt; words_of(rt.alloc(), 4_096) == Some(277_417));
 }

@@ -127,6 +127,11 @@ fn rows_of_letters(rt: HostRuntime) -> Result<(), Fail> {
         (LONG_ROW, (8_160, 8_162), Ok(8_162)),
         (LONG_ROW, (8_160, 8_161), Err(BuildError::TooManyStates)),
         ("%%\n(a{255}){64} ;\n", MOST, Err(BuildError::TooManyStates)),
+        (
+            "%%\n(a{255}){64} ;\n",
+            (16_319, 8_192),
+            Err(BuildError::TooManyPositions),
+        ),
     ];
     for &(text, most, wanted) in ROWS {
         assert!(rt; has_states(rt.alloc(), text, most, wanted)?, "{text}");
