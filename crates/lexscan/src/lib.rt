@@ -8,6 +8,7 @@
 //! - `carry`: carries the match out, or the end action.
 //! - `leave`: leaves the place of the match for that of the next one.
 //! - `burst`: many turns in one loop over bytes in memory, where each rule at most writes or sets the condition.
+//! - `glance`: one turn over bytes in memory, whose rule at most writes or sets the condition.
 //! - `further`: lets a burst go over the bytes that the source has ready.
 //! - `whole`: `run`, all turns to the end.
 //! - `scanner`: single turns, for callers.
@@ -39,6 +40,7 @@ mod burst;
 mod carry;
 mod find;
 mod further;
+mod glance;
 mod laws;
 mod leave;
 mod pull;
