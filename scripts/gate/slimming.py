@@ -7,6 +7,8 @@ from pathlib import Path
 HEAD = re.compile(r"^(?:pub(?:\([^)]*\))? )?(?:const )?(?:unsafe )?(?:ghost )?fn (\w+)")
 ENDS = re.compile(r"^(?:\}|\};|\{\}|\)|\);|\]\);|\];|\S.*;)$")
 FUNCTION_ENDS = re.compile(r"^(?:\}|\{\})$")
+# (of a constant whose value is on a line of its own)
+VALUE_ENDS = re.compile(r";$")
 KEPT_DERIVES = ("Clone", "Copy", "Drop")
 USE = re.compile(r"(?m)^((?:pub(?:\([^)]*\))? )?)use ([\w:]+::)(?:\{([^}]*)\}|(\w+));")
 PROOFS = ("Answers.antt", "Invariants.antt", "Proof.antt")
@@ -18,14 +20,14 @@ def items(text):
     for line in text.split("\n"):
         item.append(line)
         if inside:
-            inside = not ends.match(line)
+            inside = not ends.search(line)
         elif line.startswith(("//!", "#!")) or not line:
             pass
         elif line.startswith(("//", "#")):
             continue
         else:
             inside = not line.endswith((";", "}"))
-            ends = FUNCTION_ENDS if HEAD.match(line) else ENDS
+            ends = FUNCTION_ENDS if HEAD.match(line) else VALUE_ENDS if line.endswith(" =") else ENDS
         if not inside:
             yield item
             item = []

@@ -85,7 +85,7 @@ gist_first M s (Begin c) is h = h
 gist_first M s (Several ss) is h = h.1
 
 -- The match of a walk is the first of all, and its rule does what is told.
-pub record Heads (M : Machine) (w path : List ℕ) (gist : Gist) (keep : ℕ) : Type 0 where
+pub record Heads (M : Machine) (p : TextPlace) (w path : List ℕ) (gist : Gist) (keep : ℕ) : Type 0 where
   pub len : ℕ
   pub rule : ℕ
   pub others : List Candidate
@@ -94,6 +94,14 @@ pub record Heads (M : Machine) (w path : List ℕ) (gist : Gist) (keep : ℕ) : 
   pub is : IsRule M.count number rule
   pub does : statements_in gist ≡ statements_of (rules_of_machine M) rule
   pub simple : are_simple (statements_in gist) ≡ true
+  pub named : (r : ℕ) (rest : List ℕ) → M.accepts (state_at M p w keep) ≡ r ∷ rest → number ≡ Some (Numbered r)
+
+-- the first of a list
+head_same : (a b : ℕ) (xs ys : List ℕ) → a ∷ xs ≡ b ∷ ys → a ≡ b
+head_same a b xs ys e = cc
+
+no_head : {P : Type 0} (a : ℕ) (xs : List ℕ) → [] ≡ a ∷ xs → P
+no_head a xs e = cc
 
 whole_kept : (M : Machine) (n i : ℕ) → M.cut i ≡ S.Whole → kept_by (M.cut i) n ≡ Some n
 whole_kept M n i e = ap (λ k. kept_by k n) e
@@ -127,7 +135,7 @@ abbrev pub acting_after_gist : Gist → ℕ → Conditions → ActionState
 acting_after_gist g keep c = record { end = 0 + keep; condition = condition_after g c.next; stack = c.stack; more = false }
 
 -- the statements that are told, over a text
-act_gist : (w : List ℕ) (g : Gist) (keep : ℕ) (c : Conditions) (before : List ℕ) → names_rule g ≡ true → are_simple (statements_in g) ≡ true →
+pub act_gist : (w : List ℕ) (g : Gist) (keep : ℕ) (c : Conditions) (before : List ℕ) → names_rule g ≡ true → are_simple (statements_in g) ≡ true →
     act_result (statements_in g) (acting_of w (start_of 0 keep c) before) ≡ after_step ActionFlow.Next [] (acting_of w (acting_after_gist g keep c) (before ++ written_by g (take (0 + keep) w)))
 act_gist w Any keep c before is simple = absurd (no is)
   where
@@ -186,10 +194,10 @@ module _ (M : Machine) (laws : MachineLaws M) (text : List ℕ) (bytes : IsText 
   pub inside_beyond : beyond ≤ length text
   inside_beyond = omega (arith, reaches, inside)
 
-  within : way.count ≤ length w
+  pub within : way.count ≤ length w
   within = let s = size_from text c far beyond le far_beyond inside_beyond in omega (arith, s)
 
-  front_here : (i : ℕ) → i ≤ way.count → take i w ≡ take i (drop c text)
+  pub front_here : (i : ℕ) → i ≤ way.count → take i w ≡ take i (drop c text)
   front_here i less = front_is text c far beyond le far_beyond inside_beyond i (omega (arith, less))
 
   state_here : way.state ≡ state_at M p w way.count
@@ -204,7 +212,7 @@ module _ (M : Machine) (laws : MachineLaws M) (text : List ℕ) (bytes : IsText 
       ap (λ k. falling M 0 (path_of M p w k)) (sym e)
       ∙ falling_none M p w few (way.count - few) (omega (arith, within, le')) (λ i more most. accepts_none few none i more (omega (arith, most, le')))
 
-  so_far : SoFar M p (drop p.at w) way.count way.state path
+  pub so_far : SoFar M p (drop p.at w) way.count way.state path
   so_far = record {
     inside = within;
     state_is = state_here;
@@ -219,10 +227,10 @@ module _ (M : Machine) (laws : MachineLaws M) (text : List ℕ) (bytes : IsText 
       no : false ≡ true → ⊥
       no e = cc
 
-  heads : Heads M w path longest.gist longest.keep
+  pub heads : Heads M p w path longest.gist longest.keep
   heads = from tells
     where
-      from : IsGlancedMatch M (M.start condition line) (drop c text) way.count longest → Heads M w path longest.gist longest.keep
+      from : IsGlancedMatch M (M.start condition line) (drop c text) way.count longest → Heads M p w path longest.gist longest.keep
       from (inl (some, few, none, known)) =
           let s : ℕ = state_at M p w longest.keep in
           let gist : Gists M s longest.gist = subst (λ l. Gists M (walk M (M.start condition line) l) longest.gist) (sym (front_here longest.keep few)) known in
@@ -238,6 +246,7 @@ module _ (M : Machine) (laws : MachineLaws M) (text : List ℕ) (bytes : IsText 
             is = (refl, rule_below M s (statements_in longest.gist) laws f);
             does = sym f.does ∙ sym (statements_are M f.rule (rule_below M s (statements_in longest.gist) laws f));
             simple = gist_simple M s longest.gist is gist;
+            named = λ r rest e. ap (λ k. Some (Numbered k)) (head_same f.rule r f.others rest (sym f.accepts ∙ e));
           }
       from (inr (inl (one, echo, none))) =
           record {
@@ -249,6 +258,7 @@ module _ (M : Machine) (laws : MachineLaws M) (text : List ℕ) (bytes : IsText 
             is = refl;
             does = ap statements_in echo ∙ sym (default_is M);
             simple = ap (λ g. are_simple (statements_in g)) echo;
+            named = λ r rest e. no_head r rest (sym (accepts_none 0 none longest.keep (omega (arith, one)) (omega (arith, one, leads.some))) ∙ e);
           }
       from (inr (inr any)) = untold any
 
@@ -268,14 +278,14 @@ module _ (M : Machine) (laws : MachineLaws M) (text : List ℕ) (bytes : IsText 
       from (inr (inl (one, echo, none))) = subst (λ g. condition_after g condition < M.conditions) (sym echo) lt
       from (inr (inr any)) = untold any
 
-  said_here : take (0 + longest.keep) w ≡ take longest.keep (drop c text)
+  pub said_here : take (0 + longest.keep) w ≡ take longest.keep (drop c text)
   said_here = let e : 0 + longest.keep ≡ longest.keep = omega arith in ap (λ k. take k w) e ∙ front_here longest.keep keeps_some.1
 
   module _ {K : Type 0} (wrote : K → List ℕ → K → Type 0) (none : (s : K) → wrote s [] s) (join : (s t u : K) (xs ys : List ℕ) → wrote s xs t → wrote t ys u → wrote s (xs ++ ys) u) (t u : K) (stack : List ℕ) where
-    abbrev cs : Conditions
+    abbrev pub cs : Conditions
     cs = record { next = condition; stack = stack }
 
-    abbrev performed : wrote t (written_by longest.gist (take longest.keep (drop c text))) u → Performed M wrote t u w 0 (matches_of M w 0 path) cs (acting_after_gist longest.gist longest.keep cs) None
+    abbrev pub performed : wrote t (written_by longest.gist (take longest.keep (drop c text))) u → Performed M wrote t u w 0 (matches_of M w 0 path) cs (acting_after_gist longest.gist longest.keep cs) None
     performed put =
         let out : List ℕ = written_by longest.gist (take (0 + longest.keep) w) in record {
           out = out;
@@ -289,7 +299,7 @@ module _ (M : Machine) (laws : MachineLaws M) (text : List ℕ) (bytes : IsText 
         }
 
     -- the match that is told is the one carried out
-    takes : Takes M w 0 (matches_of M w 0 path) cs heads.number
+    pub takes : Takes M w 0 (matches_of M w 0 path) cs heads.number
     takes = record {
       passed = [];
       taken = record { len = heads.len; rule = heads.rule; keep = longest.keep };

@@ -16,5 +16,6 @@ pub mod Pushing
 pub mod Lying
 pub mod SoFar
 pub mod Pulling
+pub mod Glancing
 pub mod Tables
 pub mod AskingComputed

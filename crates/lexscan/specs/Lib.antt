@@ -23,3 +23,4 @@ pub mod Steps
 pub mod Scans
 pub mod Tokens
 pub mod Pulls
+pub mod Glances

@@ -8,6 +8,7 @@
 //! - `carry`: carries the match out, or the end action.
 //! - `leave`: leaves the place of the match for that of the next one.
 //! - `burst`: many turns in one loop over bytes in memory, where each rule at most writes or sets the condition.
+//! - `glance`: one turn over bytes in memory, whose rule at most writes or sets the condition.
 //! - `further`: lets a burst go over the bytes that the source has ready.
 //! - `whole`: `run`, all turns to the end.
 //! - `scanner`: single turns, for callers.
@@ -29,6 +30,7 @@
 //! - How many bytes a burst may look at halves where it used few, down to 64, and doubles where it used all, up to 8,192.
 //! - Marks (`memo` of lexscan_window) are used only where over 128 bytes are held: other matches pay one comparison.
 //! - A turn keeps only the rule of its match. Where its text begins is worked out from counts, and no byte is copied.
+//! - A token that is told at a glance is looked for among 64 bytes that wait: most are shorter, and each look copies these.
 //! - All marks are dropped where a turn is undone or refused, since its contract says nothing of them.
 //! - `tokens` fills a list, and is no iterator: a struct cannot borrow from the source and the sink beside it.
 #![tactic(auto)]
@@ -39,6 +41,7 @@ mod burst;
 mod carry;
 mod find;
 mod further;
+mod glance;
 mod laws;
 mod leave;
 mod pull;

@@ -41,8 +41,8 @@ pub enum Pulled {
     Ended(u8),
 }
 
-/// One turn over the bytes that wait. It is undone where it asks for more than these.
-fn turn_over<M: Machine>(
+/// One turn over the bytes that wait, which reads them. It is undone where it asks for more than these.
+fn turn_by_reading<M: Machine>(
     machine: &M,
     scan: &mut Scan,
     saved: &mut Stack,
@@ -65,6 +65,25 @@ fn turn_over<M: Machine>(
     let _source = intake.into_inner();
     let _sink = outlet.into_inner();
     result
+}
+
+/// One turn over the bytes that wait. It is undone where it asks for more than these.
+fn turn_over<M: Machine>(
+    machine: &M,
+    scan: &mut Scan,
+    saved: &mut Stack,
+    waiting: &[u8],
+) -> Result<Option<Turn>, RunError>
+    requires going { IsGoing scan.old }
+    requires kept { ScanInvariant (M.machine machine.now) scan.old }
+    requires reachable { IsReachable (M.machine machine.now) scan.old.state }
+    ensures { (left : List ℕ) × TurnedOver (M.machine machine.now) waiting.now left scan.old scan.new result }
+{
+    // Most tokens are short, and their rules do little.
+    if scan.turn_at_glance(machine, waiting) {
+        return Ok(Some(Turn::Went));
+    }
+    turn_by_reading(machine, scan, saved, waiting)
 }
 
 /// The same from a place on, which moves past the bytes that a turn has asked for.

@@ -51,12 +51,13 @@ impl Window {
         }
     }
 
-    /// Makes room for one more. The list stays in either case.
+    /// Makes room for one more. The list stays in either case. It is refused only where there was no room.
     #[inline]
     pub fn reserve(&mut self) -> Result<(), AllocError>
         ensures bytes { self.new.bytes ≡ self.old.bytes }
         ensures room { OnOk result (self.new.room ≡ true) }
         ensures err { OnErr result (self.new ≡ self.old) }
+        ensures full { OnErr result (self.old.room ≡ false) }
     {
         if self.has_room() {
             return Ok(());

@@ -1,15 +1,19 @@
-use Rattle.std.proofs.Common.{ap, ◌∙◌}
-use Rattle.lex_io.specs.SliceSources.{slice_rest, slice_ends}
-use Rattle.lexscan.proofs.Pulling as Pull
+use Rattle.std.proofs.Common.{sym, subst}
+use Rattle.lexscan.specs.Pulls.{TurnedOver}
+use Rattle.lexscan.specs.Pushes.{IsReachable}
+use Rattle.lexscan.proofs.Glancing as Glance
 use Rattle.lexscan.proofs.pull.turn_over.Goals as goal
+
+pub turn_by_reading-requires-clause-reachable : goal.turn_by_reading-requires-clause-reachable
+turn_by_reading-requires-clause-reachable g c =
+    let M = g.M.Machine.machine c.args.machine.now in
+    let h = c.if-turn_at_glance.ensures in
+    subst (λ s. IsReachable M s.state) (sym h.2) (Glance.reachable_still M c.args.scan.now h.0 h.1 c.requires.reachable)
 
 pub returns : goal.returns
 returns g c =
     let M = g.M.Machine.machine c.args.machine.now in
-    let k = c.attempt-result.ensures in
-    let a = k.attempts in
-    let before = c.new.result.source.now in
-    let after = c.attempt-result.new.ends.intake.source.now in
-    Pull.turned_over M c.args.waiting.now (slice_rest before) (slice_rest after) a.0 a.1 (slice_ends before) (slice_ends after) c.args.scan.now c.attempt-result.new.self c.attempt-result.result
-    (ap slice_rest c.new.ensures.value ∙ c.new-source.ensures.bytes) a.2 k.ends a.4 a.5 k.max_reads (Pull.only_these c.attempt-result.result k.read_faults k.write_faults k.too_many k.refused)
-    (Pull.has_failed M c.attempt-result.new.ends c.attempt-result.new.self c.attempt-result.result k.next) k.kept
+    let h = c.if-turn_at_glance.ensures in
+    let t = c.turn_by_reading.ensures in
+    let over = subst (λ s. TurnedOver M c.args.waiting.now t.0 s c.turn_by_reading.new.scan c.turn_by_reading.result) h.2 t.1 in
+    (t.0, Glance.turned_still M c.args.scan.now h.0 h.1 c.args.waiting.now t.0 c.turn_by_reading.new.scan c.turn_by_reading.result over)
