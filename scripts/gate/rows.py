@@ -150,19 +150,55 @@ def hints():
     return {kind: re.sub(r"\\(.)", r"\1", hint) for kind, hint in found}
 
 
+# What a word is not, by the reason, and the nearest one of words that have one.
+NOUNS = {
+    "UnsupportedOption": "option that is read",
+    "UnknownCondition": "condition",
+    "UnknownStatement": "word of a statement",
+    "UndefinedName": "definition",
+    "UnknownClassName": "class",
+}
+NEAREST = {"fprintf": "printf", "yyleng-1": "yyless"}
+MEANING = "ECHO REJECT BEGIN printf fputs puts yymore yyless yyterminate exit yytext yyout".split()
+# The words that are at fault in an action, by the reason.
+AT_FAULT = {
+    "UnknownStatement": "",
+    "BadCount": "yyless",
+    "LessAndMore": "yyless",
+    "BadStatus": "exit",
+    "RejectCombination": "REJECT",
+    "NotLast": "REJECT yyterminate exit",
+    "BadEofAction": "ECHO REJECT BEGIN yymore yyless",
+}
+
+
+def word_met(kind, shown, at):
+    """What is said of the word in this line that is at fault, and its place; nothing, and the place where there is none."""
+    if kind not in NOUNS and kind not in AT_FAULT:
+        return "", at
+    action = shown.index(" ") if kind in AT_FAULT or shown[0] not in "%<[{" else 1
+    known = [it for it in [*MEANING, "option"] if it not in AT_FAULT.get(kind, "").split()]
+    for met in re.finditer(r'"[^"]*"|[A-Za-z_][\w-]*', shown):
+        if met.start() >= action and not met[0].startswith('"') and met[0] not in known:
+            near = f", the nearest is `{NEAREST[met[0]]}`" if met[0] in NEAREST else ""
+            return f"`{met[0]}` is no {NOUNS[kind]}{near}; " if kind in NOUNS else "", at or str(met.start())
+    return "", at or str(action + 1)
+
+
 def faulty_rows(spec, line, expected):
     """The row of what `lexlook check` writes of a specification that lex refuses by this line; none where what follows is at fault too."""
     number, kind, at = re.fullmatch(r"lex: (?:line (\d+): )?(\w+)(?: at (\d+))?\n", line).groups()
     if any(later not in ("", "%%") for later in spec.splitlines()[int(number or 0) :]) and number:
         return
+    shown = (spec.splitlines() + [""])[int(number or 0) - 1]
+    word, at = word_met(kind, shown, at)
     head = "".join(":" + part for part in (number, str(int(at) + 1) if at else None) if part and part != "0")
     written = f"a.l{head}: error: {kind}\n"
     if kind in expected:
-        shown = (spec.splitlines() + [""])[int(number) - 1]
         blank = " " * len(number)
         written += f"    {number} | {shown}\n" if shown else ""
         written += f"    {blank} | {' ' * int(at)}^\n" if at else ""
-        written += f"    {blank} = {expected[kind]}\n"
+        written += f"    {blank} = {word}{expected[kind]}\n"
     yield row("check", ("spec", spec), ("written", written), ("told", "status 1\n"))
 
 

@@ -1,6 +1,5 @@
 pub mod Chains
 pub mod Well
 pub mod Reading
-pub mod PieceLaws
 pub mod Parts
 pub mod OrderLaws

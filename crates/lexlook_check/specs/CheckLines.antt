@@ -1,13 +1,15 @@
 -- The lines that tell what was found. (This project's: POSIX leaves messages to the implementation. `FILE:LINE:` is
 -- what compilers of C write, and what editors read.)
-use Rattle.std.specs.Prelude.{ℕ, ◌+◌, ◌==◌, if◌then◌else◌, List, [], ◌∷◌, ◌++◌, Option, Some, None, is_none, codes, decimal}
+use Rattle.std.specs.Prelude.{ℕ, ◌+◌, ◌==◌, if◌then◌else◌, List, [], ◌∷◌, ◌++◌, Option, Some, None, is_none, option_map, codes, decimal}
 use Rattle.std.specs.List.{concat}
 use Rattle.lexre_bytes.specs.RefusalNames.{kind_name}
 use Rattle.lexauto_reports.specs.ReportLines.{warning_words}
 use Rattle.lexkit.specs.Faults.{build_words}
+use Rattle.lexlook_check.specs.Findings.{known_lines}
 use Rattle.lexlook_check.specs.Hints.{definition_hint, hint_words, notice_hint}
 use Rattle.lexlook_check.specs.Places.{line_place}
 use Rattle.lexlook_check.specs.SourceLines.{place_in, source_words, text_line}
+use Rattle.lexlook_check.specs.Words.{front_words}
 use Rattle.lexlook_check.specs.declared.findings.Finding.{Finding}
 use Rattle.lexlook_check.specs.declared.findings.What.{What}
 use Rattle.lexlook_check.specs.declared.findings.What.TheVariants.{Fault, Limit, Noticed, Warned}
@@ -69,9 +71,13 @@ head_words files f at =
 abbrev pub shown_line : List ℕ → Finding → List ℕ
 shown_line text f = if is_none (hint_of f.what) then [] else text_line f.line text
 
+-- what is told below: of the word at the place in this line of the text, and what is expected there
+abbrev pub full_hint : List ℕ → What → Option ℕ → List ℕ → Option (List ℕ)
+full_hint text what at line = option_map (λ hint. front_words (known_lines text) what at line ++ hint) (hint_of what)
+
 -- the lines of what was found of a text
 abbrev pub finding_lines : List SourceFile → List ℕ → Finding → List ℕ
 finding_lines files text f =
     let line = shown_line text f in
     let at = place_in f.at line in
-    head_words files f at ++ detail_words (line_place files f.line).1 line at (hint_of f.what)
+    head_words files f at ++ detail_words (line_place files f.line).1 line at (full_hint text f.what at line)

@@ -1,11 +1,17 @@
 -- What is told of a text, in order of place. (This project's.)
-use Rattle.std.specs.Prelude.{◌≡◌, ℕ, ◌+◌, ◌<◌, ◌≤◌, ◌⊎◌, List, [], ◌∷◌, ◌++◌, map, length, Option, Some, None, slice_index_or, unwrap_or}
+use Rattle.std.specs.Prelude.{◌≡◌, ℕ, ◌+◌, ◌-◌, ◌<◌, ◌≤◌, ◌⊎◌, true, List, [], ◌∷◌, ◌++◌, map, length, take, Option, Some, None, slice_get, slice_index_or, unwrap_or}
 use Rattle.std.specs.List.Sorted.{IsPermutation}
+use Rattle.lex_semantics.specs.Limits.{max_file_bytes}
 use Rattle.lexre_bytes.specs.declared.refusals.SpecError.{SpecError}
 use Rattle.lexre_bytes.specs.declared.refusals.SpecErrorKind.{SpecErrorKind}
 use Rattle.lexre_bytes.specs.declared.refusals.SpecErrorKind.TheVariants.{Pattern}
 use Rattle.lexauto.specs.declared.error.BuildError.{BuildError}
 use Rattle.lexauto_reports.specs.declared.warned.Warning.{Warning}
+use Rattle.lexlook_text.specs.DefinitionLines.{lines_from, section_lines}
+use Rattle.lexlook_text.specs.Known.{argument_names, condition_names}
+use Rattle.lexlook_text.specs.Spots.{spot_of}
+use Rattle.lexlook_text.specs.declared.definitions.LineKind.TheVariants.{Declaration}
+use Rattle.lexlook_text.specs.declared.scan.Spot.{Spot}
 use Rattle.lexlook_check.specs.declared.checking.Checked.{Checked}
 use Rattle.lexlook_check.specs.declared.findings.Finding.{Finding}
 use Rattle.lexlook_check.specs.declared.findings.What.TheVariants.{Fault, Limit, Noticed, Warned}
@@ -16,9 +22,27 @@ abbrev pub fault_place : SpecErrorKind → Option ℕ
 fault_place (Pattern e) = Some e.at
 fault_place other = None
 
--- a fault, at one byte
-abbrev pub fault_finding : SpecError → Finding
-fault_finding e = record { line = e.line; at = fault_place e.kind; size = 1; what = Fault e.kind }
+-- the lines of a text, as much of it as lex takes
+abbrev pub known_lines : List ℕ → List (ℕ × List ℕ)
+known_lines text = lines_from 1 true (take max_file_bytes text)
+
+-- the word of a line with a fault of this kind that is at fault
+abbrev pub line_spot : List ℕ → List ℕ → SpecErrorKind → Option (ℕ × List ℕ) → Option Spot
+line_spot conditions arguments kind None = None
+line_spot conditions arguments kind (Some l) = spot_of conditions arguments kind l
+
+-- the same of a fault, in a text with these lines
+abbrev pub fault_spot : List (ℕ × List ℕ) → SpecError → Option Spot
+fault_spot lines e =
+    let declared = section_lines Declaration lines in
+    line_spot (condition_names declared) (argument_names declared) e.kind (slice_get lines (e.line - 1))
+
+-- a fault, at that word, or else at one byte, where lex tells its place
+abbrev pub fault_finding : List (ℕ × List ℕ) → SpecError → Finding
+fault_finding lines e = elim (fault_spot lines e) [
+  | None ↦ record { line = e.line; at = fault_place e.kind; size = 1; what = Fault e.kind }
+  | Some s ↦ record { line = s.line; at = Some s.at; size = s.size; what = Fault e.kind }
+]
 
 -- a limit, at line 0, which is the whole
 abbrev pub limit_findings : Option BuildError → List Finding
@@ -33,10 +57,10 @@ warning_finding w = record { line = w.line; at = None; size = 1; what = Warned w
 abbrev pub notice_finding : Notice → Finding
 notice_finding n = record { line = n.line; at = Some n.at; size = n.size; what = Noticed n.kind }
 
--- all that was found of a text, as it was found
-abbrev pub findings_of : Checked → List Finding
-findings_of c =
-    map fault_finding c.faults.items ++ limit_findings c.limit ++ map warning_finding c.warnings.items
+-- all that was found of a text with these lines, as it was found
+abbrev pub findings_of : List (ℕ × List ℕ) → Checked → List Finding
+findings_of lines c =
+    map (fault_finding lines) c.faults.items ++ limit_findings c.limit ++ map warning_finding c.warnings.items
     ++ map notice_finding c.notices.items
 
 -- it has an earlier line, or the same and no later place; where no place is told it is the first of the line

@@ -5,7 +5,7 @@ use Rattle.std.specs.List.{concat}
 use Rattle.std.specs.Str.{is_utf8}
 use Rattle.lexre_bytes.specs.RefusalNames.{kind_name}
 use Rattle.lexkit.specs.Faults.{build_words}
-use Rattle.lexlook_check.specs.CheckLines.{hint_of, severity_words, shown_line, what_words}
+use Rattle.lexlook_check.specs.CheckLines.{full_hint, severity_words, shown_line, what_words}
 use Rattle.lexlook_check.specs.Places.{line_place}
 use Rattle.lexlook_check.specs.SourceLines.{end_of_span, place_in}
 use Rattle.lexlook_check.specs.declared.findings.Finding.{Finding}
@@ -70,15 +70,17 @@ abbrev pub hint_fields : List ℕ → Option (List ℕ) → List ℕ
 hint_fields line None = codes ",\"hint\":null,\"text\":null"
 hint_fields line (Some hint) = string_field (codes ",\"hint\":") hint ++ string_field (codes ",\"text\":") line
 
--- the fields of what was found in this line
-abbrev pub what_fields : List ℕ → What → List ℕ
-what_fields line what =
+-- the fields of what was found in this line, of which this is told
+abbrev pub what_fields : List ℕ → What → Option (List ℕ) → List ℕ
+what_fields line what hint =
     concat (string_field (codes ",\"severity\":") (severity_words what)
     ∷ string_field (codes ",\"kind\":") (what_name what)
     ∷ string_field (codes ",\"message\":") (what_words what)
-    ∷ hint_fields line (hint_of what)
+    ∷ hint_fields line hint
     ∷ codes "}\n" ∷ [])
 
 -- what was found of a text, as an object
 abbrev pub finding_json : List SourceFile → List ℕ → Finding → List ℕ
-finding_json files text f = let line = shown_line text f in place_fields files line f ++ what_fields line f.what
+finding_json files text f =
+    let line = shown_line text f in
+    place_fields files line f ++ what_fields line f.what (full_hint text f.what (place_in f.at line) line)

@@ -1,10 +1,6 @@
 pub mod Leaving
 pub mod LeavingExamples
 pub mod Finding
-pub mod Pieces
-pub mod PieceViews
-pub mod DefinitionLines
-pub mod LineViews
 pub mod Unused
 pub mod Notices
 pub mod NoticeExamples
@@ -12,7 +8,10 @@ pub mod Checks
 pub mod Places
 pub mod SourceLines
 pub mod Hints
+pub mod Words
+pub mod WordViews
 pub mod Findings
+pub mod WordExamples
 pub mod CheckLines
 pub mod JsonLines
 pub mod Telling

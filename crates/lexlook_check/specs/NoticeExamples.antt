@@ -1,15 +1,10 @@
--- Pieces of patterns and what is warned of, worked by hand. α is the bytes 206 and 177.
-use Rattle.std.specs.Prelude.{◌≡◌, [], ◌∷◌, ◌++◌, Some, None, true, false, codes}
-use Rattle.lexlook_check.specs.DefinitionLines.{definition_lines}
+-- What is warned of in pieces of patterns, worked by hand. α is the bytes 206 and 177.
+use Rattle.std.specs.Prelude.{◌≡◌, ◌∷◌, ◌++◌, Some, None, true, false, codes}
 use Rattle.lexlook_check.specs.Notices.{notice_of}
-use Rattle.lexlook_check.specs.Pieces.{pieces_from}
 use Rattle.lexlook_check.specs.Unused.{stands_in}
 use Rattle.lexlook_check.specs.declared.notices.NoticeKind.TheVariants.{LettersAsBytes, LetterAlone, Backspace}
 
 pub record NoticeExamples : Type 0 where
-  -- a class with a blank, quotes with one, a name, an escape, and a byte before the blank that ends the pattern
-  pub pieces : pieces_from 2 0 (codes "[] b]\"c \\\"d\"{X}\\de f")
-      ≡ (2, codes "[] b]") ∷ (7, codes "\"c \\\"d\"") ∷ (14, codes "{X}") ∷ (17, codes "\\d") ∷ (19, codes "e") ∷ []
   -- a class with α, one with half of it, and α in quotes
   pub letters : notice_of (codes "[" ++ 206 ∷ 177 ∷ codes "]") ≡ Some LettersAsBytes
   pub bytes : notice_of (codes "[" ++ 206 ∷ codes "]") ≡ None
@@ -26,6 +21,3 @@ pub record NoticeExamples : Type 0 where
   pub used : stands_in (codes "D") (codes "D [0-9]\n%%\n{D}+ ;\n") ≡ true
   pub longer : stands_in (codes "D") (codes "%%\n{D2} ;\n") ≡ false
   pub alone : stands_in (codes "D") (codes "D [0-9]\n%%\nD ;\n") ≡ false
-  -- lines of a block and of a comment are no definitions
-  pub definitions : definition_lines (codes "%{\nx a\n%}\n/* y\nz b */\nD c\n%%\ne f\n") ≡ (6, codes "D c\n%%\ne f\n")
-      ∷ []

@@ -4,8 +4,8 @@ use Rattle.std.specs.List.{list_any}
 use Rattle.std.specs.Str.{is_utf8}
 use Rattle.lex_semantics.specs.Active.{contains}
 use Rattle.lex_semantics.specs.Reading.{after_blanks, begins, goes_on_name, take_run}
-use Rattle.lexlook_check.specs.DefinitionLines.{definition_lines, lines_from}
-use Rattle.lexlook_check.specs.Pieces.{pieces_from}
+use Rattle.lexlook_text.specs.DefinitionLines.{definition_lines, lines_from}
+use Rattle.lexlook_text.specs.Pieces.{pieces_from}
 use Rattle.lexlook_check.specs.Unused.{max_looked_for, unused_notices}
 use Rattle.lexlook_check.specs.declared.notices.Notice.{Notice}
 use Rattle.lexlook_check.specs.declared.notices.NoticeKind.{NoticeKind}

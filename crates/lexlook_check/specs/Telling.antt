@@ -8,7 +8,7 @@ use Rattle.lexkit.specs.declared.failure.Failure.TheVariants as failures
 use Rattle.lexkit.specs.declared.options.Options.{Options}
 use Rattle.lexlook_check.specs.CheckLines.{finding_lines}
 use Rattle.lexlook_check.specs.Checks.{IsChecked, is_well}
-use Rattle.lexlook_check.specs.Findings.{AreInOrder, findings_of}
+use Rattle.lexlook_check.specs.Findings.{AreInOrder, findings_of, known_lines}
 use Rattle.lexlook_check.specs.JsonLines.{finding_json}
 use Rattle.lexlook_check.specs.Places.{joined_text, own_line}
 use Rattle.lexlook_check.specs.declared.checking.Checked.{Checked}
@@ -29,7 +29,7 @@ pub record IsTellingOf (options : Options) (form : Form) (files : List SourceFil
     (checked : Checked) : Type 0 where
   pub is_checked : IsChecked options (own_line files) (joined_text files) checked
   pub told : List Finding
-  pub in_order : AreInOrder (findings_of checked) told
+  pub in_order : AreInOrder (findings_of (known_lines (without_returns (joined_text files))) checked) told
   pub bytes_are : bytes ≡ told_bytes form files (without_returns (joined_text files)) told
 
 -- what was found was written: all of it at `Ok`, a front of it at `Err`

@@ -1,11 +1,16 @@
 //! What is told of a text, in order of place.
-ghost use Rattle.std.specs.Prelude.{◌≡◌, ◌++◌, IfOk, OnOk, map};
-ghost use Rattle.lexlook_check.specs.Findings.{AreInOrder, fault_finding, fault_place, findings_of, limit_findings, notice_finding, warning_finding};
+ghost use Rattle.std.specs.Prelude.{◌≡◌, ◌≤◌, ◌++◌, IfOk, OnOk, length, map, take};
+ghost use Rattle.lex_semantics.specs.Limits.{max_file_bytes};
+ghost use Rattle.lexlook_text.specs.Known.{AreNamesOf};
+ghost use Rattle.lexlook_text.specs.LineViews.{line_of};
+ghost use Rattle.lexlook_check.specs.Findings.{AreInOrder, fault_finding, fault_place, fault_spot, findings_of, known_lines, limit_findings, notice_finding, warning_finding};
 
 use crate::checking::Checked;
 use crate::notices::{Notice, NoticeKind};
+use lex_semantics::MAX_FILE_BYTES;
 use lexauto::BuildError;
 use lexauto_reports::Warning;
+use lexlook_text::{KnownNames, Line, Spot, lines_of, spot_of};
 use lexspec::{SpecError, SpecErrorKind};
 use std::alloc::{AllocError, Global};
 
@@ -45,17 +50,70 @@ fn fault_place(kind: SpecErrorKind) -> Option<usize>
     }
 }
 
-/// Appends faults, each at one byte.
-fn add_faults(findings: &mut Vec<Finding>, faults: &[SpecError]) -> Result<(), AllocError>
-    ensures { OnOk result (findings.new.items ≡ findings.old.items ++ map fault_finding faults.now) }
+/// As much of a text as lex takes.
+fn taken(text: &[u8]) -> &[u8]
+    ensures front { result.now ≡ take max_file_bytes text.now }
+    ensures few { length result.now ≤ max_file_bytes }
 {
-    for fault in faults {
-        findings.push(Finding {
+    if text.len() <= MAX_FILE_BYTES {
+        return text;
+    }
+    text.split_at(MAX_FILE_BYTES).0
+}
+
+/// The lines of a text, as much of it as lex takes.
+pub(crate) fn known_lines(alloc: Global, text: &[u8]) -> Result<Vec<Line<'_>>, AllocError>
+    ensures { IfOk result (λ lines. map line_of lines.items ≡ known_lines text.now) }
+{
+    lines_of(alloc, taken(text))
+}
+
+/// The word that is at fault, in a text with these lines and names.
+fn fault_spot(names: &KnownNames, lines: &[Line<'_>], fault: SpecError) -> Option<Spot>
+    requires { AreNamesOf (map line_of lines.now) names.now }
+    ensures { result ≡ fault_spot (map line_of lines.now) fault }
+{
+    match lines.get((fault.line as usize).saturating_sub(1)) {
+        None => None,
+        Some(line) => spot_of(names, fault.kind, *line),
+    }
+}
+
+/// A fault, at that word, or else at one byte, where lex tells its place.
+fn fault_finding(names: &KnownNames, lines: &[Line<'_>], fault: SpecError) -> Finding
+    requires { AreNamesOf (map line_of lines.now) names.now }
+    ensures { result ≡ fault_finding (map line_of lines.now) fault }
+{
+    let what = What::Fault(fault.kind);
+    match fault_spot(names, lines, fault) {
+        None => Finding {
             line: fault.line,
             at: fault_place(fault.kind),
             size: 1,
-            what: What::Fault(fault.kind),
-        })?;
+            what,
+        },
+        Some(spot) => Finding {
+            line: spot.line,
+            at: Some(spot.at),
+            size: spot.size,
+            what,
+        },
+    }
+}
+
+/// Appends faults of a text with these lines and names.
+fn add_faults(
+    findings: &mut Vec<Finding>,
+    names: &KnownNames,
+    lines: &[Line<'_>],
+    faults: &[SpecError],
+) -> Result<(), AllocError>
+    requires { AreNamesOf (map line_of lines.now) names.now }
+    ensures { OnOk result (findings.new.items
+        ≡ findings.old.items ++ map (fault_finding (map line_of lines.now)) faults.now) }
+{
+    for fault in faults {
+        findings.push(fault_finding(names, lines, *fault))?;
     }
     Ok(())
 }
@@ -105,26 +163,36 @@ fn add_notices(findings: &mut Vec<Finding>, notices: &[Notice]) -> Result<(), Al
     Ok(())
 }
 
-/// All that was found of a text, as it was found.
-fn findings_of(alloc: Global, checked: &Checked) -> Result<Vec<Finding>, AllocError>
-    ensures { IfOk result (λ findings. findings.items ≡ findings_of checked.now) }
+/// All that was found of a text with these lines and names, as it was found.
+fn findings_of(
+    alloc: Global,
+    names: &KnownNames,
+    lines: &[Line<'_>],
+    checked: &Checked,
+) -> Result<Vec<Finding>, AllocError>
+    requires { AreNamesOf (map line_of lines.now) names.now }
+    ensures { IfOk result (λ findings. findings.items ≡ findings_of (map line_of lines.now) checked.now) }
 {
     let mut findings = Vec::new(alloc);
-    add_faults(&mut findings, checked.faults.as_slice())?;
+    add_faults(&mut findings, names, lines, checked.faults.as_slice())?;
     add_limit(&mut findings, checked.limit)?;
     add_warnings(&mut findings, checked.warnings.as_slice())?;
     add_notices(&mut findings, checked.notices.as_slice())?;
     Ok(findings)
 }
 
-/// All that was found of a text, in order of place. Where no place in the line is told it is the first of the line.
+/// All that was found of a text with these lines and names, in order of place. Where no place in the line is told it is
+/// the first of the line.
 pub(crate) fn findings_in_order(
     alloc: Global,
+    names: &KnownNames,
+    lines: &[Line<'_>],
     checked: &Checked,
 ) -> Result<Vec<Finding>, AllocError>
-    ensures { IfOk result (λ told. AreInOrder (findings_of checked.now) told.items) }
+    requires { AreNamesOf (map line_of lines.now) names.now }
+    ensures { IfOk result (λ told. AreInOrder (findings_of (map line_of lines.now) checked.now) told.items) }
 {
-    let mut told = findings_of(alloc, checked)?;
+    let mut told = findings_of(alloc, names, lines, checked)?;
     told.sort_by_key(|finding| finding.at.unwrap_or(0))?;
     told.sort_by_key(|finding| finding.line)?;
     Ok(told)

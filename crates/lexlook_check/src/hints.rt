@@ -139,13 +139,13 @@ pub(crate) fn notice_hint(kind: NoticeKind) -> &'static str
 }
 
 /// Appends the line of a hint, below a line with this number.
-pub(crate) fn add_hint(text: &mut Vec<u8>, number: u32, hint: &str) -> Result<(), AllocError>
+pub(crate) fn add_hint(text: &mut Vec<u8>, number: u32, hint: &[u8]) -> Result<(), AllocError>
     ensures { OnOk result (text.new.items ≡ text.old.items ++ hint_words number hint.now) }
 {
     let mut digits = Buffer::new();
     add(text, b"    ")?;
     add_under(text, digits.format(number).as_bytes())?;
     add(text, b" = ")?;
-    add(text, hint.as_bytes())?;
+    add(text, hint)?;
     add(text, b"\n")
 }

@@ -1,15 +1,18 @@
 //! What was found as JSON, an object a line.
 ghost use Rattle.std.specs.Prelude.{◌≡◌, ◌++◌, ◌+◌, ◌-◌, ◌<◌, ◌≤◌, ◌^◌, IfOk, IfSome, OnOk, flat_map, length, option_map};
+ghost use Rattle.lexlook_text.specs.Known.{AreNamesOf};
+ghost use Rattle.lexlook_check.specs.Findings.{known_lines};
 ghost use Rattle.lexlook_check.specs.JsonLines.{finding_json, hint_fields, json_string, number_field, place_fields, string_byte, string_field, known_line, what_fields, what_name};
 ghost use Rattle.lexlook_check.specs.SourceLines.{end_of_span};
 
 use crate::findings::{Finding, What};
-use crate::lines::{hint_of, severity_text, shown_line, what_text};
+use crate::lines::{full_hint, severity_text, shown_line, what_text};
 use crate::notices::{NoticeKind, is_utf8};
 use crate::places::{SourceFile, line_place};
 use crate::source::place_in;
 use itoa::Buffer;
 use lexlook_specs::add;
+use lexlook_text::KnownNames;
 use std::alloc::{AllocError, Global};
 
 /// The digits of numbers in base 16.
@@ -131,55 +134,72 @@ fn add_place_fields(
 }
 
 /// Appends the fields of what is expected in this line, where something is.
-fn add_hint_fields(text: &mut Vec<u8>, line: &[u8], hint: Option<&str>) -> Result<(), AllocError>
-    ensures { OnOk result (text.new.items ≡ text.old.items ++ hint_fields line.now (option_map (λ h. h.now) hint.entry)) }
+fn add_hint_fields(
+    text: &mut Vec<u8>,
+    line: &[u8],
+    hint: &Option<Vec<u8>>,
+) -> Result<(), AllocError>
+    ensures { OnOk result (text.new.items ≡ text.old.items ++ hint_fields line.now (option_map (λ h. h.items) hint.now)) }
 {
     match hint {
         None => add(text, b",\"hint\":null,\"text\":null"),
         Some(hint) => {
-            add_string_field(text, ",\"hint\":", hint.as_bytes())?;
+            add_string_field(text, ",\"hint\":", hint.as_slice())?;
             add_string_field(text, ",\"text\":", line)
         }
     }
 }
 
-/// Appends the fields of what was found in this line.
-fn add_what_fields(text: &mut Vec<u8>, line: &[u8], what: What) -> Result<(), AllocError>
-    ensures { OnOk result (text.new.items ≡ text.old.items ++ what_fields line.now what) }
+/// Appends the fields of what was found in this line, of which this is told.
+fn add_what_fields(
+    text: &mut Vec<u8>,
+    line: &[u8],
+    what: What,
+    hint: &Option<Vec<u8>>,
+) -> Result<(), AllocError>
+    ensures { OnOk result (text.new.items
+        ≡ text.old.items ++ what_fields line.now what (option_map (λ h. h.items) hint.now)) }
 {
     add_string_field(text, ",\"severity\":", severity_text(what).as_bytes())?;
     add_string_field(text, ",\"kind\":", what_name(what).as_bytes())?;
     add_string_field(text, ",\"message\":", what_text(what).as_bytes())?;
-    add_hint_fields(text, line, hint_of(what))?;
+    add_hint_fields(text, line, hint)?;
     add(text, b"}\n")
 }
 
-/// Appends the object of what was found of a text.
+/// Appends the object of what was found of a text, which has these names.
 fn add_json(
+    alloc: Global,
     text: &mut Vec<u8>,
     files: &[SourceFile<'_>],
     whole: &[u8],
+    names: &KnownNames,
     finding: Finding,
 ) -> Result<(), AllocError>
+    requires { AreNamesOf (known_lines whole.now) names.now }
     ensures { OnOk result (text.new.items ≡ text.old.items ++ finding_json files.now whole.now finding) }
 {
     let line = shown_line(whole, finding);
+    let offset = place_in(finding.at, line);
+    let hint = full_hint(alloc, whole, names, finding.what, offset, line)?;
     add_place_fields(text, files, line, finding)?;
-    add_what_fields(text, line, finding.what)
+    add_what_fields(text, line, finding.what, &hint)
 }
 
-/// The objects of all that was found of a text.
+/// The objects of all that was found of a text, which has these names.
 pub(crate) fn told_json(
     alloc: Global,
     files: &[SourceFile<'_>],
     whole: &[u8],
+    names: &KnownNames,
     findings: &[Finding],
 ) -> Result<Vec<u8>, AllocError>
+    requires { AreNamesOf (known_lines whole.now) names.now }
     ensures { IfOk result (λ text. text.items ≡ flat_map (finding_json files.now whole.now) findings.now) }
 {
     let mut text = Vec::new(alloc);
     for finding in findings {
-        add_json(&mut text, files, whole, *finding)?;
+        add_json(alloc, &mut text, files, whole, names, *finding)?;
     }
     Ok(text)
 }

@@ -2,6 +2,7 @@
 ghost use Rattle.lexlook_check.specs.Checks.{NothingToldJustOf};
 ghost use Rattle.lexlook_check.specs.LeavingExamples.{LeavingExamples};
 ghost use Rattle.lexlook_check.specs.NoticeExamples.{NoticeExamples};
+ghost use Rattle.lexlook_check.specs.WordExamples.{WordExamples};
 
 use lexspec::one_specification;
 
@@ -17,7 +18,12 @@ pub fn examples_of_leaving()
     ensures { LeavingExamples }
 {}
 
-/// Pieces of patterns and what is warned of, worked by hand.
+/// What is warned of in pieces of patterns, worked by hand.
 pub fn examples_of_notices()
     ensures { NoticeExamples }
+{}
+
+/// What is said of words that have no meaning, worked by hand.
+pub fn examples_of_words()
+    ensures { WordExamples }
 {}

@@ -4,14 +4,13 @@
 //! - `reader`: a reader of specifications, known by what it answers of a text. That of lex is one.
 //! - `leaving`: the text in which the lines of a rule are empty.
 //! - `finding`: the faults that a reader answers of a text, each behind that of the text without the rules before.
-//! - `pieces`: classes, texts in quotes and other pieces of a pattern, as they stand.
-//! - `definitions`: the lines of a text, and which of them are definitions.
 //! - `unused`: definitions that no pattern uses.
 //! - `notices`: what is warned of in patterns and definitions, beside what lex warns of.
 //! - `checking`: the faults, the limit that the automaton of what is left passes, and the warnings: `check`.
 //! - `places`: the files, as one text, and in which of them a line stands.
 //! - `source`: the line of a fault as it stands, with a mark under its place.
 //! - `hints`: what is expected where a fault is.
+//! - `words`: the word at the place of a fault that has no meaning there, and the nearest one that has.
 //! - `findings`: what is told of a text, in order of place.
 //! - `lines`: the lines of what was found.
 //! - `json`: the same as objects of JSON.
@@ -29,8 +28,8 @@
 //!   rule begins so, but one of `}`. An action in braces whose lines begin at the margin is not left out whole, and what
 //!   is left of it may be told too. Braces are not counted: one in a quoted pattern would leave out all that follows.
 //! - **Where nothing can be left out, the fault is the last**: that of a text without `%%`, and of one that is too long.
-//! - **A column is told of patterns alone**, since lexspec tells no other. It counts bytes, and a mark stands under a blank
-//!   for each byte before it, or a tab.
+//! - **A column is told of patterns**, by lexspec, and of a word that has no meaning where it stands, by lexlook_text. It counts
+//!   bytes, and a mark stands under a blank for each byte before it, or a tab.
 //! - **All is written in order of place**, by two stable sorts. So lex's own fault may stand behind one that it brought.
 //! - **Warnings of patterns are of the text alone**, by their pieces: the reader keeps no places of what it takes. Which lines
 //!   are rules the reader says.
@@ -38,7 +37,6 @@
 #![tactic(auto)]
 
 mod checking;
-mod definitions;
 mod error;
 mod finding;
 mod findings;
@@ -48,17 +46,17 @@ mod laws;
 mod leaving;
 mod lines;
 mod notices;
-mod pieces;
 mod places;
 mod reader;
 mod source;
 mod telling;
 mod unused;
+mod words;
 
 pub use checking::{Checked, check};
 pub use error::CheckError;
 pub use finding::MAX_FAULTS;
-pub use laws::{examples_of_leaving, examples_of_notices, nothing_told};
+pub use laws::{examples_of_leaving, examples_of_notices, examples_of_words, nothing_told};
 pub use notices::{Notice, NoticeKind};
 pub use places::SourceFile;
 pub use telling::{Form, tell_check};

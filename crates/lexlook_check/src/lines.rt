@@ -2,16 +2,20 @@
 ghost use Rattle.std.specs.Prelude.{◌≡◌, ◌++◌, ◌<◌, ◌-◌, ◌^◌, IfOk, IfSome, OnOk, flat_map, option_map};
 ghost use Rattle.lexauto_reports.specs.ReportLines.{warning_words};
 ghost use Rattle.lexkit.specs.Faults.{build_words};
-ghost use Rattle.lexlook_check.specs.CheckLines.{column_words, detail_words, file_line_words, finding_lines, head_words, hint_of, notice_words, severity_words, shown_line, what_words};
+ghost use Rattle.lexlook_text.specs.Known.{AreNamesOf};
+ghost use Rattle.lexlook_check.specs.Findings.{known_lines};
+ghost use Rattle.lexlook_check.specs.CheckLines.{column_words, detail_words, file_line_words, finding_lines, full_hint, head_words, hint_of, notice_words, severity_words, shown_line, what_words};
 
 use crate::findings::{Finding, What};
 use crate::hints::{add_hint, definition_hint, notice_hint};
 use crate::notices::NoticeKind;
 use crate::places::{SourceFile, line_place};
 use crate::source::{add_source, place_in, text_line};
+use crate::words::add_front;
 use itoa::Buffer;
 use lexauto::BuildError;
 use lexlook_specs::{add, add_number};
+use lexlook_text::KnownNames;
 use std::alloc::{AllocError, Global};
 
 /// Appends the file in which a line stands, and its number there. Line 0 is the whole of the first file.
@@ -99,7 +103,7 @@ pub(crate) fn what_text(what: What) -> &'static str
 }
 
 /// What is expected there, or to be known.
-pub(crate) fn hint_of(what: What) -> Option<&'static str>
+fn hint_of(what: What) -> Option<&'static str>
     ensures { option_map (λ hint. hint.now) result ≡ hint_of what }
 {
     match what {
@@ -109,22 +113,45 @@ pub(crate) fn hint_of(what: What) -> Option<&'static str>
     }
 }
 
+/// What is told of the word at the place in this line of the text, which has these names, and what is expected there.
+pub(crate) fn full_hint(
+    alloc: Global,
+    whole: &[u8],
+    names: &KnownNames,
+    what: What,
+    offset: Option<usize>,
+    line: &[u8],
+) -> Result<Option<Vec<u8>>, AllocError>
+    requires { AreNamesOf (known_lines whole.now) names.now }
+    ensures { IfOk result (λ hint. option_map (λ h. h.items) hint ≡ full_hint whole.now what offset line.now) }
+{
+    match hint_of(what) {
+        None => Ok(None),
+        Some(hint) => {
+            let mut text = Vec::new(alloc);
+            add_front(&mut text, names, what, offset, line)?;
+            add(&mut text, hint.as_bytes())?;
+            Ok(Some(text))
+        }
+    }
+}
+
 /// Appends what stands below: where something is expected, the line with this number as it stands, and that.
 fn add_details(
     text: &mut Vec<u8>,
     number: u32,
     line: &[u8],
     offset: Option<usize>,
-    hint: Option<&str>,
+    hint: &Option<Vec<u8>>,
 ) -> Result<(), AllocError>
     ensures { OnOk result (text.new.items
-        ≡ text.old.items ++ detail_words number line.now offset (option_map (λ hint. hint.now) hint.entry)) }
+        ≡ text.old.items ++ detail_words number line.now offset (option_map (λ hint. hint.items) hint.now)) }
 {
     match hint {
         None => add(text, b""),
         Some(hint) => {
             add_source(text, number, line, offset)?;
-            add_hint(text, number, hint)
+            add_hint(text, number, hint.as_slice())
         }
     }
 }
@@ -158,34 +185,40 @@ pub(crate) fn shown_line(text: &[u8], finding: Finding) -> &[u8]
     text_line(text, finding.line)
 }
 
-/// Appends the lines of what was found of a text.
+/// Appends the lines of what was found of a text, which has these names.
 fn add_finding(
+    alloc: Global,
     text: &mut Vec<u8>,
     files: &[SourceFile<'_>],
     whole: &[u8],
+    names: &KnownNames,
     finding: Finding,
 ) -> Result<(), AllocError>
+    requires { AreNamesOf (known_lines whole.now) names.now }
     ensures { OnOk result (text.new.items ≡ text.old.items ++ finding_lines files.now whole.now finding) }
 {
     let line = shown_line(whole, finding);
     let offset = place_in(finding.at, line);
     let number = line_place(files, finding.line).line;
+    let hint = full_hint(alloc, whole, names, finding.what, offset, line)?;
     add_head(text, files, finding, offset)?;
-    add_details(text, number, line, offset, hint_of(finding.what))
+    add_details(text, number, line, offset, &hint)
 }
 
-/// The lines of all that was found of a text.
+/// The lines of all that was found of a text, which has these names.
 pub(crate) fn told_lines(
     alloc: Global,
     files: &[SourceFile<'_>],
     whole: &[u8],
+    names: &KnownNames,
     findings: &[Finding],
 ) -> Result<Vec<u8>, AllocError>
+    requires { AreNamesOf (known_lines whole.now) names.now }
     ensures { IfOk result (λ text. text.items ≡ flat_map (finding_lines files.now whole.now) findings.now) }
 {
     let mut text = Vec::new(alloc);
     for finding in findings {
-        add_finding(&mut text, files, whole, *finding)?;
+        add_finding(alloc, &mut text, files, whole, names, *finding)?;
     }
     Ok(text)
 }

@@ -3,13 +3,12 @@ ghost use Rattle.std.specs.Prelude.{◌≡◌, ◌≤◌, ◌<◌, ◌+◌, ◌^
 ghost use Rattle.std.specs.List.{list_any};
 ghost use Rattle.std.specs.Str.{is_utf8};
 ghost use Rattle.lex_semantics.specs.Limits.{max_file_bytes};
-ghost use Rattle.lexlook_check.specs.LineViews.{line_of};
-ghost use Rattle.lexlook_check.specs.PieceViews.{piece_of};
+ghost use Rattle.lexlook_text.specs.LineViews.{line_of};
+ghost use Rattle.lexlook_text.specs.PieceViews.{piece_of};
 ghost use Rattle.lexlook_check.specs.Notices.{definition_notices, escapes_letter, has_letters, max_notices, notice_of, notices_of, pattern_notices, piece_notices, rule_notices};
 
-use crate::definitions::{Line, definitions_of, lines_of};
-use crate::pieces::{Piece, pieces_of};
 use crate::unused::add_unused;
+use lexlook_text::{Line, LineKind, Piece, lines_of, pieces_of, section_lines};
 use lexre_bytes::split_name;
 use lexspec_lines::skip_blanks;
 use std::alloc::{AllocError, Global};
@@ -210,7 +209,7 @@ pub(crate) fn notices_of(
     ensures { IfOk result (λ notices. notices.items ≡ take max_notices (notices_of own whole.now rules.now text.now)) }
 {
     let lines = lines_of(alloc, text)?;
-    let mut definitions = definitions_of(alloc, lines.as_slice())?;
+    let mut definitions = section_lines(alloc, LineKind::Definition, lines.as_slice())?;
     let mut notices = Vec::new(alloc);
     add_all_definition_notices(alloc, &mut notices, definitions.as_slice())?;
     add_all_rule_notices(alloc, &mut notices, lines.as_slice(), rules)?;

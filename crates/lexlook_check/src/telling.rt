@@ -1,15 +1,18 @@
 //! What is written of the files of a specification.
 ghost use Rattle.std.specs.Prelude.{◌≡◌, ◌≤◌, ◌<◌, ◌+◌, ◌-◌, ◌^◌, IfOk};
 ghost use Rattle.lex_semantics.specs.Limits.{max_positions, max_states};
+ghost use Rattle.lexlook_text.specs.Known.{AreNamesOf};
+ghost use Rattle.lexlook_check.specs.Findings.{known_lines};
 ghost use Rattle.lexlook_check.specs.Telling.{IsTellingOf, TellsCheck, check_fault_count, told_bytes};
 
 use crate::checking::{Checked, check};
 use crate::error::CheckError;
-use crate::findings::{Finding, findings_in_order};
+use crate::findings::{Finding, findings_in_order, known_lines};
 use crate::json::told_json;
 use crate::lines::told_lines;
 use crate::places::{SourceFile, joined_text, own_line};
 use lexkit::{Options, Sink};
+use lexlook_text::{KnownNames, names_of};
 use lexspec_lines::without_returns;
 use std::alloc::{AllocError, Global};
 
@@ -31,19 +34,21 @@ struct Telling {
     checked: Checked,
 }
 
-/// What was found of a text, in this form.
+/// What was found of a text, which has these names, in this form.
 fn told_bytes(
     alloc: Global,
     form: Form,
     files: &[SourceFile<'_>],
     whole: &[u8],
+    names: &KnownNames,
     findings: &[Finding],
 ) -> Result<Vec<u8>, AllocError>
+    requires { AreNamesOf (known_lines whole.now) names.now }
     ensures { IfOk result (λ bytes. bytes.items ≡ told_bytes form files.now whole.now findings.now) }
 {
     match form {
-        Form::Lines => told_lines(alloc, files, whole, findings),
-        Form::Json => told_json(alloc, files, whole, findings),
+        Form::Lines => told_lines(alloc, files, whole, names, findings),
+        Form::Json => told_json(alloc, files, whole, names, findings),
     }
 }
 
@@ -61,9 +66,18 @@ fn telling_of(
     let text = joined_text(alloc, files)?;
     let own = own_line(files, text.as_slice());
     let checked = check(alloc, own, text.as_slice(), options)?;
-    let findings = findings_in_order(alloc, &checked)?;
     let whole = without_returns(alloc, text.as_slice())?;
-    let bytes = told_bytes(alloc, form, files, whole.as_slice(), findings.as_slice())?;
+    let lines = known_lines(alloc, whole.as_slice())?;
+    let names = names_of(alloc, lines.as_slice())?;
+    let findings = findings_in_order(alloc, &names, lines.as_slice(), &checked)?;
+    let bytes = told_bytes(
+        alloc,
+        form,
+        files,
+        whole.as_slice(),
+        &names,
+        findings.as_slice(),
+    )?;
     Ok(Telling { bytes, checked })
 }
 

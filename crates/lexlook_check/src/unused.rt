@@ -1,10 +1,10 @@
 //! Definitions that no pattern uses.
 ghost use Rattle.std.specs.Prelude.{◌≡◌, ◌++◌, OnOk, flat_map, map};
-ghost use Rattle.lexlook_check.specs.LineViews.{line_of};
+ghost use Rattle.lexlook_text.specs.LineViews.{line_of};
 ghost use Rattle.lexlook_check.specs.Unused.{stands_in, unused_notices};
 
-use crate::definitions::Line;
 use crate::notices::{Notice, NoticeKind};
+use lexlook_text::Line;
 use lexre_bytes::split_name;
 use std::alloc::AllocError;
 

@@ -1,5 +1,5 @@
 use Rattle.std.proofs.Common.{◌≡◌, ◌++◌, flat_map, map, take}
-use Rattle.lexlook_check.specs.LineViews.{line_of}
+use Rattle.lexlook_text.specs.LineViews.{line_of}
 use Rattle.lexlook_check.specs.Notices.{definition_notices}
 use Rattle.lexlook_check.proofs.notices.add_all_definition_notices.Given as goal
 

@@ -1,6 +1,6 @@
 use Rattle.std.proofs.Common.{◌≡◌, ◌++◌, flat_map, map, take}
 use Rattle.lexlook_check.specs.Notices.{piece_notices}
-use Rattle.lexlook_check.specs.PieceViews.{piece_of}
+use Rattle.lexlook_text.specs.PieceViews.{piece_of}
 use Rattle.lexlook_check.proofs.notices.add_pattern_notices.Given as goal
 
 abbrev pub invariant-loop-piece : goal.invariant-loop-piece

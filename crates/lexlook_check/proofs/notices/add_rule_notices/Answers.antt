@@ -1,10 +1,10 @@
 use Rattle.std.proofs.Common.{◌∙◌, ◌++◌, ℕ, ◌-◌, ◌<◌, ◌≤◌, List, Some, length, get_or, ap, sym, arith, append-nil}
 use Rattle.std.proofs.lemmas.Result.{on_ok_weaker}
-use Rattle.lexlook_check.specs.LineViews.{line_of}
+use Rattle.lexlook_text.specs.LineViews.{line_of}
 use Rattle.lexlook_check.specs.Notices.{line_notices}
-use Rattle.lexlook_check.specs.declared.definitions.Line.{Line}
+use Rattle.lexlook_text.specs.declared.definitions.Line.{Line}
 use Rattle.lexlook_check.specs.declared.notices.Notice.{Notice}
-use Rattle.lexlook_check.proofs.PieceLaws.{no_line, line_there}
+use Rattle.lexlook_text.proofs.PieceLaws.{no_line, line_there}
 use Rattle.lexlook_check.proofs.notices.add_rule_notices.Goals as goal
 
 pub returns-in-None : goal.returns-in-None

@@ -1,6 +1,6 @@
 use Rattle.std.proofs.Common.{sym}
 use Rattle.std.proofs.lemmas.Str.{is_utf8-from_IsUtf8}
-use Rattle.lexlook_check.proofs.PieceLaws.{no_utf8}
+use Rattle.lexlook_text.proofs.PieceLaws.{no_utf8}
 use Rattle.lexlook_check.proofs.notices.is_utf8.Goals as goal
 
 pub returns-in-Ok : goal.returns-in-Ok

@@ -1,10 +1,10 @@
 use Rattle.std.proofs.Common.{◌≡◌, ◌∙◌, ℕ, List, true, ◌++◌, ap, flat_map, map, sym, take}
 use Rattle.std.proofs.lemmas.List.{take-map}
-use Rattle.lexlook_check.specs.DefinitionLines.{definition_lines, definitions_from, lines_from}
-use Rattle.lexlook_check.specs.LineViews.{line_of}
+use Rattle.lexlook_text.specs.DefinitionLines.{definition_lines, lines_from, section_lines}
+use Rattle.lexlook_text.specs.LineViews.{line_of}
 use Rattle.lexlook_check.specs.Notices.{definition_notices, max_notices, rule_notices}
 use Rattle.lexlook_check.specs.Unused.{max_looked_for, unused_notices}
-use Rattle.lexlook_check.specs.declared.definitions.Within.TheVariants.{Nothing}
+use Rattle.lexlook_text.specs.declared.definitions.LineKind.TheVariants.{Definition}
 use Rattle.lexlook_check.specs.declared.notices.Notice.{Notice}
 use Rattle.lexlook_check.proofs.notices.notices_of.Goals as goal
 
@@ -14,7 +14,7 @@ returns c =
     let rules : List ℕ = c.args.rules.now in
     let lines : map line_of c.as_slice.result.now ≡ lines_from 1 true text = ap (map line_of) c.as_slice.ensures.value ∙ c.in_ok-lines.ensures in
     let again : map line_of c.as_slice-3.result.now ≡ lines_from 1 true text = ap (map line_of) c.as_slice-3.ensures.value ∙ c.in_ok-lines.ensures in
-    let defined : map line_of c.in_ok-definitions.definitions.items ≡ definition_lines text = c.in_ok-definitions.ensures ∙ ap (definitions_from Nothing) lines in
+    let defined : map line_of c.in_ok-definitions.definitions.items ≡ definition_lines text = c.in_ok-definitions.ensures ∙ ap (section_lines Definition) lines in
     let all : map line_of c.as_slice-2.result.now ≡ definition_lines text = ap (map line_of) c.as_slice-2.ensures.value ∙ defined in
     let few : map line_of c.as_slice-4.result.now ≡ take max_looked_for (definition_lines text) =
     ap (map line_of) (c.as_slice-4.ensures.value ∙ c.truncate.ensures.items) ∙ sym (take-map line_of max_looked_for c.in_ok-definitions.definitions.items)

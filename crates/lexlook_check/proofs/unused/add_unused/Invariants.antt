@@ -1,5 +1,5 @@
 use Rattle.std.proofs.Common.{◌≡◌, ◌++◌, flat_map, map, take}
-use Rattle.lexlook_check.specs.LineViews.{line_of}
+use Rattle.lexlook_text.specs.LineViews.{line_of}
 use Rattle.lexlook_check.specs.Unused.{unused_notices}
 use Rattle.lexlook_check.proofs.unused.add_unused.Given as goal
 

@@ -1,0 +1,10 @@
+pub mod DefinitionLines
+pub mod LineViews
+pub mod Pieces
+pub mod PieceViews
+pub mod Names
+pub mod Known
+pub mod Scan
+pub mod WordViews
+pub mod Spots
+pub mod PieceExamples
