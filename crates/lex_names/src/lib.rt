@@ -1,5 +1,5 @@
 //! The names of rules, by which a parser knows the kinds of its tokens. It is for lexlook_calls, which writes them as constants of a
-//! program.
+//! program, and for liblex_calls, which tells them to programs.
 //!
 //! - `naming`: the name of a rule, by what it does (`rule_name`).
 //! - `laws`: worked examples of names.
