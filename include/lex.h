@@ -204,6 +204,17 @@ int32_t lex_scan_loaded(struct lex_tables *tables, const uint8_t *input, size_t 
 int32_t lex_tokens_loaded(struct lex_tables *tables, const uint8_t *input, size_t input_len, struct lex_token *tokens,
                           size_t tokens_len, size_t *count, uint8_t *status);
 
+/* Tells the name of a rule of a table that is loaded, by the number that its tokens have. The name is the first line of the first text that
+   the rule writes by puts, printf or fputs, without the newline, where that is a name as in C: letters, digits and _, and no digit first.
+   So the rule of an action puts("NUMBER"); has the name NUMBER. Rules of one name are one kind of token. *count is how long it is.
+
+   LEX_OK: out[0] to out[*count - 1] are the name. *count is 0 where the rule has none, and for a number that no rule has, as
+   LEX_DEFAULT_RULE.
+   LEX_TOO_SMALL: `out` has the first out_len bytes of it. Call again with *count bytes of room.
+   LEX_OUT_OF_MEMORY: *count is 0, and `out` is as it was.
+   LEX_CLOSED: the same, since `tables` is not loaded. */
+int32_t lex_rule_name(struct lex_tables *tables, uint32_t rule, uint8_t *out, size_t out_len, size_t *count);
+
 /* A scan by pieces. Begin with LEX_SCAN_INIT, and leave its fields to the calls. What holds for it:
 
    - It is written by these five calls alone, one at a time. They may be made by one thread and then by another.

@@ -158,6 +158,19 @@ calc_answers() {
     cmp -s "$out/written" "$calc/calc.output" || { echo "liblex.sh: $1 does not answer each line at once"; exit 1; }
 }
 
+# The headers of the examples' rules, where lexlook is built: compilers take them.
+lexlook=$top/crates/lexlook/out/lexlook
+if [ -x "$lexlook" ]; then
+    printf '#include "rules.h"\nint main(void) { return lex_first_rule[RULES] != RULES; }\n' > "$out/rules.c"
+    for text in "$top"/examples/*.l "$calc/calc.l"; do
+        "$lexlook" header "$text" > "$out/rules.h"
+        "$compiler" -std=c99 -Wall -Wextra -Werror -pedantic "$out/rules.c" -o "$out/rules" && "$out/rules" || { echo "liblex.sh: the header of $text failed"; exit 1; }
+        "$lexlook" header --rust "$text" > "$out/rules.rs"
+        ! command -v rustc > /dev/null || rustc --crate-type=lib --emit=metadata -A non_upper_case_globals -D warnings -o "$out/rules.rmeta" "$out/rules.rs"
+    done
+    echo "liblex.sh: the headers of rules compile"
+fi
+
 if command -v bison > /dev/null; then
     bison -Wall -Werror -o "$out/calc.c" "$calc/calc.y"
     "$compiler" -Wall -Wextra -Werror -g -I"$top/include" "$out/calc.c" "$out/liblex.a" -o "$out/calc"

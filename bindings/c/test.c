@@ -439,6 +439,37 @@ static int loaded(struct bytes table, struct bytes input, struct bytes wanted, i
     return 0;
 }
 
+/* The names of rules, with no room at first: of a rule that tells one, of one that tells none, and of none; and by no table. */
+static int names(void)
+{
+    static const char text[] = "%%\na puts(\"TOKEN\");\nb ECHO;\n";
+    struct lex_tables tables = LEX_TABLES_INIT;
+    struct bytes table;
+    uint8_t out[8];
+    size_t count = 9, none, other;
+    int answer = make((struct bytes){(uint8_t *)text, strlen(text)}, &table);
+    if (answer != LEX_OK)
+        return fail("table of names", answer);
+    if (lex_rule_name(&tables, 0, out, sizeof out, &count) != LEX_CLOSED || count != 0)
+        return fail("a name by no table", (int)count);
+    answer = lex_load(&tables, table.at, table.len);
+    if (answer != LEX_OK)
+        return fail("load for names", answer);
+    answer = lex_rule_name(&tables, 0, out, 2, &count);
+    if (answer != LEX_TOO_SMALL || count != 5 || memcmp(out, "TO", 2) != 0)
+        return fail("a name that has no room", answer);
+    answer = lex_rule_name(&tables, 0, out, sizeof out, &count);
+    if (answer != LEX_OK || count != 5 || memcmp(out, "TOKEN", 5) != 0)
+        return fail("a name", answer);
+    if (lex_rule_name(&tables, 1, out, sizeof out, &none) != LEX_OK || none != 0)
+        return fail("no name", (int)none);
+    if (lex_rule_name(&tables, LEX_DEFAULT_RULE, out, sizeof out, &other) != LEX_OK || other != 0)
+        return fail("the default rule's name", (int)other);
+    lex_unload(&tables);
+    free(table.at);
+    return 0;
+}
+
 int main(int argc, char **argv)
 {
     struct bytes text, input, wanted, table = {NULL, 0};
@@ -457,7 +488,8 @@ int main(int argc, char **argv)
     if (answer != LEX_OK)
         return fail(argv[1], answer);
     answer = scan(table, input, wanted, status) || scan_all_pieces(table, input, wanted, status) ||
-             loaded(table, input, wanted, status) || pull(table, input, status) || refusals() || tokens() || handles() || streams();
+             loaded(table, input, wanted, status) || pull(table, input, status) || refusals() || tokens() || names() || handles() ||
+             streams();
     free(text.at);
     free(input.at);
     free(wanted.at);

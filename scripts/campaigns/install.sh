@@ -332,7 +332,7 @@ completed() {
 by_bash() {
     alone --prefix "$PWD/new"
     cmp "$top/share/completions/lexlook.bash" new/share/bash-completion/completions/lexlook
-    [[ $(completed lexlook '') == "picture same lines words trace utf8 check"* ]]
+    [[ $(completed lexlook '') == "picture same lines words trace utf8 check header"* ]]
     [[ $(completed lexlook tr) == trace ]]
     [[ $(completed lexlook same -) == "-i -X" ]]
     [[ $(completed lex -) == *"-o --scan-spec --scan-table"* ]]
@@ -348,7 +348,7 @@ fish_completed() {
 
 by_fish() {
     alone --prefix "$PWD/new"
-    [[ $(fish_completed lexlook 'lexlook ') == "check lines picture same trace utf8 words" ]]
+    [[ $(fish_completed lexlook 'lexlook ') == "check header lines picture same trace utf8 words" ]]
     [[ $(fish_completed lexlook 'lexlook same -') == "-X -i" ]]
     [[ $(fish_completed lex 'lex --') == "--scan-spec --scan-table" ]]
     [[ $(fish_completed lex 'lex --scan-spec a.l -') == "-X -i -w" ]]

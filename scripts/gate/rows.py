@@ -205,9 +205,11 @@ def faulty_rows(spec, line, expected):
 def examples_of_lexlook(text):
     """The text of manual_looks.txt: what lexlook writes in the chapters on it."""
     small = after(text, "Say that `small.l` is this specification:")
-    pictures, comparing, cutting, taken, traced, every = (
+    pictures, comparing, cutting, taken, traced, every, named = (
         chapter(text, title)
-        for title in ("Pictures", "Comparing", "Cutting at newlines", "Texts that rules take", "Lines of matches", "Every fault")
+        for title in (
+            "Pictures", "Comparing", "Cutting at newlines", "Texts that rules take", "Lines of matches", "Every fault", "Names of rules"
+        )
     )
     words = after(comparing, "Say that `words.l` is this:")
     compared = after(comparing, "Then `lexlook same small.l words.l`")
@@ -227,6 +229,7 @@ def examples_of_lexlook(text):
             ("written", after(every, "Then `lexlook check draft.l`")),
             ("told", "status 1\n"),
         ),
+        row("header", ("spec", after(named, "Of this one")), ("written", "\n".join(indented(named[named.index("it writes\n") :])))),
         *(faulty for spec, line in manual(text)[2] for faulty in faulty_rows(spec, line, hints())),
     )
 

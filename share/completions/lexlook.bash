@@ -3,9 +3,12 @@
 _lexlook() {
     COMPREPLY=()
     if ((COMP_CWORD == 1)); then
-        mapfile -t COMPREPLY < <(compgen -W 'picture same lines words trace utf8 check --help --version' -- "$2")
+        mapfile -t COMPREPLY < <(compgen -W 'picture same lines words trace utf8 check header --help --version' -- "$2")
     elif [[ $2 == -* && ${COMP_WORDS[1]} != utf8 ]]; then
-        mapfile -t COMPREPLY < <(compgen -W '-i -X' -- "$2")
+        local flags='-i -X'
+        [[ ${COMP_WORDS[1]} == check ]] && flags+=' --json'
+        [[ ${COMP_WORDS[1]} == header ]] && flags+=' --rust'
+        mapfile -t COMPREPLY < <(compgen -W "$flags" -- "$2")
     fi
 }
 

@@ -126,6 +126,8 @@ mod ffi {
             status: *mut u8,
         ) -> i32;
 
+        pub fn lex_rule_name(tables: *mut Tables, rule: u32, out: *mut u8, out_len: usize, count: *mut usize) -> i32;
+
         pub fn lex_open_loaded(scan: *mut Scan, tables: *mut Tables) -> i32;
 
         pub fn lex_open(scan: *mut Scan, file: *const u8, file_len: usize) -> i32;
@@ -545,6 +547,20 @@ impl Tables {
         // Safety: the stream and the share do not overlap, and live through the call. The stream is closed.
         match unsafe { ffi::lex_open_stream_loaded(&mut stream.inner, &mut share.inner, flags) } {
             OK => Ok(stream),
+            _ => Err(LexError::OutOfMemory),
+        }
+    }
+
+    /// The name of a rule: the first line of the first text that it writes by puts, printf or fputs, where that is a name as in C. Rules
+    /// of one name are one kind of token.
+    pub fn rule_name(&self, rule: u32) -> Result<Option<String>, LexError> {
+        let mut share = self.share()?;
+        let handed = with_buffer(64, |out, count| {
+            // Safety: the slices, the share and the count do not overlap, and live through the call.
+            unsafe { ffi::lex_rule_name(&mut share.inner, rule, out.as_mut_ptr(), out.len(), count) }
+        });
+        match handed.answer {
+            OK | TOO_SMALL => Ok(String::from_utf8(handed.items).ok().filter(|name| !name.is_empty())),
             _ => Err(LexError::OutOfMemory),
         }
     }

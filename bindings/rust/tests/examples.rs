@@ -93,6 +93,14 @@ fn one_loaded_table_serves_many_threads() {
     assert!(matches!(Tables::load(b"nothing"), Err(LexError::Table)));
 }
 
+#[test]
+fn rules_have_the_names_that_they_put() {
+    let table = generate(b"%%\na puts(\"TOKEN\");\nb ECHO;\n", Options::default()).unwrap();
+    let tables = Tables::load(&table).unwrap();
+    assert_eq!(tables.rule_name(0), Ok(Some("TOKEN".to_string())));
+    assert_eq!((tables.rule_name(1), tables.rule_name(2)), (Ok(None), Ok(None)));
+}
+
 /// A source that gives a few bytes at a time, and fails once between them.
 struct Slow<'a> {
     rest: &'a [u8],

@@ -9,7 +9,7 @@ use Rattle.lex_command.specs.Flags.{has_flag, is_separator, pattern_rules, patte
 use Rattle.lex_command.specs.declared.look.args.About.{About}
 use Rattle.lex_command.specs.declared.look.args.About.TheVariants.{Help, UnicodeVersion, Version}
 use Rattle.lex_command.specs.declared.look.args.Look.{Look}
-use Rattle.lex_command.specs.declared.look.args.Look.TheVariants.{About as OfItself, Check, Letters, One, Same}
+use Rattle.lex_command.specs.declared.look.args.Look.TheVariants.{About as OfItself, Check, Header, Letters, One, Same}
 use Rattle.lex_command.specs.declared.look.args.Subcommand.{Subcommand}
 use Rattle.lex_command.specs.declared.look.args.Subcommand.TheVariants.{Picture, Lines, Words, Trace}
 
@@ -41,13 +41,17 @@ sets_app = with_rule (without_help (new_app (codes "utf8"))) (words_rule (codes 
 abbrev pub needed_words_rule : Text → Rule
 needed_words_rule name = record (words_rule name) { required = true }
 
--- `--json`, which may be repeated
-abbrev pub json_rule : Rule
-json_rule = record (new_rule (codes "json")) { long = Some (codes "json"); action = Some Count }
+-- a flag that is a word, as `--json`, which may be repeated
+abbrev pub long_rule : Text → Rule
+long_rule word = record (new_rule word) { long = Some word; action = Some Count }
 
 -- how the faults are told, and the files of `check`
 abbrev pub check_words : List Rule
-check_words = json_rule ∷ needed_words_rule (codes "file") ∷ []
+check_words = long_rule (codes "json") ∷ needed_words_rule (codes "file") ∷ []
+
+-- for which language the constants are, and the file of `header`
+abbrev pub header_words : List Rule
+header_words = long_rule (codes "rust") ∷ one_file
 
 -- the words begin after the program's name, and name a subcommand; clap knows no help
 abbrev pub no_subcommand : App
@@ -66,6 +70,7 @@ lexlook_app = fold with_subcommand no_subcommand (
     ∷ (file_app (codes "trace") one_file).top
     ∷ sets_app.top
     ∷ (file_app (codes "check") check_words).top
+    ∷ (file_app (codes "header") header_words).top
     ∷ [])
 
 -- ---- what is asked for
@@ -109,6 +114,10 @@ IsLookOf (Some p) (Letters sets) =
 IsLookOf (Some p) (Check files json patterns) = (p.0 ≡ codes "check")
     × (map string_bytes files.items ≡ files_of p.1)
     × (json ≡ has_flag (codes "json") p.1)
+    × (patterns ≡ patterns_of p.1)
+IsLookOf (Some p) (Header file rust patterns) = (p.0 ≡ codes "header")
+    × (Some (string_bytes file) ≡ first_of (codes "file") p.1)
+    × (rust ≡ has_flag (codes "rust") p.1)
     × (patterns ≡ patterns_of p.1)
 IsLookOf p look = ⊥
 

@@ -23,7 +23,7 @@ use lexkit::{
     ByteReader, ByteWriter, Failure, FromBytes, MAX_POSITIONS, MAX_STATES, Options, Sink, ToBytes,
     ToWrite, command_words, read_spec_file, report_failure,
 };
-use lexlook_calls::{Given, draw, tell_lines, tell_same, tell_words, trace};
+use lexlook_calls::{Given, Language, draw, tell_header, tell_lines, tell_same, tell_words, trace};
 use lexlook_check::{Form, tell_check};
 use lexlook_unicode::{DefinitionError, UNICODE, definition_of};
 use std::alloc::AllocError;
@@ -173,6 +173,21 @@ fn show_check(
     Ok(status_of(well))
 }
 
+/// Writes the rules of a specification to standard output as constants of a program.
+fn show_header(
+    rt: &HostRuntime,
+    file: String,
+    rust: bool,
+    options: Options,
+) -> Result<ExitCode, Failure> {
+    let text = read_spec_file(rt, file)?;
+    let mut sink = ToBytes::new(ByteWriter::new(rt.alloc(), io::writer(rt))?);
+    let language = if rust { Language::Rust } else { Language::C };
+    tell_header(rt.alloc(), text.as_slice(), options, language, &mut sink)?;
+    sink.flush()?;
+    Ok(ExitCode::SUCCESS)
+}
+
 /// The status of an answer: 0 for yes, 1 for no.
 fn status_of(yes: bool) -> ExitCode {
     if yes {
@@ -220,6 +235,11 @@ fn run(rt: &HostRuntime) -> Result<ExitCode, Failure> {
             json,
             patterns,
         } => show_check(rt, files.as_slice(), json, options_of(patterns)),
+        Look::Header {
+            file,
+            rust,
+            patterns,
+        } => show_header(rt, file, rust, options_of(patterns)),
     }
 }
 

@@ -7,3 +7,4 @@ pub mod Matching
 pub mod Alike
 pub mod Shown
 pub mod Traced
+pub mod Called

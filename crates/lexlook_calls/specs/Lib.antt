@@ -8,3 +8,5 @@ pub mod Cuts
 pub mod SameFiles
 pub mod Words
 pub mod Tracing
+pub mod Headers
+pub mod HeaderExamples

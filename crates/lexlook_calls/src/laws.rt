@@ -1,4 +1,5 @@
-//! The laws of pictures, and of files that do the same.
+//! The laws of pictures, and of files that do the same, and worked examples of headers.
+ghost use Rattle.lexlook_calls.specs.HeaderExamples.{HeaderExamples};
 ghost use Rattle.lexlook_calls.specs.Looks.{OnePicture};
 ghost use Rattle.lexlook_calls.specs.SameFiles.{EqualAreSame, SameScanAlike};
 
@@ -23,3 +24,8 @@ pub fn equal_are_same()
 {
     one_table();
 }
+
+/// Worked examples of headers: a keyword as a name, a rule without one, and two rules of one name.
+pub fn examples_of_headers()
+    ensures { HeaderExamples }
+{}

@@ -1,9 +1,10 @@
-//! What a program in C calls by a table that it loaded once: two scans side by side, tokens, and handles that hold none.
+//! What a program in C calls by a table that it loaded once: two scans side by side, tokens, the names of rules, and handles that
+//! hold none.
 use crate::building::made;
 use crate::for_c::NO_TOKEN;
 use liblex_calls::{
     Answer, LoadedTables, Scan, close_scan, feed_into, finish_into, load_tables, open_loaded,
-    scan_loaded, share_tables, tokens_loaded, unload_tables,
+    rule_name_into, scan_loaded, share_tables, tokens_loaded, unload_tables,
 };
 use std::alloc::Global;
 use std::test::Fail;
@@ -90,5 +91,59 @@ fn a_handle_that_holds_none_is_closed(rt: HostRuntime) -> Result<(), Fail> {
     other.unload(rt.alloc());
     assert!(rt; loaded == Answer::Refused && shared == Answer::Closed && opened == Answer::Closed);
     assert!(rt; whole == (Answer::Closed, 0) && listed == (Answer::Closed, 0));
+    Ok(())
+}
+
+const NAMED: &[u8] =
+    b"%%\na ECHO; puts(\"TOKEN\"); puts(\"OTHER\");\nb ECHO;\nc |\nd printf(\"int\");\ne puts(\"a-b\");\n";
+
+/// Its rules, the name of each, and numbers that no rule has.
+const NAMES: &[(u32, &[u8])] = &[
+    (0, b"TOKEN"),
+    (1, b""),
+    (2, b"int"),
+    (3, b"int"),
+    (4, b""),
+    (5, b""),
+    (u32::MAX, b""),
+];
+
+/// What is answered of the name of a rule where there is room for so many bytes, how long it is, and its front.
+fn name(
+    alloc: Global,
+    tables: &mut LoadedTables,
+    rule: u32,
+    room: usize,
+) -> (Answer, usize, [u8; 8]) {
+    let mut out = [0u8; 8];
+    let mut count = 9;
+    let front = out.get_mut(..room).unwrap_or_default();
+    let answer = rule_name_into(alloc, tables, rule, front, &mut count);
+    (answer, count, out)
+}
+
+/// Whether each rule has its name.
+fn are_named(alloc: Global, tables: &mut LoadedTables) -> bool {
+    for &(rule, wanted) in NAMES {
+        let (answer, count, out) = name(alloc, tables, rule, 8);
+        if answer != Answer::Done || out.get(..count) != Some(wanted) {
+            return false;
+        }
+    }
+    true
+}
+
+#[test]
+fn rules_have_the_names_that_they_put(rt: HostRuntime) -> Result<(), Fail> {
+    let file = made(rt.alloc(), NAMED)?;
+    let mut tables = LoadedTables::unloaded();
+    let closed = name(rt.alloc(), &mut tables, 0, 8);
+    let loaded = load_tables(rt.alloc(), &mut tables, file.written());
+    let named = are_named(rt.alloc(), &mut tables);
+    let short = name(rt.alloc(), &mut tables, 0, 2);
+    tables.unload(rt.alloc());
+    assert!(rt; loaded == Answer::Done && named);
+    assert!(rt; closed == (Answer::Closed, 0, [0u8; 8]));
+    assert!(rt; short == (Answer::TooSmall, 5, *b"TO\0\0\0\0\0\0"));
     Ok(())
 }

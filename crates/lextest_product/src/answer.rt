@@ -75,6 +75,7 @@ pub(crate) fn answered(alloc: Global, row: &Row<'_>) -> Result<Answer, AllocErro
         Kind::End => actions::end(alloc, row),
         Kind::Equal => tables::equal(alloc, row),
         Kind::File => tables::file(alloc, row),
+        Kind::Header => looks::header(alloc, row),
         Kind::Lengths => patterns::lengths(alloc, row),
         Kind::Letters => arguments::letters(alloc, row),
         Kind::Limit => scans::limit(alloc, row),

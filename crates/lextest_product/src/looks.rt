@@ -4,7 +4,10 @@ use crate::escapes::escaped;
 use crate::row::Row;
 use crate::scans::{answer_of, options_of, refused};
 use lexkit::{MemorySink, MemorySource, Tables, generate};
-use lexlook_calls::{Given, LookError, draw, tell_lines, tell_same, tell_words, trace as trace_of};
+use lexlook_calls::{
+    Given, Language, LookError, draw, tell_header, tell_lines, tell_same, tell_words,
+    trace as trace_of,
+};
 use lexlook_check::{Form, SourceFile, tell_check};
 use lexlook_tables::{Comparison, Difference, compare as compared, find_obstacle_in};
 use std::alloc::{AllocError, Global};
@@ -84,6 +87,19 @@ pub(crate) fn lines(alloc: Global, row: &Row<'_>) -> Result<Answer, AllocError> 
 pub(crate) fn words(alloc: Global, row: &Row<'_>) -> Result<Answer, AllocError> {
     let mut sink = MemorySink::new(alloc);
     let answer = tell_words(alloc, row.value("spec"), options_of(row), &mut sink);
+    shown(alloc, answer, sink)
+}
+
+/// Writes the rules of a specification as constants.
+pub(crate) fn header(alloc: Global, row: &Row<'_>) -> Result<Answer, AllocError> {
+    let language = if row.has_flag("--rust") {
+        Language::Rust
+    } else {
+        Language::C
+    };
+    let mut sink = MemorySink::new(alloc);
+    let text = row.value("spec");
+    let answer = tell_header(alloc, text, options_of(row), language, &mut sink);
     shown(alloc, answer, sink)
 }
 

@@ -1,7 +1,7 @@
 //! The scanner generator for C: a static library, whose header is include/lex.h.
 //!
 //! Each function has a name of C (`lex_..`) and makes one call of liblex_calls: table files (`lex_generate`), scans of whole
-//! inputs (`lex_scan_table`), tokens and the lines of rules, loaded tables, and scans by pieces and streams of tokens, from
+//! inputs (`lex_scan_table`), tokens, the lines and the names of rules, loaded tables, and scans by pieces and streams of tokens, from
 //! opening to closing.
 //!
 //! It promises what liblex_calls does, and its contracts repeat those. A slice is passed as a pointer and a length: that
@@ -22,6 +22,7 @@ ghost use Rattle.liblex_calls.specs.Numbers.{number_of};
 ghost use Rattle.liblex_calls.specs.Generating.{Generates};
 ghost use Rattle.liblex_calls.specs.Scanning.{ScansInto};
 ghost use Rattle.liblex_calls.specs.Listing.{ListsInto, TellsLines};
+ghost use Rattle.liblex_calls.specs.NamedRules.{NamesRule};
 ghost use Rattle.liblex_calls.specs.Flags.{options_of, counts_lines};
 ghost use Rattle.liblex_calls.specs.Progress.{fed_with};
 ghost use Rattle.liblex_calls.specs.Pieces.{Scanning, OpensScan, FeedsInto, FinishesInto, StaysOpen, StaysClosed};
@@ -32,8 +33,8 @@ use liblex_calls::{
     LoadedTables, NextToken, Scan, TextFault, TextToken, TokenStream, close_scan, close_stream,
     counts_lines, end_stream, feed_into, feed_stream, finish_into, generate_into, load_tables,
     next_token, open_loaded, open_scan, open_stream, open_stream_loaded, options_of,
-    rule_lines_into, scan_into, scan_loaded, share_tables, text_into, tokens_into, tokens_loaded,
-    unload_tables,
+    rule_lines_into, rule_name_into, scan_into, scan_loaded, share_tables, text_into, tokens_into,
+    tokens_loaded, unload_tables,
 };
 use std::alloc::Global;
 
@@ -180,6 +181,24 @@ pub extern "C" fn lex_tokens_loaded(
         × (status.new ≡ 0)) }
 {
     tokens_loaded(alloc, tables, input, buffer, count, status).number()
+}
+
+/// Tells the name of a rule of a table that is loaded.
+#[unsafe(no_mangle)]
+pub extern "C" fn lex_rule_name(
+    alloc: Global,
+    tables: &mut LoadedTables,
+    rule: u32,
+    buffer: &mut [u8],
+    count: &mut usize,
+) -> i32
+    ensures { (answer : Answer) × (result ≡ number_of answer)
+        × ((file : List ℕ) → HoldsTable file tables.old
+        → NamesRule file rule buffer.old buffer.new count.new answer)
+        × (loaded_in tables.new ≡ loaded_in tables.old)
+        × (loaded_in tables.old ≡ None → (answer ≡ answers.Closed) × NothingOut buffer.old buffer.new count.new) }
+{
+    rule_name_into(alloc, tables, rule, buffer, count).number()
 }
 
 /// Begins a scan by pieces by a table that is loaded.

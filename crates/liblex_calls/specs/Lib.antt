@@ -19,3 +19,4 @@ pub mod Loading
 pub mod Told
 pub mod Streams
 pub mod Pieces
+pub mod NamedRules

@@ -8,7 +8,7 @@
 //! - `machines`: the machine of a table file, laid flat.
 //! - `rules`: the same, read once for any number of scans.
 //! - `scanning`: scans of whole inputs.
-//! - `listing`: the tokens of an input, and the lines of rules.
+//! - `listing`: the tokens of an input, and the lines of rules. `naming`: the names of rules.
 //! - `stage`, `backlog` and `piece_scan`: a scan by pieces, how far it has come, and what was not handed out yet.
 //! - `tables`: the struct that C holds of a loaded table, with `rules_holder`, the owning pointer in it. `loading` has its calls.
 //! - `handle`: the struct that C holds of a scan by pieces. `holder` and `loose` are the owning pointer in it, and
@@ -40,6 +40,7 @@
 //! - **Answers are the exit statuses of the program lex**, so that a number has one meaning in a log. The default rule has the
 //!   greatest number of 32 bits: no specification has so many rules. It cannot be 0, which is a rule's number.
 //! - **Lines of rules are a call of their own, by the text.** A table file keeps none: the same rules have the same file.
+//! - **Names of rules are told by a loaded table**, one by one: a table has what rules do, and so their names.
 #![tactic(auto)]
 
 mod answer;
@@ -57,6 +58,7 @@ mod loading;
 mod loose;
 mod machines;
 mod memory;
+mod naming;
 mod piece_scan;
 mod rules;
 mod rules_holder;
@@ -76,6 +78,7 @@ pub use handle::Scan;
 pub use lines::examples_of_lines;
 pub use listing::{TextToken, rule_lines_into, tokens_into, tokens_loaded};
 pub use loading::{load_tables, share_tables, unload_tables};
+pub use naming::rule_name_into;
 pub use scanning::{scan_into, scan_loaded};
 pub use stream::TokenStream;
 pub use streaming::{

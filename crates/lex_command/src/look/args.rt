@@ -4,7 +4,8 @@ ghost use Rattle.std.specs.Prelude.{string_bytes};
 ghost use Rattle.clap.specs.Words.{app_of, found_of, rows_of, rule_of, subcommand_rows_of, with_rule, with_subcommand};
 ghost use Rattle.lex_command.specs.LookLine.{AsksToShow, IsLookOf, about_of, file_app, first_about, lexlook_app, name_of};
 ghost use Rattle.lex_command.specs.CommandLine.{words_rule};
-ghost use Rattle.lex_command.specs.LookLine.{check_words, json_rule, needed_rule, needed_words_rule, sets_app, told_version};
+ghost use Rattle.lex_command.specs.LookLine.{check_words, header_words, long_rule, needed_rule, needed_words_rule, sets_app};
+ghost use Rattle.lex_command.specs.LookLine.{told_version};
 
 use crate::error::ArgsError;
 use crate::flags::{PatternFlags, copied, has, patterns_of, value_of, values_of, with_flags};
@@ -67,12 +68,20 @@ pub enum Look {
         /// How patterns are read.
         patterns: PatternFlags,
     },
+    /// The rules of this specification as constants of a program.
+    Header {
+        file: String,
+        /// Whether the program is in Rust, and not in C.
+        rust: bool,
+        /// How patterns are read.
+        patterns: PatternFlags,
+    },
 }
 
-/// Reads the words after the program's name: `picture FILE`, `same FILE FILE`, `lines FILE`, `words FILE`, `trace FILE`
-/// or `check FILE..`, with `-i` or `-X` or without, and `check` with `--json` too, `utf8 SET..`, or any words with
-/// `--help`, `-h` or `--version`. Behind `utf8` the version is that of Unicode. Flags may be repeated. Words that it
-/// refuses by `Usage` ask for nothing.
+/// Reads the words after the program's name: `picture FILE`, `same FILE FILE`, `lines FILE`, `words FILE`, `trace FILE`,
+/// `check FILE..` or `header FILE`, with `-i` or `-X` or without, and `check` with `--json` too, `header` with `--rust`,
+/// `utf8 SET..`, or any words with `--help`, `-h` or `--version`. Behind `utf8` the version is that of Unicode. Flags may
+/// be repeated. Words that it refuses by `Usage` ask for nothing.
 pub fn read_args(alloc: Global, words: &[String]) -> Result<Look, ArgsError>
     ensures asked { IfOk result (AsksToShow (map string_bytes words.now)) }
     ensures refused { IfErr result (λ e. e ≡ ArgsError.Usage
@@ -230,14 +239,12 @@ fn needed_words<'a>(alloc: Global) -> Arg<'a>
         .action(ArgAction::Append)
 }
 
-/// The flag for JSON, which may be repeated.
-fn json_flag<'a>(alloc: Global) -> Arg<'a>
-    ensures rule { rule_of result ≡ json_rule }
+/// A flag that is a word, which may be repeated.
+fn long_flag<'a>(alloc: Global, word: &'a str) -> Arg<'a>
+    ensures rule { rule_of result ≡ long_rule word.entry.now }
     ensures global { result.global ≡ false }
 {
-    Arg::new(alloc, "json")
-        .long("json")
-        .action(ArgAction::Count)
+    Arg::new(alloc, word).long(word).action(ArgAction::Count)
 }
 
 /// The words of `check`: how patterns are read, whether faults are told as JSON, and its files.
@@ -247,7 +254,7 @@ fn check_command<'a>(alloc: Global) -> Result<Command<'a>, AllocError>
     let flags = &[("fold", 'i'), ("posix", 'X')];
     let command = Command::new(alloc, "check").disable_help_flag(true);
     let command = with_flags(alloc, command, flags)?;
-    let command = command.arg(json_flag(alloc))?;
+    let command = command.arg(long_flag(alloc, "json"))?;
     command.arg(needed_words(alloc))
 }
 
@@ -257,6 +264,25 @@ fn with_check<'a>(alloc: Global, top: Command<'a>) -> Result<Command<'a>, AllocE
         ≡ with_subcommand (app_of top.entry) (file_app (codes "check") check_words).top) }
 {
     top.subcommand(check_command(alloc)?)
+}
+
+/// The words of `header`: how patterns are read, whether it is for Rust, and its file.
+fn header_command<'a>(alloc: Global) -> Result<Command<'a>, AllocError>
+    ensures { IfOk result (λ c. app_of c ≡ file_app (codes "header") header_words) }
+{
+    let flags = &[("fold", 'i'), ("posix", 'X')];
+    let command = Command::new(alloc, "header").disable_help_flag(true);
+    let command = with_flags(alloc, command, flags)?;
+    let command = command.arg(long_flag(alloc, "rust"))?;
+    command.arg(needed_word(alloc, "file"))
+}
+
+/// The words with `header`.
+fn with_header<'a>(alloc: Global, top: Command<'a>) -> Result<Command<'a>, AllocError>
+    ensures { IfOk result (λ c. app_of c
+        ≡ with_subcommand (app_of top.entry) (file_app (codes "header") header_words).top) }
+{
+    top.subcommand(header_command(alloc)?)
 }
 
 const ONE: &[&str] = &["file"];
@@ -281,7 +307,8 @@ fn command<'a>(alloc: Global) -> Result<Command<'a>, AllocError>
         .subcommand_required(true);
     let top = with_looks(alloc, top, LOOKS)?;
     let top = with_letters(alloc, top)?;
-    with_check(alloc, top)
+    let top = with_check(alloc, top)?;
+    with_header(alloc, top)
 }
 
 /// What the matches ask for.
@@ -294,6 +321,7 @@ fn look_of(alloc: Global, matches: &ArgMatches<'_>) -> Result<Look, ArgsError>
         Some((name, found)) if name == "same" => same_look(alloc, found),
         Some((name, found)) if name == "utf8" => letters_look(alloc, found),
         Some((name, found)) if name == "check" => check_look(alloc, found),
+        Some((name, found)) if name == "header" => header_look(alloc, found),
         Some((name, found)) => one_look(alloc, name, found),
         None => Err(ArgsError::Usage),
     }
@@ -321,7 +349,7 @@ fn named(name: &str) -> Option<Subcommand>
 fn one_look(alloc: Global, name: &str, found: &ArgMatches<'_>) -> Result<Look, ArgsError>
     ensures asked { IfOk result (IsLookOf (Some (name.now, rows_of (found_of found.now)))) }
     ensures refused { IfErr result (λ e. e ≡ ArgsError.Usage → name.now ≢ codes "same" → name.now ≢ codes "utf8"
-        → name.now ≢ codes "check"
+        → name.now ≢ codes "check" → name.now ≢ codes "header"
         → (look : Look) → IsLookOf (Some (name.now, rows_of (found_of found.now))) look → ⊥) }
 {
     let what = match named(name) {
@@ -382,6 +410,23 @@ fn check_look(alloc: Global, found: &ArgMatches<'_>) -> Result<Look, ArgsError>
     Ok(Look::Check {
         files: files_of(alloc, found)?,
         json: has(found, "json"),
+        patterns: patterns_of(found),
+    })
+}
+
+/// The constants that the matches behind their name ask for.
+fn header_look(alloc: Global, found: &ArgMatches<'_>) -> Result<Look, ArgsError>
+    ensures asked { IfOk result (IsLookOf (Some (codes "header", rows_of (found_of found.now)))) }
+    ensures refused { IfErr result (λ e. e ≡ ArgsError.Usage
+        → (look : Look) → IsLookOf (Some (codes "header", rows_of (found_of found.now))) look → ⊥) }
+{
+    let file = match value_of(found, "file") {
+        None => return Err(ArgsError::Usage),
+        Some(file) => file,
+    };
+    Ok(Look::Header {
+        file: String::from_str(alloc, file)?,
+        rust: has(found, "rust"),
         patterns: patterns_of(found),
     })
 }

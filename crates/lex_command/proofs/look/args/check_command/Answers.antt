@@ -10,5 +10,5 @@ pub returns : goal.returns
 returns c =
     let none : app_of c.disable_help_flag-command.result ≡ without_help (new_app (codes "check")) = search rules in
     let flags = c.in_ok-command.ensures ∙ ap (λ (a : App). fold with_rule a pattern_rules) none in
-    let json = adds_rule _ _ _ _ _ c.in_ok-command-2.ensures c.json_flag.ensures.global flags c.json_flag.ensures.rule in
+    let json = adds_rule _ _ _ _ _ c.in_ok-command-2.ensures c.long_flag.ensures.global flags c.long_flag.ensures.rule in
     IfOk-weaker c.arg-2.result _ _ (λ new h. adds_rule _ _ _ _ _ h c.needed_words.ensures.global json c.needed_words.ensures.rule) c.arg-2.ensures
