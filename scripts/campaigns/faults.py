@@ -20,7 +20,8 @@ PIECES = [b"foo();", b"[z-a]", b"<NONE>", b"{", b"}", b'"', b"(", b")", b"|", b"
           b"REJECT;", b"yyless(0);", b"exit(64);", b"BEGIN(NONE);", b"<<EOF>> ;\n", b"/*", b"*/", b"\t", b"a |\n", b"%option none\n", b"%x INITIAL\n"]
 TOLD = re.compile(rb"(?:lex: line (\d+): |lex: )(\w+)(?: at (\d+))?\n")
 # What is told at the place of a word, where one has no meaning.
-OF_WORDS = (b"UnknownStatement", b"UnknownCondition", b"UnsupportedOption")
+OF_WORDS = (b"UnknownStatement", b"UnknownCondition", b"UnsupportedOption", b"BadCount", b"BadEofAction", b"BadStatus", b"LessAndMore",
+            b"NotLast", b"RejectCombination")
 ERROR = re.compile(rb"[^: ]*(?::(\d+))?(?::(\d+))?: error: (\w+)\n")
 
 
