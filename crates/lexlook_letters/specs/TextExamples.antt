@@ -23,6 +23,10 @@ one = Three e0 a0 (bytes_between 0x91 0x91)
 abbrev other : Sequence
 other = Three e0 (bytes_between 0xA1 0xA1) (bytes_between 0x80 0x80)
 
+-- it begins as the others do
+abbrev wide : Sequence
+wide = Three (bytes_between 0xE0 0xE1) (bytes_between 0xA1 0xA1) (bytes_between 0x80 0x80)
+
 pub record TextExamples : Type 0 where
   -- two branches behind E0, of which the first has two ranges last
   pub group : letters_text (several ∷ one ∷ other ∷ []) ≡ codes "[\\xe0]([\\xa0][\\x80-\\x8f\\x91]|[\\xa1][\\x80])"
@@ -37,3 +41,5 @@ pub record TextExamples : Type 0 where
   -- what does not stand next to each other has no branch together, nor have sequences of other lengths
   pub apart : letters_text (one ∷ One a0 ∷ other ∷ []) ≡ codes "[\\xe0][\\xa0][\\x91]|[\\xa0]|[\\xe0][\\xa1][\\x80]"
   pub lengths : letters_text (Two e0 a0 ∷ one ∷ []) ≡ codes "[\\xe0]([\\xa0]|[\\xa0][\\x91])"
+  -- ranges that begin alike and end otherwise are not the same
+  pub ends : letters_text (one ∷ wide ∷ []) ≡ codes "[\\xe0][\\xa0][\\x91]|[\\xe0-\\xe1][\\xa1][\\x80]"
