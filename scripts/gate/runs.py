@@ -1,11 +1,11 @@
 #!/usr/bin/env python3
-"""Runs the program lex with each of its flags, and holds each run to the manual: its status, what it writes on both outputs, and the
-files that it makes.
+"""Runs the program lex with each of its flags, and lexlook where it fails. Holds each run to the manual: its status, what it writes on
+both outputs, and the files that it makes.
 
-    scripts/gate/runs.py LEX
+    scripts/gate/runs.py LEX LEXLOOK
 
-LEX is the program, as crates/lex/out/lex. Each run that does otherwise is told, with a status of 1. The gate (.ci/run) ends with it,
-since no clause speaks of the program's files and outputs."""
+LEX and LEXLOOK are the programs, as crates/lex/out/lex. Each run that does otherwise is told, with a status of 1. The gate (.ci/run) ends
+with it, since no clause speaks of the programs' files and outputs."""
 import subprocess
 import sys
 import tempfile
@@ -71,6 +71,25 @@ def runs(table, folded, series):
         yield Run(words, status=64, told=b"lex: usage\n")
 
 
+def failures():
+    """Runs of lexlook that fail, with its line of each."""
+    missing, folder = b"lexlook: none.l: No such file or directory\n", b"lexlook: .: Is a directory\n"
+    refused, bad = b"lexlook: bad.l: line 1: BadDefinitionLine\n", b"lexlook: cut: table: Truncated\n"
+    for words in ("picture", "words", "lines", "trace", "header", "check", "same small.l"):
+        yield Run(f"{words} none.l", status=66, told=missing)
+        yield Run(f"{words} .", status=66, told=folder)
+    yield Run("check small.l small.l/x", status=66, told=b"lexlook: small.l/x: Not a directory\n")
+    yield Run(f"words {300 * 'n'}", status=66, told=b"lexlook: " + 300 * b"n" + b": File name too long\n")
+    for words in ("picture bad.l", "words bad.l", "lines bad.l", "trace bad.l", "header bad.l", "same bad.l small.l", "same small.l bad.l"):
+        yield Run(words, status=65, told=refused)
+    yield Run("words -", b"foo\n%%\n", 65, told=b"lexlook: -: line 1: BadDefinitionLine\n")
+    yield Run("same bad.l cut", status=65, told=refused)
+    yield Run("same cut bad.l", status=65, told=bad)
+    yield Run("lines cut", status=65, told=bad)
+    yield Run("picture", status=64, told=b"lexlook: usage\n")
+    yield Run("utf8 Nothing", status=64, told=b"lexlook: usage\n")
+
+
 def fault(lex, run, before):
     """What a run does otherwise, in a folder that has the files before it."""
     with tempfile.TemporaryDirectory() as folder:
@@ -91,20 +110,21 @@ def table_of(lex, *words):
 
 
 def main():
-    lex = str(Path(sys.argv[1]).resolve())
+    lex, lexlook = (str(Path(name).resolve()) for name in sys.argv[1:3])
     with tempfile.TemporaryDirectory() as folder:
         for name, text in FILES.items():
             (Path(folder) / name).write_bytes(text)
         here = lambda name: str(Path(folder) / name)
         small, folded, series = table_of(lex, here("small.l")), table_of(lex, "-i", here("small.l")), table_of(lex, "-X", here("series.l"))
     faults = 0 if len(small) == 471 else print(f"the table file of small.l has {len(small)} bytes") or 1
-    before = {**FILES, "small": small, "folded": folded, "series": series}
-    for run in runs(small, folded, series):
-        found = fault(lex, run, before)
+    before = {**FILES, "small": small, "folded": folded, "series": series, "bad.l": b"foo\n%%\n", "cut": small[:100]}
+    tried = [(lex, run) for run in runs(small, folded, series)] + [(lexlook, run) for run in failures()]
+    for program, run in tried:
+        found = fault(program, run, before)
         if found:
             faults += 1
-            print(f"lex {run.words}: {found}")
-    print(f"runs of lex with its flags: {faults} faults")
+            print(f"{Path(program).name} {run.words}: {found}")
+    print(f"runs of lex with its flags, and of lexlook where it fails: {faults} faults")
     return 1 if faults else 0
 
 

@@ -78,9 +78,13 @@ fault_words (faults.Scan e) = scan_words e
 fault_words (faults.File name) = concat (codes "cannot read " ∷ name.now ∷ [])
 fault_words faults.Output = codes "write fault"
 
+-- words at the end of a line
+abbrev pub with_newline : List ℕ → List ℕ
+with_newline words = words ++ (10 ∷ [])
+
 -- the words as a line of the program
 abbrev pub line_of : List ℕ → List ℕ
-line_of words = codes "lex: " ++ words ++ (10 ∷ [])
+line_of words = codes "lex: " ++ with_newline words
 
 -- The statuses: 64 a command line, 65 a specification, its automaton or a table, 66 a file that cannot be read, 70 a
 -- fault of the stack of conditions, 71 want of memory, 74 a read, a write or too many reads.

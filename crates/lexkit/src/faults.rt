@@ -2,9 +2,9 @@
 ghost use Rattle.std.specs.Prelude.{◌≡◌, ℕ, ◌+◌, ◌-◌, ◌^◌, ◌<◌, ◌≤◌, List, ◌++◌};
 ghost use Rattle.lex_io.specs.Sink.{Appended, fault_count};
 ghost use Rattle.lexauto_reports.specs.Joined.{joined};
-ghost use Rattle.lexkit.specs.Faults.{line_of, fault_words, scan_words, gen_words, gen_status, table_words};
-ghost use Rattle.lexkit.specs.Faults.{table_status, scan_status, run_status, build_words, spec_words, lacks_memory};
-ghost use Rattle.lexkit.specs.Faults.{run_words};
+ghost use Rattle.lexkit.specs.Faults.{line_of, with_newline, fault_words, scan_words, gen_words, gen_status};
+ghost use Rattle.lexkit.specs.Faults.{table_words, table_status, scan_status, run_status, build_words, spec_words};
+ghost use Rattle.lexkit.specs.Faults.{lacks_memory, run_words};
 
 use crate::errors::{GenError, ScanError};
 use itoa::Buffer;
@@ -87,66 +87,78 @@ fn table_status(error: TableError) -> u8
     }
 }
 
-/// Writes the line that tells a fault, as `lex: line 2: BadDefinitionLine`. It takes no memory.
+/// Writes the line of lex that tells a fault, as `lex: line 2: BadDefinitionLine`. It takes no memory.
 pub fn write_fault<K: Sink>(fault: Fault<'_>, sink: &mut K) -> Result<(), WriteFault>
     requires { K.failures sink.old < 2 ^ 64 - 1 }
     ensures bytes { Appended (λ xs. K.wrote sink.old xs sink.new) (line_of (fault_words fault.entry)) result }
     ensures failures { K.failures sink.new ≡ K.failures sink.old + fault_count result }
 {
+    if let Err(fault) = sink.put(b"lex: ") {
+        return Err(fault);
+    }
+    write_words(fault, sink)
+}
+
+/// Writes the words of a fault and a newline, as `line 2: BadDefinitionLine`. It takes no memory.
+pub fn write_words<K: Sink>(fault: Fault<'_>, sink: &mut K) -> Result<(), WriteFault>
+    requires { K.failures sink.old < 2 ^ 64 - 1 }
+    ensures bytes { Appended (λ xs. K.wrote sink.old xs sink.new) (with_newline (fault_words fault.entry)) result }
+    ensures failures { K.failures sink.new ≡ K.failures sink.old + fault_count result }
+{
     match fault {
-        Fault::Usage => put_line(sink, &["usage"]),
+        Fault::Usage => write_line(&["usage"], sink),
         Fault::Scan(error) => write_scan_error(error, sink),
-        Fault::File(name) => put_line(sink, &["cannot read ", name]),
-        Fault::Output => put_line(sink, &["write fault"]),
+        Fault::File(name) => write_line(&["cannot read ", name], sink),
+        Fault::Output => write_line(&["write fault"], sink),
     }
 }
 
 /// What each want of memory is told as.
 const OUT_OF_MEMORY: &str = "out of memory";
 
-/// Writes the line of a scan that was refused, or stopped.
+/// Writes the words of a scan that was refused, or stopped.
 fn write_scan_error<K: Sink>(error: ScanError, sink: &mut K) -> Result<(), WriteFault>
     requires { K.failures sink.old < 2 ^ 64 - 1 }
-    ensures bytes { Appended (λ xs. K.wrote sink.old xs sink.new) (line_of (scan_words error)) result }
+    ensures bytes { Appended (λ xs. K.wrote sink.old xs sink.new) (with_newline (scan_words error)) result }
     ensures failures { K.failures sink.new ≡ K.failures sink.old + fault_count result }
 {
     match error {
         ScanError::Generate(error) => write_gen_error(error, sink),
         ScanError::Table(error) => write_table_error(error, sink),
-        ScanError::Run(error) => put_line(sink, &[run_text(error)]),
+        ScanError::Run(error) => write_line(&[run_text(error)], sink),
     }
 }
 
-/// Writes the line of a specification of which no scanner is made.
+/// Writes the words of a specification of which no scanner is made.
 fn write_gen_error<K: Sink>(error: GenError, sink: &mut K) -> Result<(), WriteFault>
     requires { K.failures sink.old < 2 ^ 64 - 1 }
-    ensures bytes { Appended (λ xs. K.wrote sink.old xs sink.new) (line_of (gen_words error)) result }
+    ensures bytes { Appended (λ xs. K.wrote sink.old xs sink.new) (with_newline (gen_words error)) result }
     ensures failures { K.failures sink.new ≡ K.failures sink.old + fault_count result }
 {
     match error {
         GenError::Spec(error) => write_spec_error(error, sink),
-        GenError::Build(error) => put_line(sink, &[build_text(error)]),
-        GenError::OutOfMemory => put_line(sink, &[OUT_OF_MEMORY]),
+        GenError::Build(error) => write_line(&[build_text(error)], sink),
+        GenError::OutOfMemory => write_line(&[OUT_OF_MEMORY], sink),
     }
 }
 
-/// Writes the line of bytes that are no table file, with the byte from 0 at which a field is wrong.
+/// Writes the words of bytes that are no table file, with the byte from 0 at which a field is wrong.
 fn write_table_error<K: Sink>(error: TableError, sink: &mut K) -> Result<(), WriteFault>
     requires { K.failures sink.old < 2 ^ 64 - 1 }
-    ensures bytes { Appended (λ xs. K.wrote sink.old xs sink.new) (line_of (table_words error)) result }
+    ensures bytes { Appended (λ xs. K.wrote sink.old xs sink.new) (with_newline (table_words error)) result }
     ensures failures { K.failures sink.new ≡ K.failures sink.old + fault_count result }
 {
     match error {
-        TableError::BadMagic => put_line(sink, &["table: BadMagic"]),
-        TableError::BadVersion => put_line(sink, &["table: BadVersion"]),
-        TableError::Truncated => put_line(sink, &["table: Truncated"]),
-        TableError::TrailingBytes => put_line(sink, &["table: TrailingBytes"]),
+        TableError::BadMagic => write_line(&["table: BadMagic"], sink),
+        TableError::BadVersion => write_line(&["table: BadVersion"], sink),
+        TableError::Truncated => write_line(&["table: Truncated"], sink),
+        TableError::TrailingBytes => write_line(&["table: TrailingBytes"], sink),
         TableError::BadField(at) => {
             let mut place = Buffer::new();
             let place = place.format(at);
-            put_line(sink, &["table: BadField at ", place])
+            write_line(&["table: BadField at ", place], sink)
         }
-        TableError::OutOfMemory => put_line(sink, &[OUT_OF_MEMORY]),
+        TableError::OutOfMemory => write_line(&[OUT_OF_MEMORY], sink),
     }
 }
 
@@ -161,14 +173,14 @@ fn build_text(error: BuildError) -> &'static str
     }
 }
 
-/// Writes the line of a text that spells no specification: its line, from 1, and in a pattern the byte from 0.
+/// Writes the words of a text that spells no specification: its line, from 1, and in a pattern the byte from 0.
 fn write_spec_error<K: Sink>(error: SpecError, sink: &mut K) -> Result<(), WriteFault>
     requires { K.failures sink.old < 2 ^ 64 - 1 }
-    ensures bytes { Appended (λ xs. K.wrote sink.old xs sink.new) (line_of (spec_words error)) result }
+    ensures bytes { Appended (λ xs. K.wrote sink.old xs sink.new) (with_newline (spec_words error)) result }
     ensures failures { K.failures sink.new ≡ K.failures sink.old + fault_count result }
 {
     if lacks_memory(error.kind) {
-        return put_line(sink, &[OUT_OF_MEMORY]);
+        return write_line(&[OUT_OF_MEMORY], sink);
     }
     let name = error.kind.name();
     let mut line = Buffer::new();
@@ -177,9 +189,9 @@ fn write_spec_error<K: Sink>(error: SpecError, sink: &mut K) -> Result<(), Write
         SpecErrorKind::Pattern(pattern) => {
             let mut at = Buffer::new();
             let at = at.format(pattern.at);
-            put_line(sink, &["line ", line, ": ", name, " at ", at])
+            write_line(&["line ", line, ": ", name, " at ", at], sink)
         }
-        _ => put_line(sink, &["line ", line, ": ", name]),
+        _ => write_line(&["line ", line, ": ", name], sink),
     }
 }
 
@@ -211,15 +223,12 @@ fn run_text(error: RunError) -> &'static str
     }
 }
 
-/// Puts `lex: `, the parts and a newline.
-fn put_line<K: Sink>(sink: &mut K, parts: &[&str]) -> Result<(), WriteFault>
+/// Writes these parts and a newline. It takes no memory.
+pub fn write_line<K: Sink>(parts: &[&str], sink: &mut K) -> Result<(), WriteFault>
     requires { K.failures sink.old < 2 ^ 64 - 1 }
-    ensures bytes { Appended (λ xs. K.wrote sink.old xs sink.new) (line_of (joined parts.now)) result }
+    ensures bytes { Appended (λ xs. K.wrote sink.old xs sink.new) (with_newline (joined parts.now)) result }
     ensures failures { K.failures sink.new ≡ K.failures sink.old + fault_count result }
 {
-    if let Err(fault) = sink.put(b"lex: ") {
-        return Err(fault);
-    }
     if let Err(fault) = put_all(sink, parts) {
         return Err(fault);
     }

@@ -1,29 +1,37 @@
 //! The program lexlook: it shows what a specification of lex does.
 //!
 //! - `main`: which subcommand the command line asks for (`run`), and for each one where it reads and writes.
-//! - `reading`: the files that are compared or cut, which may be table files, and those of one specification.
+//! - `reading`: the files that are read, of which those that are compared or cut may be table files.
+//! - `failure`: what ends the program before its work is done, and the line that tells it.
 //!
 //! What is asked for is read by lex_command. What is written and answered is that of lexlook_calls and lexlook_check, and
-//! proved there. A read, a fault and a status are as those of the program lex, by lexkit.
+//! proved there. A read and a status are as those of the program lex, by lexkit.
 //!
 //! A subcommand has its words in lex_command, its call in lexlook_calls or a room of its own, and here its function
 //! `show_..`, which writes to standard output, flushes, and answers the status: 1 for an answer no, and of a trace that of
 //! the scan. The call of `utf8` is that of lexlook_unicode.
+//!
+//! - **A line of a failure names the file**, where one is refused or not read. Of two that are compared it is the first if
+//!   that is refused beside itself, since the call tells the failure alone.
 #![tactic(auto)]
 
 ghost use Rattle.std.specs.Prelude.{◌≡◌, ◌≤◌};
 
+mod failure;
 mod reading;
 
-use crate::reading::{read_compared_file, read_files, source_files};
+use crate::failure::{LookFailure, report};
+use crate::reading::{ReadFile, read_file, read_files, source_files};
 use lex_command::{
     About, ArgsError, Look, PatternFlags, Subcommand, read_look_args, write_help, write_version,
 };
 use lexkit::{
-    ByteReader, ByteWriter, Failure, FromBytes, MAX_POSITIONS, MAX_STATES, Options, Sink, ToBytes,
-    ToWrite, command_words, read_spec_file, report_failure,
+    ByteReader, ByteWriter, Failure, FromBytes, MAX_POSITIONS, MAX_STATES, MAX_TABLE_BYTES,
+    MemorySink, Options, SPEC_READ_BYTES, Sink, ToBytes, ToWrite, command_words,
 };
-use lexlook_calls::{Given, Language, draw, tell_header, tell_lines, tell_same, tell_words, trace};
+use lexlook_calls::{
+    Given, Language, LookError, draw, tell_header, tell_lines, tell_same, tell_words, trace,
+};
 use lexlook_check::{Form, tell_check};
 use lexlook_unicode::{DefinitionError, UNICODE, definition_of};
 use std::alloc::AllocError;
@@ -63,76 +71,97 @@ fn show_about(rt: &HostRuntime, what: About) -> Result<ExitCode, Failure> {
 }
 
 /// Writes the picture of a specification to standard output.
-fn show_picture(rt: &HostRuntime, file: String, options: Options) -> Result<ExitCode, Failure>
+fn show_picture(rt: &HostRuntime, text: &[u8], options: Options) -> Result<ExitCode, Failure>
     requires few_positions { options.limits.positions ≤ MAX_POSITIONS }
     requires few_states { options.limits.states ≤ MAX_STATES }
 {
-    let text = read_spec_file(rt, file)?;
     let mut sink = ToBytes::new(ByteWriter::new(rt.alloc(), io::writer(rt))?);
-    draw(rt.alloc(), text.as_slice(), options, &mut sink)?;
+    draw(rt.alloc(), text, options, &mut sink)?;
     sink.flush()?;
     Ok(ExitCode::SUCCESS)
 }
 
 /// Writes to standard output the texts that the rules of a specification take.
-fn show_words(rt: &HostRuntime, file: String, options: Options) -> Result<ExitCode, Failure>
+fn show_words(rt: &HostRuntime, text: &[u8], options: Options) -> Result<ExitCode, Failure>
     requires few_positions { options.limits.positions ≤ MAX_POSITIONS }
     requires few_states { options.limits.states ≤ MAX_STATES }
 {
-    let text = read_spec_file(rt, file)?;
     let mut sink = ToBytes::new(ByteWriter::new(rt.alloc(), io::writer(rt))?);
-    tell_words(rt.alloc(), text.as_slice(), options, &mut sink)?;
+    tell_words(rt.alloc(), text, options, &mut sink)?;
     sink.flush()?;
     Ok(ExitCode::SUCCESS)
+}
+
+/// A file as it is compared.
+fn given(file: &ReadFile) -> Given<'_> {
+    Given {
+        name: file.name.as_str(),
+        bytes: file.bytes.as_slice(),
+    }
 }
 
 /// Says on standard output what two files do not do the same.
 fn show_same(
     rt: &HostRuntime,
-    left: &str,
-    right: &str,
+    left: &ReadFile,
+    right: &ReadFile,
     options: Options,
 ) -> Result<ExitCode, Failure>
     requires few_positions { options.limits.positions ≤ MAX_POSITIONS }
     requires few_states { options.limits.states ≤ MAX_STATES }
 {
-    let bytes = read_compared_file(rt, left)?;
-    let others = read_compared_file(rt, right)?;
-    let this = Given {
-        name: left,
-        bytes: bytes.as_slice(),
-    };
-    let that = Given {
-        name: right,
-        bytes: others.as_slice(),
-    };
     let mut sink = ToBytes::new(ByteWriter::new(rt.alloc(), io::writer(rt))?);
-    let same = tell_same(rt.alloc(), this, that, options, &mut sink)?;
+    let same = tell_same(rt.alloc(), given(left), given(right), options, &mut sink)?;
     sink.flush()?;
     Ok(status_of(same))
 }
 
-/// Says on standard output what stands against cuts of an input at its newlines.
-fn show_lines(rt: &HostRuntime, name: &str, options: Options) -> Result<ExitCode, Failure>
+/// Whether a file is refused beside itself.
+fn is_refused(rt: &HostRuntime, file: &ReadFile, options: Options) -> bool
     requires few_positions { options.limits.positions ≤ MAX_POSITIONS }
     requires few_states { options.limits.states ≤ MAX_STATES }
 {
-    let bytes = read_compared_file(rt, name)?;
+    let mut sink = MemorySink::new(rt.alloc());
+    let told = tell_same(rt.alloc(), given(file), given(file), options, &mut sink);
+    matches!(told, Err(LookError::Refused(_) | LookError::Table(_)))
+}
+
+/// Compares two files. A failure is that of the one that is refused, the first if both are.
+fn compare_files(
+    rt: &HostRuntime,
+    left: ReadFile,
+    right: ReadFile,
+    options: Options,
+) -> Result<ExitCode, LookFailure>
+    requires few_positions { options.limits.positions ≤ MAX_POSITIONS }
+    requires few_states { options.limits.states ≤ MAX_STATES }
+{
+    match show_same(rt, &left, &right, options) {
+        Ok(status) => Ok(status),
+        Err(failure) if is_refused(rt, &left, options) => Err(LookFailure::of(failure, left.name)),
+        Err(failure) => Err(LookFailure::of(failure, right.name)),
+    }
+}
+
+/// Says on standard output what stands against cuts of an input at its newlines.
+fn show_lines(rt: &HostRuntime, bytes: &[u8], options: Options) -> Result<ExitCode, Failure>
+    requires few_positions { options.limits.positions ≤ MAX_POSITIONS }
+    requires few_states { options.limits.states ≤ MAX_STATES }
+{
     let mut sink = ToBytes::new(ByteWriter::new(rt.alloc(), io::writer(rt))?);
-    let may = tell_lines(rt.alloc(), bytes.as_slice(), options, &mut sink)?;
+    let may = tell_lines(rt.alloc(), bytes, options, &mut sink)?;
     sink.flush()?;
     Ok(status_of(may))
 }
 
 /// Writes a line for each match of a scan of standard input. It is flushed before a read that may wait.
-fn show_trace(rt: &HostRuntime, file: String, options: Options) -> Result<ExitCode, Failure>
+fn show_trace(rt: &HostRuntime, text: &[u8], options: Options) -> Result<ExitCode, Failure>
     requires few_positions { options.limits.positions ≤ MAX_POSITIONS }
     requires few_states { options.limits.states ≤ MAX_STATES }
 {
-    let text = read_spec_file(rt, file)?;
     let mut source = FromBytes::new(ByteReader::new(rt.alloc(), rt.reader())?);
     let mut sink = ToBytes::new(ByteWriter::new(rt.alloc(), io::writer(rt))?);
-    let result = trace(rt.alloc(), text.as_slice(), options, &mut source, &mut sink);
+    let result = trace(rt.alloc(), text, options, &mut source, &mut sink);
     if result.is_err() {
         // What was written before the fault is still to be seen, and the fault is reported in any case.
         let _ = sink.flush();
@@ -157,15 +186,14 @@ fn show_letters(rt: &HostRuntime, sets: &[String]) -> Result<ExitCode, Failure> 
 /// Writes to standard output every fault of the specification that the files are together.
 fn show_check(
     rt: &HostRuntime,
-    names: &[String],
+    files: &[ReadFile],
     json: bool,
     options: Options,
 ) -> Result<ExitCode, Failure>
     requires few_positions { options.limits.positions ≤ MAX_POSITIONS }
     requires few_states { options.limits.states ≤ MAX_STATES }
 {
-    let texts = read_files(rt, names)?;
-    let files = source_files(rt.alloc(), names, texts.as_slice())?;
+    let files = source_files(rt.alloc(), files)?;
     let mut sink = ToBytes::new(ByteWriter::new(rt.alloc(), io::writer(rt))?);
     let form = if json { Form::Json } else { Form::Lines };
     let well = tell_check(rt.alloc(), files.as_slice(), options, form, &mut sink)?;
@@ -176,14 +204,13 @@ fn show_check(
 /// Writes the rules of a specification to standard output as constants of a program.
 fn show_header(
     rt: &HostRuntime,
-    file: String,
+    text: &[u8],
     rust: bool,
     options: Options,
 ) -> Result<ExitCode, Failure> {
-    let text = read_spec_file(rt, file)?;
     let mut sink = ToBytes::new(ByteWriter::new(rt.alloc(), io::writer(rt))?);
     let language = if rust { Language::Rust } else { Language::C };
-    tell_header(rt.alloc(), text.as_slice(), options, language, &mut sink)?;
+    tell_header(rt.alloc(), text, options, language, &mut sink)?;
     sink.flush()?;
     Ok(ExitCode::SUCCESS)
 }
@@ -197,49 +224,80 @@ fn status_of(yes: bool) -> ExitCode {
     }
 }
 
+/// The bytes that are read of a file at most: one more than it may have.
+fn room_of(what: Subcommand) -> u64 {
+    match what {
+        Subcommand::Lines => MAX_TABLE_BYTES + 1,
+        Subcommand::Picture | Subcommand::Words | Subcommand::Trace => SPEC_READ_BYTES,
+    }
+}
+
 /// Shows this of a file.
 fn show_one(
     rt: &HostRuntime,
     what: Subcommand,
-    file: String,
+    bytes: &[u8],
     options: Options,
 ) -> Result<ExitCode, Failure>
     requires few_positions { options.limits.positions ≤ MAX_POSITIONS }
     requires few_states { options.limits.states ≤ MAX_STATES }
 {
     match what {
-        Subcommand::Picture => show_picture(rt, file, options),
-        Subcommand::Lines => show_lines(rt, file.as_str(), options),
-        Subcommand::Words => show_words(rt, file, options),
-        Subcommand::Trace => show_trace(rt, file, options),
+        Subcommand::Picture => show_picture(rt, bytes, options),
+        Subcommand::Lines => show_lines(rt, bytes, options),
+        Subcommand::Words => show_words(rt, bytes, options),
+        Subcommand::Trace => show_trace(rt, bytes, options),
+    }
+}
+
+/// What was shown of a file, or why not.
+fn shown_of(shown: Result<ExitCode, Failure>, file: String) -> Result<ExitCode, LookFailure> {
+    match shown {
+        Ok(status) => Ok(status),
+        Err(failure) => Err(LookFailure::of(failure, file)),
     }
 }
 
 /// Shows what the command line asks for, and answers with the status of the program.
-fn run(rt: &HostRuntime) -> Result<ExitCode, Failure> {
+fn run(rt: &HostRuntime) -> Result<ExitCode, LookFailure> {
     match look_of(rt)? {
-        Look::About(what) => show_about(rt, what),
+        Look::About(what) => Ok(show_about(rt, what)?),
         Look::One {
             what,
             file,
             patterns,
-        } => show_one(rt, what, file, options_of(patterns)),
+        } => {
+            let read = read_file(rt, file, room_of(what))?;
+            let shown = show_one(rt, what, read.bytes.as_slice(), options_of(patterns));
+            shown_of(shown, read.name)
+        }
         Look::Same {
             left,
             right,
             patterns,
-        } => show_same(rt, left.as_str(), right.as_str(), options_of(patterns)),
-        Look::Letters { sets } => show_letters(rt, sets.as_slice()),
+        } => {
+            let first = read_file(rt, left, MAX_TABLE_BYTES + 1)?;
+            let second = read_file(rt, right, MAX_TABLE_BYTES + 1)?;
+            compare_files(rt, first, second, options_of(patterns))
+        }
+        Look::Letters { sets } => Ok(show_letters(rt, sets.as_slice())?),
         Look::Check {
             files,
             json,
             patterns,
-        } => show_check(rt, files.as_slice(), json, options_of(patterns)),
+        } => {
+            let read = read_files(rt, files)?;
+            Ok(show_check(rt, read.as_slice(), json, options_of(patterns))?)
+        }
         Look::Header {
             file,
             rust,
             patterns,
-        } => show_header(rt, file, rust, options_of(patterns)),
+        } => {
+            let read = read_file(rt, file, SPEC_READ_BYTES)?;
+            let shown = show_header(rt, read.bytes.as_slice(), rust, options_of(patterns));
+            shown_of(shown, read.name)
+        }
     }
 }
 
@@ -247,6 +305,6 @@ fn run(rt: &HostRuntime) -> Result<ExitCode, Failure> {
 fn main(rt: HostRuntime) -> ExitCode {
     match run(&rt) {
         Ok(status) => status,
-        Err(failure) => report_failure(&rt, &failure),
+        Err(failure) => report(&rt, &failure),
     }
 }

@@ -1,62 +1,61 @@
-//! The files that the program compares and cuts, and those that are a specification together.
-ghost use Rattle.std.specs.Prelude.{◌≡◌, ◌⊎◌, IfErr};
-ghost use Rattle.lexkit.specs.declared.faults.Fault.{Fault};
-ghost use Rattle.lexkit.specs.Failures.{IsReportedAs, out_of_memory};
-ghost use Rattle.lexkit.specs.declared.failure.Failure.{Failure};
+//! The files that the program reads: one of a subcommand, two that are compared, or those that are a specification together.
+ghost use Rattle.std.specs.Prelude.{◌≡◌, ◌⊎◌, ℕ, IfErr};
+ghost use Rattle.lexkit.specs.Failures.{out_of_memory};
+ghost use Rattle.lexlook.specs.declared.failure.LookFailure.{LookFailure};
 
-use lexkit::{Failure, MAX_TABLE_BYTES, SPEC_READ_BYTES, read_more};
+use crate::failure::LookFailure;
+use lexkit::{Failure, SPEC_READ_BYTES, read_more};
 use lexlook_check::SourceFile;
 use std::alloc::{AllocError, Global};
 
-/// The bytes of a specification or a table file. Of a longer one than a table file may be it is one byte more.
-pub fn read_compared_file(rt: &HostRuntime, name: &str) -> Result<Vec<u8>, Failure>
-    ensures { IfErr result (λ failure. (failure ≡ out_of_memory) ⊎ IsReportedAs failure (Fault.File name.entry)) }
+/// A file that was read.
+#[derive(Drop)]
+pub struct ReadFile {
+    pub name: String,
+    pub bytes: Vec<u8>,
+}
+
+/// The bytes of a file, this many at most. `-` is standard input.
+pub fn read_file(rt: &HostRuntime, name: String, most: u64) -> Result<ReadFile, LookFailure>
+    ensures { IfErr result (λ failure. (failure ≡ LookFailure.Plain out_of_memory)
+        ⊎ ((reason : ℕ) × (failure ≡ LookFailure.Unread name reason))) }
 {
     let mut bytes = Vec::new(rt.alloc());
-    let error = match read_more(rt, name, MAX_TABLE_BYTES + 1, &mut bytes) {
-        Ok(()) => return Ok(bytes),
-        Err(error) => error.kind(),
-    };
-    match String::from_str(rt.alloc(), name) {
-        Ok(name) => Err(Failure::of_file(error, name)),
-        Err(error) => Err(Failure::from(error)),
+    match read_more(rt, name.as_str(), most, &mut bytes) {
+        Ok(()) => Ok(ReadFile { name, bytes }),
+        Err(error) => {
+            let reason = error.raw_os_error().unwrap_or(0).unsigned_abs();
+            Err(LookFailure::unread(error.kind(), reason, name))
+        }
     }
 }
 
-/// The bytes of each of the files that are a specification together. Of a longer one than a specification may be it is one
-/// byte more, and what follows is not read.
-pub fn read_files(rt: &HostRuntime, names: &[String]) -> Result<Vec<Vec<u8>>, Failure> {
-    let mut texts = Vec::new(rt.alloc());
+/// The files that are a specification together. Of a longer one than a specification may be it is one byte more, and what
+/// follows is not read.
+pub fn read_files(rt: &HostRuntime, names: Vec<String>) -> Result<Vec<ReadFile>, LookFailure> {
+    let mut files = Vec::new(rt.alloc());
     let mut room = SPEC_READ_BYTES;
     for name in names {
-        let mut bytes = Vec::new(rt.alloc());
-        if let Err(error) = read_more(rt, name.as_str(), room, &mut bytes) {
-            let name = String::from_str(rt.alloc(), name.as_str())?;
-            return Err(Failure::of_file(error.kind(), name));
-        }
-        room = room.saturating_sub(bytes.len() as u64);
-        if texts.push(bytes).is_err() {
-            return Err(Failure::from(AllocError));
+        let file = read_file(rt, name, room)?;
+        room = room.saturating_sub(file.bytes.len() as u64);
+        if files.push(file).is_err() {
+            return Err(LookFailure::from(Failure::from(AllocError)));
         }
         if room == 0 {
-            return Ok(texts);
+            return Ok(files);
         }
     }
-    Ok(texts)
+    Ok(files)
 }
 
 /// The files, each with its name and its bytes.
-pub fn source_files<'a>(
-    alloc: Global,
-    names: &'a [String],
-    texts: &'a [Vec<u8>],
-) -> Result<Vec<SourceFile<'a>>, AllocError> {
-    let mut files = Vec::new(alloc);
-    for (name, bytes) in names.iter().zip(texts.iter()) {
-        files.push(SourceFile {
-            name: name.as_str(),
-            bytes: bytes.as_slice(),
+pub fn source_files(alloc: Global, files: &[ReadFile]) -> Result<Vec<SourceFile<'_>>, AllocError> {
+    let mut sources = Vec::new(alloc);
+    for file in files {
+        sources.push(SourceFile {
+            name: file.name.as_str(),
+            bytes: file.bytes.as_slice(),
         })?;
     }
-    Ok(files)
+    Ok(sources)
 }

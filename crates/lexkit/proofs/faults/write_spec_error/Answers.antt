@@ -10,7 +10,7 @@ returns-in-Pattern-clause-bytes g c =
     let name : kind_name c.args.error.kind ≡ c.name-name.result.now = sym c.name-name.ensures in
     let line : decimal c.args.error.line ≡ c.format-line.result.now = sym c.format-line.ensures.text in
     let place : place_words c.args.error.kind ≡ codes " at " ++ c.format-at.result.now = ap place_words c.in-Pattern.is ∙ ap (λ l. codes " at " ++ l) (sym c.format-at.ensures.text) in
-    rw (spelled, name, line, place) c.put_line-in-Pattern.ensures.bytes
+    rw (spelled, name, line, place) c.write_line-in-Pattern.ensures.bytes
 
 pub returns-in_default-clause-bytes : goal.returns-in_default-clause-bytes
 returns-in_default-clause-bytes g c =
@@ -18,4 +18,4 @@ returns-in_default-clause-bytes g c =
     let name : kind_name c.args.error.kind ≡ c.name-name.result.now = sym c.name-name.ensures in
     let line : decimal c.args.error.line ≡ c.format-line.result.now = sym c.format-line.ensures.text in
     let place : place_words c.args.error.kind ≡ [] = place_words-other c.args.error.kind c.in_default.not-Pattern in
-    rw (spelled, name, line, place) c.put_line-in_default.ensures.bytes
+    rw (spelled, name, line, place) c.write_line-in_default.ensures.bytes
