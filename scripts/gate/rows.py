@@ -164,24 +164,28 @@ MEANING = "ECHO REJECT BEGIN printf fputs puts yymore yyless yyterminate exit yy
 AT_FAULT = {
     "UnknownStatement": "",
     "BadCount": "yyless",
-    "LessAndMore": "yyless",
+    "LessAndMore": "yyless yymore",
     "BadStatus": "exit",
     "RejectCombination": "REJECT",
     "NotLast": "REJECT yyterminate exit",
     "BadEofAction": "ECHO REJECT BEGIN yymore yyless",
 }
+# So many of these stand before the one that is told.
+BEFORE = {"LessAndMore": 1}
 
 
 def word_met(kind, shown, at):
     """What is said of the word in this line that is at fault, and its place; nothing, and the place where there is none."""
+    if kind == "Unclosed":
+        return "", str(re.search(r'["{]', shown).start())
     if kind not in NOUNS and kind not in AT_FAULT:
         return "", at
     action = shown.index(" ") if kind in AT_FAULT or shown[0] not in "%<[{" else 1
     known = [it for it in [*MEANING, "option"] if it not in AT_FAULT.get(kind, "").split()]
-    for met in re.finditer(r'"[^"]*"|[A-Za-z_][\w-]*', shown):
-        if met.start() >= action and not met[0].startswith('"') and met[0] not in known:
-            near = f", the nearest is `{NEAREST[met[0]]}`" if met[0] in NEAREST else ""
-            return f"`{met[0]}` is no {NOUNS[kind]}{near}; " if kind in NOUNS else "", at or str(met.start())
+    words = [met for met in re.finditer(r'"[^"]*"|[A-Za-z_][\w-]*', shown) if met.start() >= action]
+    for met in [met for met in words if met[0][0] != '"' and met[0] not in known][BEFORE.get(kind, 0) :]:
+        near = f", the nearest is `{NEAREST[met[0]]}`" if met[0] in NEAREST else ""
+        return f"`{met[0]}` is no {NOUNS[kind]}{near}; " if kind in NOUNS else "", at or str(met.start())
     return "", at or str(action + 1)
 
 

@@ -3,8 +3,6 @@ pub mod Drawn
 pub mod SamePictures
 pub mod Cutting
 pub mod SameFiles
-pub mod Matching
-pub mod Alike
 pub mod Shown
 pub mod Traced
 pub mod Called

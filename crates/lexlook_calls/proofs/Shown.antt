@@ -3,7 +3,7 @@ use Rattle.std.proofs.Common.{◌≡◌, ◌<◌, ◌≤◌, ℕ, zero, suc, Boo
 use Rattle.std.specs.Prelude.{slice_get}
 use Rattle.std.proofs.lemmas.List.{length-map}
 use Rattle.lex_semantics.specs.Spec.{Spec, Rule}
-use Rattle.lex_semantics.specs.Text.{Among, flag}
+use Rattle.lex_semantics.specs.Text.{flag}
 use Rattle.lex_semantics.specs.TableFor.{TableFor}
 use Rattle.lex_semantics.specs.Subsets.{HasSubsets, all_positions}
 use Rattle.lexauto.specs.declared.error.BuildError.{BuildError}
@@ -14,9 +14,6 @@ use Rattle.lexauto_dfa.specs.declared.dfa.Dfa.{Dfa}
 use Rattle.lexkit.proofs.Refusing.{by_reason}
 use Rattle.lexkit.specs.Generated.{lines_of}
 use Rattle.lexkit.specs.Headline.{BuildRefusal}
-use Rattle.lexauto_dfa.specs.Parts.{conditions, start, accepts}
-use Rattle.lexauto_dfa.specs.declared.dfa.Parts.{Parts}
-use Rattle.lexauto_dfa.proofs.Machinery.{walk_after}
 use Rattle.lexlook_specs.specs.Matches.{matches_in, matches_of}
 use Rattle.lexlook_specs.specs.Rejecting.{rejecting, rejecting_rule}
 use Rattle.lexlook_specs.specs.Words.{AreWords, IsWordOf, TellsDefault}
@@ -27,25 +24,8 @@ use Rattle.lexlook_specs.specs.declared.words.finding.Words.{Words}
 use Rattle.lex_semantics.specs.Spec.{has_reject, statements_at}
 use Rattle.lexlook_calls.specs.Looks.{names_of}
 use Rattle.lexlook_calls.specs.Words.{AreLabelled, AreWordsOf, HasLabels, word_lines}
-use Rattle.lexlook_calls.proofs.Matching.{AreAlike, words_alike}
-use Rattle.lexlook_calls.proofs.Alike.{fits_accepted, positions_same, subsets_from, subsets_to}
-
--- the automaton of the specification in which each action is REJECT tells which texts fit
-pub automaton_alike : (S : Spec) (p : Parts) (rejects : List Bool) → conditions p ≡ length S.conditions → TableFor (machine_in p (rejecting S)) (rejecting S)
-    → length rejects ≡ length S.rules → ((i : ℕ) → flag rejects i ≡ has_reject (statements_at (slice_get S.rules i)))
-    → AreAlike (matches_in p rejects) (matches_of S)
-automaton_alike S p rejects count table len flags = record {
-  conditions = count;
-  count = len;
-  fits = λ c line w i h.
-      let low = h.condition in
-      let known : c < length S.conditions = omega (arith, low, count) in
-      let e = table.accepts c line w i known h.text in
-      let walked = walk_after p (rejecting S) (start p c line) w in
-      let back = fits_accepted S c line w i in
-      (λ a. back.0 (e.0 (subst (λ (s : ℕ). Among (accepts p s) i) (sym walked) a)), λ f. subst (λ (s : ℕ). Among (accepts p s) i) walked (e.1 (back.1 f)));
-  gives_up = flags;
-}
+use Rattle.lexlook_specs.proofs.FitsAlike.{automaton_alike, positions_same, subsets_from, subsets_to}
+use Rattle.lexlook_specs.proofs.MatchesAlike.{words_alike}
 
 known_rule : (rs : List Rule) (i : ℕ) (r : Rule) → slice_get rs i ≡ Some r → i < length rs
 known_rule [] i r e = absurd cc

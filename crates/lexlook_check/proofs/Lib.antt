@@ -3,3 +3,5 @@ pub mod Well
 pub mod Reading
 pub mod Parts
 pub mod OrderLaws
+pub mod ConditionLaws
+pub mod TakingLaws

@@ -13,3 +13,6 @@ five a b c d e f p q r s t hb hc hd he hf =
     hf
     ∙ ap (λ (z : List ℕ). z ++ t) (he ∙ ap (λ (z : List ℕ). z ++ s) (hd ∙ ap (λ (z : List ℕ). z ++ r) (hc ∙ ap (λ (z : List ℕ). z ++ q) hb)))
     ∙ simp append_assoc
+
+pub three : (a b c d p q r : List ℕ) → b ≡ a ++ p → c ≡ b ++ q → d ≡ c ++ r → d ≡ a ++ (p ++ (q ++ r))
+three a b c d p q r hb hc hd = hd ∙ ap (λ (z : List ℕ). z ++ r) (hc ∙ ap (λ (z : List ℕ). z ++ q) hb) ∙ simp append_assoc

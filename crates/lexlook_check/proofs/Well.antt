@@ -1,5 +1,5 @@
 -- Nothing is told just of a specification within the limits.
-use Rattle.std.proofs.Common.{◌≡◌, ℕ, ◌==◌, ◌&&◌, Bool, true, false, List, [], ◌∷◌, length, Option, Some, None, is_none, refl, sym, subst, arith}
+use Rattle.std.proofs.Common.{◌≡◌, ℕ, ◌==◌, ◌&&◌, Bool, true, false, List, [], ◌∷◌, length, map, Option, Some, None, is_none, refl, sym, subst, arith}
 use Rattle.lex_semantics.specs.Spec.{Spec}
 use Rattle.lexre.specs.declared.options.ReadOptions.{ReadOptions}
 use Rattle.lexre_bytes.specs.Memory.{UnlessMemory}
@@ -18,6 +18,7 @@ use Rattle.lexkit.specs.Headline.{BuildRefusal, IsWithin, reading}
 use Rattle.lexkit.specs.declared.options.Options.{Options}
 use Rattle.lexlook_check.specs.Finding.{AreFaultsOf, ReadsSpec, max_faults}
 use Rattle.lexlook_check.specs.Checks.{IsFoundOf, NothingToldJustOf}
+use Rattle.lexlook_check.specs.Takings.{TakenTexts, taking_of}
 use Rattle.lexlook_check.specs.declared.notices.Notice.{Notice}
 
 abbrev OneSpec : Type 0
@@ -47,27 +48,27 @@ passes limits S builds.TooManyPositions off h within = omega (arith, h, within.f
 passes limits S builds.TooManyStates off h within = let many = h within.states within.subsets in omega (arith, many, within.few_states)
 passes limits S builds.OutOfMemory off h within = off refl
 
-good_spells : (options : Options) (own : ℕ) (text : List ℕ) (faults : List SpecError) (limit : Option BuildError) (ws : List Warning) (ns : List Notice) (left : Option (List ℕ))
-    → AreFaultsOf (ReadsSpec (reading options)) max_faults text faults left → IsFoundOf options own text left limit ws ns → is_good faults limit ≡ true → IsSpelled options text
-good_spells options own text [] None ws ns (Some left) faults found good =
+good_spells : (options : Options) (own : ℕ) (clean : Bool) (text : List ℕ) (faults : List SpecError) (limit : Option BuildError) (ws : List Warning) (ts : List TakenTexts) (ns : List Notice) (left : Option (List ℕ))
+    → AreFaultsOf (ReadsSpec (reading options)) max_faults text faults left → IsFoundOf options own clean text left limit ws ts ns → is_good faults limit ≡ true → IsSpelled options text
+good_spells options own clean text [] None ws ts ns (Some left) faults found good =
     subst (λ (t : List ℕ). IsSpelled options t) faults.0 (found.1.0, found.1.1, found.1.4.tables.within)
-good_spells options own text [] None ws ns None faults found good = absurd cc
-good_spells options own text [] (Some e) ws ns left faults found good = absurd cc
-good_spells options own text (e ∷ es) limit ws ns left faults found good = absurd (not_empty e es limit good)
+good_spells options own clean text [] None ws ts ns None faults found good = absurd cc
+good_spells options own clean text [] (Some e) ws ts ns left faults found good = absurd cc
+good_spells options own clean text (e ∷ es) limit ws ts ns left faults found good = absurd (not_empty e es limit good)
 
-spelled_good : OneSpec → (options : Options) (own : ℕ) (text : List ℕ) (faults : List SpecError) (limit : Option BuildError) (ws : List Warning) (ns : List Notice) (left : Option (List ℕ))
-    → AreFaultsOf (ReadsSpec (reading options)) max_faults text faults left → IsFoundOf options own text left limit ws ns → IsSpelled options text → is_good faults limit ≡ true
-spelled_good one options own text [] None ws ns left faults found spelled = refl
-spelled_good one options own text [] (Some e) ws ns (Some left) faults found (S, spells, within) =
+spelled_good : OneSpec → (options : Options) (own : ℕ) (clean : Bool) (text : List ℕ) (faults : List SpecError) (limit : Option BuildError) (ws : List Warning) (ts : List TakenTexts) (ns : List Notice) (left : Option (List ℕ))
+    → AreFaultsOf (ReadsSpec (reading options)) max_faults text faults left → IsFoundOf options own clean text left limit ws ts ns → IsSpelled options text → is_good faults limit ≡ true
+spelled_good one options own clean text [] None ws ts ns left faults found spelled = refl
+spelled_good one options own clean text [] (Some e) ws ts ns (Some left) faults found (S, spells, within) =
     let at : SpellsSpec (reading options) left S = subst (λ (t : List ℕ). SpellsSpec (reading options) t S) (sym faults.0) spells in
     let same : found.1.0 ≡ S = one (reading options) left found.1.0 S found.1.1 at in
     absurd (passes options.limits S e found.0 (subst (λ (T : Spec). BuildRefusal options.limits T e) same found.1.2) within)
-spelled_good one options own text [] (Some e) ws ns None faults found spelled = absurd cc
-spelled_good one options own text (e ∷ es) limit ws ns left faults found (S, spells, within) =
+spelled_good one options own clean text [] (Some e) ws ts ns None faults found spelled = absurd cc
+spelled_good one options own clean text (e ∷ es) limit ws ts ns left faults found (S, spells, within) =
     absurd ((told e.kind _ faults.1 faults.2).0 S spells)
 
 pub nothing_told_of : OneSpec → NothingToldJustOf
 nothing_told_of one options own text c h = (
-  good_spells options own text c.faults.items c.limit c.warnings.items c.notices.items h.left h.faults h.found,
-  spelled_good one options own text c.faults.items c.limit c.warnings.items c.notices.items h.left h.faults h.found,
+  good_spells options own (length c.faults.items == 0) text c.faults.items c.limit c.warnings.items (map taking_of c.takings.items) c.notices.items h.left h.faults h.found,
+  spelled_good one options own (length c.faults.items == 0) text c.faults.items c.limit c.warnings.items (map taking_of c.takings.items) c.notices.items h.left h.faults h.found,
 )

@@ -1,27 +1,22 @@
 -- The lines that tell what was found. (This project's: POSIX leaves messages to the implementation. `FILE:LINE:` is
 -- what compilers of C write, and what editors read.)
-use Rattle.std.specs.Prelude.{ℕ, ◌+◌, ◌==◌, if◌then◌else◌, List, [], ◌∷◌, ◌++◌, Option, Some, None, is_none, option_map, codes, decimal}
+use Rattle.std.specs.Prelude.{ℕ, ◌+◌, ◌&&◌, not, if◌then◌else◌, List, [], ◌∷◌, ◌++◌, Option, Some, None, is_none, option_map, codes, decimal}
 use Rattle.std.specs.List.{concat}
 use Rattle.lexre_bytes.specs.RefusalNames.{kind_name}
 use Rattle.lexauto_reports.specs.ReportLines.{warning_words}
 use Rattle.lexkit.specs.Faults.{build_words}
 use Rattle.lexlook_check.specs.Findings.{known_lines}
 use Rattle.lexlook_check.specs.Hints.{definition_hint, hint_words, notice_hint}
-use Rattle.lexlook_check.specs.Places.{line_place}
+use Rattle.lexlook_check.specs.Places.{file_line_words, line_place}
 use Rattle.lexlook_check.specs.SourceLines.{place_in, source_words, text_line}
+use Rattle.lexlook_check.specs.Takings.{TakenTexts, is_useless, taking_for, taken_words}
 use Rattle.lexlook_check.specs.Words.{front_words}
 use Rattle.lexlook_check.specs.declared.findings.Finding.{Finding}
 use Rattle.lexlook_check.specs.declared.findings.What.{What}
 use Rattle.lexlook_check.specs.declared.findings.What.TheVariants.{Fault, Limit, Noticed, Warned}
 use Rattle.lexlook_check.specs.declared.notices.NoticeKind.{NoticeKind}
-use Rattle.lexlook_check.specs.declared.notices.NoticeKind.TheVariants.{LettersAsBytes, LetterAlone, Backspace, UnusedDefinition}
+use Rattle.lexlook_check.specs.declared.notices.NoticeKind.TheVariants.{LettersAsBytes, LetterAlone, Backspace, UnusedDefinition, NeverEntered, NeverLeft, DefaultRule}
 use Rattle.lexlook_check.specs.declared.places.SourceFile.{SourceFile}
-
--- the file and the line there; of line 0, which is the whole, the file alone
-abbrev pub file_line_words : List SourceFile → ℕ → List ℕ
-file_line_words files n =
-    let place = line_place files n in
-    place.0 ++ (if place.1 == 0 then [] else codes ":" ++ decimal place.1)
 
 -- the column of a place, from 1, where one is told
 abbrev pub column_words : Option ℕ → List ℕ
@@ -41,6 +36,9 @@ notice_words LettersAsBytes = codes "letters of a class as bytes"
 notice_words LetterAlone = codes "letter behind a backslash"
 notice_words Backspace = codes "backspace by its escape"
 notice_words UnusedDefinition = codes "definition that no pattern uses"
+notice_words NeverEntered = codes "condition that no action enters"
+notice_words NeverLeft = codes "condition that no action leaves"
+notice_words (DefaultRule byte) = codes "default rule in an exclusive condition"
 
 -- what it is called: a fault as by lex, without its place
 abbrev pub what_words : What → List ℕ
@@ -69,15 +67,20 @@ head_words files f at =
 
 -- the line of what was found, where it is shown
 abbrev pub shown_line : List ℕ → Finding → List ℕ
-shown_line text f = if is_none (hint_of f.what) then [] else text_line f.line text
+shown_line text f = if is_none (hint_of f.what) && not (is_useless f.what) then [] else text_line f.line text
 
 -- what is told below: of the word at the place in this line of the text, and what is expected there
 abbrev pub full_hint : List ℕ → What → Option ℕ → List ℕ → Option (List ℕ)
 full_hint text what at line = option_map (λ hint. front_words (known_lines text) what at line ++ hint) (hint_of what)
 
+-- the same, or of a rule that cannot be matched by which its texts are taken
+abbrev pub whole_hint : List SourceFile → List ℕ → List TakenTexts → Finding → Option ℕ → List ℕ → Option (List ℕ)
+whole_hint files text ts f at line =
+    elim (taking_for ts f) [ None ↦ full_hint text f.what at line | Some t ↦ Some (taken_words files t) ]
+
 -- the lines of what was found of a text
-abbrev pub finding_lines : List SourceFile → List ℕ → Finding → List ℕ
-finding_lines files text f =
+abbrev pub finding_lines : List SourceFile → List ℕ → List TakenTexts → Finding → List ℕ
+finding_lines files text ts f =
     let line = shown_line text f in
     let at = place_in f.at line in
-    head_words files f at ++ detail_words (line_place files f.line).1 line at (full_hint text f.what at line)
+    head_words files f at ++ detail_words (line_place files f.line).1 line at (whole_hint files text ts f at line)

@@ -7,7 +7,7 @@ use Rattle.lexre_bytes.specs.declared.refusals.SpecErrorKind.{SpecErrorKind}
 use Rattle.lexre_bytes.specs.declared.refusals.SpecErrorKind.TheVariants as kinds
 use Rattle.lexlook_check.specs.SourceLines.{under}
 use Rattle.lexlook_check.specs.declared.notices.NoticeKind.{NoticeKind}
-use Rattle.lexlook_check.specs.declared.notices.NoticeKind.TheVariants.{LettersAsBytes, LetterAlone, Backspace, UnusedDefinition}
+use Rattle.lexlook_check.specs.declared.notices.NoticeKind.TheVariants.{LettersAsBytes, LetterAlone, Backspace, UnusedDefinition, NeverEntered, NeverLeft, DefaultRule}
 
 -- of a pattern
 abbrev pub pattern_hint : PatternErrorKind → List ℕ
@@ -83,6 +83,11 @@ notice_hint Backspace =
     codes "`\\b` is a backspace, the byte 8: no sign stands for the end of a word, and the longest text is taken anyway"
 notice_hint UnusedDefinition =
     codes "a definition stands for its pattern where its name is in braces, as `{DIGIT}`"
+notice_hint NeverEntered = codes "no BEGIN and no yy_push_state of a rule names it, so no match is made in it"
+notice_hint NeverLeft =
+    codes
+    "no rule that is active in it has BEGIN or yy_push_state of another, yy_pop_state, exit or yyterminate, so it lasts to the end of the input"
+notice_hint (DefaultRule byte) = codes "a last rule `.|\\n` of it takes each byte that the others leave"
 
 -- the line of it, below a line with this number
 abbrev pub hint_words : ℕ → List ℕ → List ℕ

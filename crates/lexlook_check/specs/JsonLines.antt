@@ -5,13 +5,14 @@ use Rattle.std.specs.List.{concat}
 use Rattle.std.specs.Str.{is_utf8}
 use Rattle.lexre_bytes.specs.RefusalNames.{kind_name}
 use Rattle.lexkit.specs.Faults.{build_words}
-use Rattle.lexlook_check.specs.CheckLines.{full_hint, severity_words, shown_line, what_words}
+use Rattle.lexlook_check.specs.CheckLines.{severity_words, shown_line, what_words, whole_hint}
 use Rattle.lexlook_check.specs.Places.{line_place}
 use Rattle.lexlook_check.specs.SourceLines.{end_of_span, place_in}
+use Rattle.lexlook_check.specs.Takings.{TakenTexts}
 use Rattle.lexlook_check.specs.declared.findings.Finding.{Finding}
 use Rattle.lexlook_check.specs.declared.findings.What.{What}
 use Rattle.lexlook_check.specs.declared.findings.What.TheVariants.{Fault, Limit, Noticed, Warned}
-use Rattle.lexlook_check.specs.declared.notices.NoticeKind.TheVariants.{LettersAsBytes, LetterAlone, Backspace, UnusedDefinition}
+use Rattle.lexlook_check.specs.declared.notices.NoticeKind.TheVariants.{LettersAsBytes, LetterAlone, Backspace, UnusedDefinition, NeverEntered, NeverLeft, DefaultRule}
 use Rattle.lexlook_check.specs.declared.places.SourceFile.{SourceFile}
 
 -- the code point of this number below 256, as an escape
@@ -50,6 +51,9 @@ what_name (Noticed LettersAsBytes) = codes "LettersAsBytes"
 what_name (Noticed LetterAlone) = codes "LetterAlone"
 what_name (Noticed Backspace) = codes "Backspace"
 what_name (Noticed UnusedDefinition) = codes "UnusedDefinition"
+what_name (Noticed NeverEntered) = codes "NeverEntered"
+what_name (Noticed NeverLeft) = codes "NeverLeft"
+what_name (Noticed (DefaultRule byte)) = codes "DefaultRule"
 
 -- the line of a place is told but for the whole
 abbrev pub known_line : ℕ → Option ℕ
@@ -80,7 +84,7 @@ what_fields line what hint =
     ∷ codes "}\n" ∷ [])
 
 -- what was found of a text, as an object
-abbrev pub finding_json : List SourceFile → List ℕ → Finding → List ℕ
-finding_json files text f =
+abbrev pub finding_json : List SourceFile → List ℕ → List TakenTexts → Finding → List ℕ
+finding_json files text ts f =
     let line = shown_line text f in
-    place_fields files line f ++ what_fields line f.what (full_hint text f.what (place_in f.at line) line)
+    place_fields files line f ++ what_fields line f.what (whole_hint files text ts f (place_in f.at line) line)

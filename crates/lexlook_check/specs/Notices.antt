@@ -4,8 +4,11 @@ use Rattle.std.specs.List.{list_any}
 use Rattle.std.specs.Str.{is_utf8}
 use Rattle.lex_semantics.specs.Active.{contains}
 use Rattle.lex_semantics.specs.Reading.{after_blanks, begins, goes_on_name, take_run}
+use Rattle.lex_semantics.specs.Spec.{Spec}
+use Rattle.lexkit.specs.Generated.{lines_of}
 use Rattle.lexlook_text.specs.DefinitionLines.{definition_lines, lines_from}
 use Rattle.lexlook_text.specs.Pieces.{pieces_from}
+use Rattle.lexlook_check.specs.Conditions.{faultless_notices}
 use Rattle.lexlook_check.specs.Unused.{max_looked_for, unused_notices}
 use Rattle.lexlook_check.specs.declared.notices.Notice.{Notice}
 use Rattle.lexlook_check.specs.declared.notices.NoticeKind.{NoticeKind}
@@ -59,7 +62,12 @@ rule_notices lines n = line_notices (slice_get lines (n - 1))
 
 -- of the definitions of a text, and then of its rules, which stand at these lines; then the definitions from the line
 -- `own` on that nothing in the whole text uses
-abbrev pub notices_of : ℕ → List ℕ → List ℕ → List ℕ → List Notice
-notices_of own whole rules text =
+abbrev pub text_notices : ℕ → List ℕ → List ℕ → List ℕ → List Notice
+text_notices own whole rules text =
     flat_map definition_notices (definition_lines text) ++ flat_map (rule_notices (lines_from 1 true text)) rules
     ++ flat_map (unused_notices own whole) (take max_looked_for (definition_lines text))
+
+-- of a text that spells this specification: these, and then those of its conditions
+abbrev pub notices_of : ℕ → Bool → List ℕ → Spec → List (Option ℕ) → List ℕ → List Notice
+notices_of own faultless whole S copied text =
+    text_notices own whole (lines_of S.rules) text ++ faultless_notices faultless S copied text

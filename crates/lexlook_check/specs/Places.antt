@@ -1,6 +1,6 @@
 -- The files of a specification, and where its lines stand. (This project's; POSIX, lex: files are read in order, as
 -- one.)
-use Rattle.std.specs.Prelude.{ℕ, ◌+◌, ◌-◌, ◌==◌, ◌||◌, ◌&&◌, Bool, not, nat_le, if◌then◌else◌, List, [], ◌∷◌, flat_map, length}
+use Rattle.std.specs.Prelude.{ℕ, ◌+◌, ◌-◌, ◌==◌, ◌||◌, ◌&&◌, Bool, not, nat_le, if◌then◌else◌, List, [], ◌∷◌, ◌++◌, flat_map, length, codes, decimal}
 use Rattle.lexspec_lines.specs.Lines.{newlines}
 use Rattle.lexspec_lines.specs.Sections.{ends_line}
 use Rattle.lexlook_check.specs.declared.places.SourceFile.{SourceFile}
@@ -28,3 +28,9 @@ last_text (f ∷ g ∷ fs) = last_text (g ∷ fs)
 -- the line at which the last file begins: what is defined before it is there for others
 abbrev pub own_line : List SourceFile → ℕ
 own_line files = 1 + (newlines (joined_text files) - newlines (last_text files))
+
+-- the file and the line there; of line 0, which is the whole, the file alone
+abbrev pub file_line_words : List SourceFile → ℕ → List ℕ
+file_line_words files n =
+    let place = line_place files n in
+    place.0 ++ (if place.1 == 0 then [] else codes ":" ++ decimal place.1)

@@ -1,5 +1,5 @@
 -- What is written of the files of a specification. (This project's.)
-use Rattle.std.specs.Prelude.{◌≡◌, ℕ, Bool, List, flat_map, Result, Ok, Err}
+use Rattle.std.specs.Prelude.{◌≡◌, ℕ, Bool, List, flat_map, map, Result, Ok, Err}
 use Rattle.lex_io.specs.Sink.{Appended}
 use Rattle.lexspec_lines.specs.Lines.{without_returns}
 use Rattle.lexkit.specs.Failures.{out_of_memory}
@@ -11,6 +11,7 @@ use Rattle.lexlook_check.specs.Checks.{IsChecked, is_well}
 use Rattle.lexlook_check.specs.Findings.{AreInOrder, findings_of, known_lines}
 use Rattle.lexlook_check.specs.JsonLines.{finding_json}
 use Rattle.lexlook_check.specs.Places.{joined_text, own_line}
+use Rattle.lexlook_check.specs.Takings.{TakenTexts, taking_of}
 use Rattle.lexlook_check.specs.declared.checking.Checked.{Checked}
 use Rattle.lexlook_check.specs.declared.error.CheckError.{CheckError}
 use Rattle.lexlook_check.specs.declared.error.CheckError.TheVariants.{OutOfMemory, Write}
@@ -20,9 +21,9 @@ use Rattle.lexlook_check.specs.declared.telling.Form.{Form}
 use Rattle.lexlook_check.specs.declared.telling.Form.TheVariants.{Json, Lines}
 
 -- what was found of a text, as lines or as objects of JSON
-abbrev pub told_bytes : Form → List SourceFile → List ℕ → List Finding → List ℕ
-told_bytes Lines files text findings = flat_map (finding_lines files text) findings
-told_bytes Json files text findings = flat_map (finding_json files text) findings
+abbrev pub told_bytes : Form → List SourceFile → List ℕ → List TakenTexts → List Finding → List ℕ
+told_bytes Lines files text ts findings = flat_map (finding_lines files text ts) findings
+told_bytes Json files text ts findings = flat_map (finding_json files text ts) findings
 
 -- of files these bytes are to be written: all that was found, in order of place
 pub record IsTellingOf (options : Options) (form : Form) (files : List SourceFile) (bytes : List ℕ)
@@ -30,7 +31,8 @@ pub record IsTellingOf (options : Options) (form : Form) (files : List SourceFil
   pub is_checked : IsChecked options (own_line files) (joined_text files) checked
   pub told : List Finding
   pub in_order : AreInOrder (findings_of (known_lines (without_returns (joined_text files))) checked) told
-  pub bytes_are : bytes ≡ told_bytes form files (without_returns (joined_text files)) told
+  pub bytes_are : bytes
+      ≡ told_bytes form files (without_returns (joined_text files)) (map taking_of checked.takings.items) told
 
 -- what was found was written: all of it at `Ok`, a front of it at `Err`
 pub record CheckTold {K : Type 0} (wrote : K → List ℕ → K → Type 0) (options : Options) (form : Form)

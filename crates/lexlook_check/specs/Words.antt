@@ -1,5 +1,5 @@
 -- The word at the place of a fault that has no meaning there, and the nearest one that has. (This project's.)
-use Rattle.std.specs.Prelude.{ℕ, ◌==◌, ◌||◌, if◌then◌else◌, List, [], ◌∷◌, length, drop, Option, Some, None, codes}
+use Rattle.std.specs.Prelude.{ℕ, ◌==◌, ◌||◌, if◌then◌else◌, List, [], ◌∷◌, ◌++◌, length, drop, Option, Some, None, codes, decimal}
 use Rattle.std.specs.List.{concat}
 use Rattle.lexre_bytes.specs.declared.error.PatternErrorKind.{PatternErrorKind}
 use Rattle.lexre_bytes.specs.declared.error.PatternErrorKind.TheVariants.{UndefinedName, UnknownClassName}
@@ -12,7 +12,9 @@ use Rattle.lexlook_text.specs.Known.{action_names, class_words, condition_names,
 use Rattle.lexlook_text.specs.Names.{nearest}
 use Rattle.lexlook_text.specs.declared.definitions.LineKind.TheVariants.{Declaration, Definition}
 use Rattle.lexlook_check.specs.declared.findings.What.{What}
-use Rattle.lexlook_check.specs.declared.findings.What.TheVariants.{Fault}
+use Rattle.lexlook_check.specs.declared.findings.What.TheVariants.{Fault, Noticed}
+use Rattle.lexlook_check.specs.declared.notices.NoticeKind.{NoticeKind}
+use Rattle.lexlook_check.specs.declared.notices.NoticeKind.TheVariants.{DefaultRule, NeverEntered, NeverLeft}
 
 -- how many bytes at the place stand before the word, the words that have a meaning there, and what these are
 abbrev pub Vocabulary : Type 0
@@ -50,7 +52,22 @@ abbrev pub words_by : Option Vocabulary → List ℕ → List ℕ
 words_by None rest = []
 words_by (Some v) rest = word_words v (front_name (drop v.0 rest))
 
+-- the name that begins the text
+abbrev pub named_words : List ℕ → List ℕ
+named_words rest = concat (codes "`" ∷ front_name rest ∷ codes "`: " ∷ [])
+
+abbrev pub copied_words : ℕ → List ℕ
+copied_words byte = concat (codes "the first byte that it copies is " ∷ decimal byte ∷ codes "; " ∷ [])
+
+-- what is said of the name that begins the text, where a condition is warned of
+abbrev pub subject_words : NoticeKind → List ℕ → List ℕ
+subject_words NeverEntered rest = named_words rest
+subject_words NeverLeft rest = named_words rest
+subject_words (DefaultRule byte) rest = named_words rest ++ copied_words byte
+subject_words other rest = []
+
 -- what is said of the word at this place of the line, where one is told
 abbrev pub front_words : List (ℕ × List ℕ) → What → Option ℕ → List ℕ → List ℕ
 front_words lines (Fault kind) (Some at) line = words_by (vocabulary lines kind) (drop at line)
+front_words lines (Noticed kind) (Some at) line = subject_words kind (drop at line)
 front_words lines what at line = []

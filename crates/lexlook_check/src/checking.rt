@@ -1,17 +1,19 @@
 //! What is wrong with a text, and what is warned of.
-ghost use Rattle.std.specs.Prelude.{◌≡◌, ◌≤◌, Some, List, ℕ, IfOk};
+ghost use Rattle.std.specs.Prelude.{◌≡◌, ◌≤◌, ◌==◌, Some, List, ℕ, IfOk, length, map};
 ghost use Rattle.lex_semantics.specs.Limits.{max_positions, max_states};
 ghost use Rattle.lexkit.specs.Headline.{reading};
-ghost use Rattle.lexlook_check.specs.Checks.{IsChecked, is_well};
+ghost use Rattle.lexlook_check.specs.Checks.{AreNoticesOf, IsChecked, has_useless, is_well};
 ghost use Rattle.lexlook_check.specs.Finding.{AreFaultsOf, ReadsSpec, max_faults};
 
+use crate::copies::copied_of;
 use crate::finding::{Found, find_faults};
 use crate::notices::{Notice, notices_of};
 use crate::reader::LexReader;
+use crate::takings::{Taking, takings_in};
 use lexauto::BuildError;
 use lexauto_reports::Warning;
-use lexkit::{GenError, Made, Options, generate_tables};
-use lexspec::{ReadOptions, SpecError};
+use lexkit::{GenError, Made, Options, generate_tables, read_text};
+use lexspec::{ReadOptions, SpecError, one_specification};
 use std::alloc::{AllocError, Global};
 
 /// What is wrong with a text, and what is warned of.
@@ -23,7 +25,9 @@ pub struct Checked {
     pub limit: Option<BuildError>,
     /// The warnings of what is left, where there is neither a hundredth fault nor a limit.
     pub warnings: Vec<Warning>,
-    /// What is warned of beside them there, in definitions first and then in rules: the first 100.
+    /// By which rules the texts of those are taken that cannot be matched, where one is warned of.
+    pub takings: Vec<Taking>,
+    /// What is warned of beside them there, in definitions first, then in rules and then of conditions: the first 100.
     pub notices: Vec<Notice>,
 }
 
@@ -34,6 +38,41 @@ impl Checked {
     {
         self.faults.is_empty() && self.limit.is_none()
     }
+}
+
+/// What is warned of in the text that is left of another, beside what lex warns of.
+fn left_notices(
+    alloc: Global,
+    left: &[u8],
+    options: Options,
+    own: usize,
+    faultless: bool,
+    text: &[u8],
+) -> Result<Vec<Notice>, AllocError>
+    requires few_positions { options.limits.positions ≤ max_positions }
+    requires few_states { options.limits.states ≤ max_states }
+    ensures { IfOk result (λ notices. AreNoticesOf options own faultless text.now left.now notices.items) }
+{
+    one_specification();
+    let copied = copied_of(alloc, faultless, left, options)?;
+    match read_text(alloc, left, options) {
+        Err(_) => Err(AllocError),
+        Ok(spec) => notices_of(alloc, own, faultless, text, &spec, copied.as_slice(), left),
+    }
+}
+
+/// Whether there are no faults.
+fn are_none(faults: &[SpecError]) -> bool
+    ensures { result ≡ (length faults.now == 0) }
+{
+    faults.is_empty()
+}
+
+/// Whether a rule that cannot be matched is warned of.
+fn has_useless(warnings: &[Warning]) -> bool
+    ensures { result ≡ has_useless warnings.now }
+{
+    warnings.iter().any(|warning| !warning.code)
 }
 
 /// What is found of the text that is left where these faults are left out.
@@ -50,19 +89,16 @@ fn check_left(
     requires faults { AreFaultsOf (ReadsSpec (reading options)) max_faults text.now faults.items (Some left.now) }
     ensures { IfOk result (IsChecked options own text.now) }
 {
+    let faultless = are_none(faults.as_slice());
     match generate_tables(alloc, left, options) {
-        Ok(
-            Made {
-                rule_lines,
-                warnings,
-                ..
-            },
-        ) => {
-            let notices = notices_of(alloc, own, text, rule_lines.as_slice(), left)?;
+        Ok(Made { warnings, .. }) => {
+            let takings = takings_in(alloc, has_useless(warnings.as_slice()), left, options)?;
+            let notices = left_notices(alloc, left, options, own, faultless, text)?;
             Ok(Checked {
                 faults,
                 limit: None,
                 warnings,
+                takings,
                 notices,
             })
         }
@@ -71,6 +107,7 @@ fn check_left(
             faults,
             limit: Some(limit),
             warnings: Vec::new(alloc),
+            takings: Vec::new(alloc),
             notices: Vec::new(alloc),
         }),
         Err(GenError::Spec(_)) | Err(GenError::OutOfMemory) => Err(AllocError),
@@ -104,6 +141,7 @@ pub fn check(
             faults,
             limit: None,
             warnings: Vec::new(alloc),
+            takings: Vec::new(alloc),
             notices: Vec::new(alloc),
         }),
     }

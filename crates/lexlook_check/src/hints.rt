@@ -135,6 +135,15 @@ pub(crate) fn notice_hint(kind: NoticeKind) -> &'static str
         NoticeKind::UnusedDefinition => {
             "a definition stands for its pattern where its name is in braces, as `{DIGIT}`"
         }
+        NoticeKind::NeverEntered => {
+            "no BEGIN and no yy_push_state of a rule names it, so no match is made in it"
+        }
+        NoticeKind::NeverLeft => {
+            "no rule that is active in it has BEGIN or yy_push_state of another, yy_pop_state, exit or yyterminate, so it lasts to the end of the input"
+        }
+        NoticeKind::DefaultRule(_) => {
+            "a last rule `.|\\n` of it takes each byte that the others leave"
+        }
     }
 }
 

@@ -1,15 +1,17 @@
 //! What was found as JSON, an object a line.
-ghost use Rattle.std.specs.Prelude.{◌≡◌, ◌++◌, ◌+◌, ◌-◌, ◌<◌, ◌≤◌, ◌^◌, IfOk, IfSome, OnOk, flat_map, length, option_map};
+ghost use Rattle.std.specs.Prelude.{◌≡◌, ◌++◌, ◌+◌, ◌-◌, ◌<◌, ◌≤◌, ◌^◌, IfOk, IfSome, OnOk, flat_map, length, map, option_map};
 ghost use Rattle.lexlook_text.specs.Known.{AreNamesOf};
+ghost use Rattle.lexlook_check.specs.Takings.{taking_of};
 ghost use Rattle.lexlook_check.specs.Findings.{known_lines};
 ghost use Rattle.lexlook_check.specs.JsonLines.{finding_json, hint_fields, json_string, number_field, place_fields, string_byte, string_field, known_line, what_fields, what_name};
 ghost use Rattle.lexlook_check.specs.SourceLines.{end_of_span};
 
 use crate::findings::{Finding, What};
-use crate::lines::{full_hint, severity_text, shown_line, what_text};
+use crate::lines::{severity_text, shown_line, what_text, whole_hint};
 use crate::notices::{NoticeKind, is_utf8};
 use crate::places::{SourceFile, line_place};
 use crate::source::place_in;
+use crate::takings::Taking;
 use itoa::Buffer;
 use lexlook_specs::add;
 use lexlook_text::KnownNames;
@@ -78,6 +80,9 @@ fn what_name(what: What) -> &'static str
         What::Noticed(NoticeKind::LetterAlone) => "LetterAlone",
         What::Noticed(NoticeKind::Backspace) => "Backspace",
         What::Noticed(NoticeKind::UnusedDefinition) => "UnusedDefinition",
+        What::Noticed(NoticeKind::NeverEntered) => "NeverEntered",
+        What::Noticed(NoticeKind::NeverLeft) => "NeverLeft",
+        What::Noticed(NoticeKind::DefaultRule(_)) => "DefaultRule",
         What::Fault(_) | What::Limit(_) => what_text(what),
     }
 }
@@ -174,14 +179,15 @@ fn add_json(
     files: &[SourceFile<'_>],
     whole: &[u8],
     names: &KnownNames,
+    takings: &[Taking],
     finding: Finding,
 ) -> Result<(), AllocError>
     requires { AreNamesOf (known_lines whole.now) names.now }
-    ensures { OnOk result (text.new.items ≡ text.old.items ++ finding_json files.now whole.now finding) }
+    ensures { OnOk result (text.new.items
+        ≡ text.old.items ++ finding_json files.now whole.now (map taking_of takings.now) finding) }
 {
     let line = shown_line(whole, finding);
-    let offset = place_in(finding.at, line);
-    let hint = full_hint(alloc, whole, names, finding.what, offset, line)?;
+    let hint = whole_hint(alloc, files, whole, names, takings, finding, line)?;
     add_place_fields(text, files, line, finding)?;
     add_what_fields(text, line, finding.what, &hint)
 }
@@ -192,14 +198,16 @@ pub(crate) fn told_json(
     files: &[SourceFile<'_>],
     whole: &[u8],
     names: &KnownNames,
+    takings: &[Taking],
     findings: &[Finding],
 ) -> Result<Vec<u8>, AllocError>
     requires { AreNamesOf (known_lines whole.now) names.now }
-    ensures { IfOk result (λ text. text.items ≡ flat_map (finding_json files.now whole.now) findings.now) }
+    ensures { IfOk result (λ text. text.items
+        ≡ flat_map (finding_json files.now whole.now (map taking_of takings.now)) findings.now) }
 {
     let mut text = Vec::new(alloc);
     for finding in findings {
-        add_json(alloc, &mut text, files, whole, names, *finding)?;
+        add_json(alloc, &mut text, files, whole, names, takings, *finding)?;
     }
     Ok(text)
 }

@@ -1,5 +1,6 @@
 //! What is told of a specification; worked examples.
 ghost use Rattle.lexlook_check.specs.Checks.{NothingToldJustOf};
+ghost use Rattle.lexlook_check.specs.ConditionExamples.{ConditionExamples};
 ghost use Rattle.lexlook_check.specs.LeavingExamples.{LeavingExamples};
 ghost use Rattle.lexlook_check.specs.NoticeExamples.{NoticeExamples};
 ghost use Rattle.lexlook_check.specs.WordExamples.{WordExamples};
@@ -21,6 +22,11 @@ pub fn examples_of_leaving()
 /// What is warned of in pieces of patterns, worked by hand.
 pub fn examples_of_notices()
     ensures { NoticeExamples }
+{}
+
+/// Conditions that no action enters, or leaves, worked by hand.
+pub fn examples_of_conditions()
+    ensures { ConditionExamples }
 {}
 
 /// What is said of words that have no meaning, worked by hand.

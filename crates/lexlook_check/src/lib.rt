@@ -5,7 +5,10 @@
 //! - `leaving`: the text in which the lines of a rule are empty.
 //! - `finding`: the faults that a reader answers of a text, each behind that of the text without the rules before.
 //! - `unused`: definitions that no pattern uses.
+//! - `copies`: what the default rule copies in each condition.
+//! - `conditions`: conditions that no action enters, or leaves, and exclusive ones in which the default rule copies.
 //! - `notices`: what is warned of in patterns and definitions, beside what lex warns of.
+//! - `takings`: by which rules the texts of one are taken that cannot be matched.
 //! - `checking`: the faults, the limit that the automaton of what is left passes, and the warnings: `check`.
 //! - `places`: the files, as one text, and in which of them a line stands.
 //! - `source`: the line of a fault as it stands, with a mark under its place.
@@ -34,9 +37,13 @@
 //! - **Warnings of patterns are of the text alone**, by their pieces: the reader keeps no places of what it takes. Which lines
 //!   are rules the reader says.
 //! - **What is left out may be missed elsewhere.** Without the line of a definition each rule that uses the name is at fault.
+//!   Of conditions nothing is told where a rule was left out: it may be the one that enters or leaves them.
+//! - **A condition is warned of at its name**, where it is declared. Its number is that of the condition with this name.
 #![tactic(auto)]
 
 mod checking;
+mod conditions;
+mod copies;
 mod error;
 mod finding;
 mod findings;
@@ -49,6 +56,7 @@ mod notices;
 mod places;
 mod reader;
 mod source;
+mod takings;
 mod telling;
 mod unused;
 mod words;
@@ -56,7 +64,11 @@ mod words;
 pub use checking::{Checked, check};
 pub use error::CheckError;
 pub use finding::MAX_FAULTS;
-pub use laws::{examples_of_leaving, examples_of_notices, examples_of_words, nothing_told};
+pub use laws::{
+    examples_of_conditions, examples_of_leaving, examples_of_notices, examples_of_words,
+    nothing_told,
+};
 pub use notices::{Notice, NoticeKind};
 pub use places::SourceFile;
+pub use takings::Taking;
 pub use telling::{Form, tell_check};

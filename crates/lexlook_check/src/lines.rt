@@ -1,16 +1,20 @@
 //! The lines of what was found.
-ghost use Rattle.std.specs.Prelude.{◌≡◌, ◌++◌, ◌<◌, ◌-◌, ◌^◌, IfOk, IfSome, OnOk, flat_map, option_map};
+ghost use Rattle.std.specs.Prelude.{◌≡◌, ◌++◌, ◌<◌, ◌-◌, ◌^◌, IfOk, IfSome, OnOk, flat_map, map, option_map};
 ghost use Rattle.lexauto_reports.specs.ReportLines.{warning_words};
 ghost use Rattle.lexkit.specs.Faults.{build_words};
 ghost use Rattle.lexlook_text.specs.Known.{AreNamesOf};
 ghost use Rattle.lexlook_check.specs.Findings.{known_lines};
-ghost use Rattle.lexlook_check.specs.CheckLines.{column_words, detail_words, file_line_words, finding_lines, full_hint, head_words, hint_of, notice_words, severity_words, shown_line, what_words};
+ghost use Rattle.lexlook_check.specs.CheckLines.{column_words, detail_words, finding_lines, full_hint, head_words, hint_of, notice_words, severity_words, shown_line, what_words, whole_hint};
+ghost use Rattle.lexlook_check.specs.Places.{file_line_words};
+ghost use Rattle.lexlook_check.specs.SourceLines.{place_in};
+ghost use Rattle.lexlook_check.specs.Takings.{is_useless, taking_of};
 
 use crate::findings::{Finding, What};
 use crate::hints::{add_hint, definition_hint, notice_hint};
 use crate::notices::NoticeKind;
 use crate::places::{SourceFile, line_place};
 use crate::source::{add_source, place_in, text_line};
+use crate::takings::{Taking, add_taken, taking_for};
 use crate::words::add_front;
 use itoa::Buffer;
 use lexauto::BuildError;
@@ -19,7 +23,11 @@ use lexlook_text::KnownNames;
 use std::alloc::{AllocError, Global};
 
 /// Appends the file in which a line stands, and its number there. Line 0 is the whole of the first file.
-fn add_place(text: &mut Vec<u8>, files: &[SourceFile<'_>], line: u32) -> Result<(), AllocError>
+pub(crate) fn add_place(
+    text: &mut Vec<u8>,
+    files: &[SourceFile<'_>],
+    line: u32,
+) -> Result<(), AllocError>
     ensures { OnOk result (text.new.items ≡ text.old.items ++ file_line_words files.now line) }
 {
     let place = line_place(files, line);
@@ -77,6 +85,9 @@ fn notice_text(kind: NoticeKind) -> &'static str
         NoticeKind::LetterAlone => "letter behind a backslash",
         NoticeKind::Backspace => "backspace by its escape",
         NoticeKind::UnusedDefinition => "definition that no pattern uses",
+        NoticeKind::NeverEntered => "condition that no action enters",
+        NoticeKind::NeverLeft => "condition that no action leaves",
+        NoticeKind::DefaultRule(_) => "default rule in an exclusive condition",
     }
 }
 
@@ -175,14 +186,56 @@ fn add_head(
     add(text, b"\n")
 }
 
+/// Whether it is a rule that cannot be matched.
+fn is_useless(what: What) -> bool
+    ensures { result ≡ is_useless what }
+{
+    match what {
+        What::Warned(code) => !code,
+        _ => false,
+    }
+}
+
 /// The line of what was found, where it is shown.
 pub(crate) fn shown_line(text: &[u8], finding: Finding) -> &[u8]
     ensures { result.now ≡ shown_line text.now finding }
 {
-    if hint_of(finding.what).is_none() {
+    if hint_of(finding.what).is_none() && !is_useless(finding.what) {
         return b"";
     }
     text_line(text, finding.line)
+}
+
+/// What is expected where something was found in this line of a text, which has these names. Of a rule that cannot be
+/// matched it is by which its texts are taken.
+pub(crate) fn whole_hint(
+    alloc: Global,
+    files: &[SourceFile<'_>],
+    whole: &[u8],
+    names: &KnownNames,
+    takings: &[Taking],
+    finding: Finding,
+    line: &[u8],
+) -> Result<Option<Vec<u8>>, AllocError>
+    requires { AreNamesOf (known_lines whole.now) names.now }
+    ensures { IfOk result (λ hint. option_map (λ h. h.items) hint
+        ≡ whole_hint files.now whole.now (map taking_of takings.now) finding (place_in finding.at line.now) line.now) }
+{
+    match taking_for(takings, finding) {
+        None => full_hint(
+            alloc,
+            whole,
+            names,
+            finding.what,
+            place_in(finding.at, line),
+            line,
+        ),
+        Some(taking) => {
+            let mut text = Vec::new(alloc);
+            add_taken(&mut text, files, taking)?;
+            Ok(Some(text))
+        }
+    }
 }
 
 /// Appends the lines of what was found of a text, which has these names.
@@ -192,15 +245,17 @@ fn add_finding(
     files: &[SourceFile<'_>],
     whole: &[u8],
     names: &KnownNames,
+    takings: &[Taking],
     finding: Finding,
 ) -> Result<(), AllocError>
     requires { AreNamesOf (known_lines whole.now) names.now }
-    ensures { OnOk result (text.new.items ≡ text.old.items ++ finding_lines files.now whole.now finding) }
+    ensures { OnOk result (text.new.items
+        ≡ text.old.items ++ finding_lines files.now whole.now (map taking_of takings.now) finding) }
 {
     let line = shown_line(whole, finding);
     let offset = place_in(finding.at, line);
     let number = line_place(files, finding.line).line;
-    let hint = full_hint(alloc, whole, names, finding.what, offset, line)?;
+    let hint = whole_hint(alloc, files, whole, names, takings, finding, line)?;
     add_head(text, files, finding, offset)?;
     add_details(text, number, line, offset, &hint)
 }
@@ -211,14 +266,16 @@ pub(crate) fn told_lines(
     files: &[SourceFile<'_>],
     whole: &[u8],
     names: &KnownNames,
+    takings: &[Taking],
     findings: &[Finding],
 ) -> Result<Vec<u8>, AllocError>
     requires { AreNamesOf (known_lines whole.now) names.now }
-    ensures { IfOk result (λ text. text.items ≡ flat_map (finding_lines files.now whole.now) findings.now) }
+    ensures { IfOk result (λ text. text.items
+        ≡ flat_map (finding_lines files.now whole.now (map taking_of takings.now)) findings.now) }
 {
     let mut text = Vec::new(alloc);
     for finding in findings {
-        add_finding(alloc, &mut text, files, whole, names, *finding)?;
+        add_finding(alloc, &mut text, files, whole, names, takings, *finding)?;
     }
     Ok(text)
 }

@@ -3,13 +3,17 @@ ghost use Rattle.std.specs.Prelude.{◌≡◌, ◌≤◌, ◌<◌, ◌+◌, ◌^
 ghost use Rattle.std.specs.List.{list_any};
 ghost use Rattle.std.specs.Str.{is_utf8};
 ghost use Rattle.lex_semantics.specs.Limits.{max_file_bytes};
+ghost use Rattle.lexspec.specs.Views.{spec_of};
 ghost use Rattle.lexlook_text.specs.LineViews.{line_of};
 ghost use Rattle.lexlook_text.specs.PieceViews.{piece_of};
-ghost use Rattle.lexlook_check.specs.Notices.{definition_notices, escapes_letter, has_letters, max_notices, notice_of, notices_of, pattern_notices, piece_notices, rule_notices};
+ghost use Rattle.lexlook_check.specs.Notices.{definition_notices, escapes_letter, has_letters, max_notices, notice_of, notices_of, pattern_notices, piece_notices, rule_notices, text_notices};
 
+use crate::conditions::add_conditions;
 use crate::unused::add_unused;
+use lexkit::lines_of as rule_lines;
 use lexlook_text::{Line, LineKind, Piece, lines_of, pieces_of, section_lines};
 use lexre_bytes::split_name;
+use lexspec::Spec;
 use lexspec_lines::skip_blanks;
 use std::alloc::{AllocError, Global};
 
@@ -24,6 +28,12 @@ pub enum NoticeKind {
     Backspace,
     /// A definition whose name stands in braces nowhere.
     UnusedDefinition,
+    /// A condition that no action enters.
+    NeverEntered,
+    /// A condition that no action leads out of.
+    NeverLeft,
+    /// An exclusive condition in which the default rule copies bytes, of which this is the first.
+    DefaultRule(u8),
 }
 
 /// A place of a specification, and what is warned of there.
@@ -197,8 +207,8 @@ const MAX_NOTICES: usize = 100;
 const MAX_LOOKED_FOR: usize = 1000;
 
 /// What is warned of in the definitions of a text, and then in its rules, which stand at these lines. Then those of its
-/// definitions from the line `own` on that nothing in `whole` uses. Of all these the first 100.
-pub(crate) fn notices_of(
+/// definitions from the line `own` on that nothing in `whole` uses.
+fn text_notices(
     alloc: Global,
     own: usize,
     whole: &[u8],
@@ -206,7 +216,7 @@ pub(crate) fn notices_of(
     text: &[u8],
 ) -> Result<Vec<Notice>, AllocError>
     requires { length text.now ≤ max_file_bytes }
-    ensures { IfOk result (λ notices. notices.items ≡ take max_notices (notices_of own whole.now rules.now text.now)) }
+    ensures { IfOk result (λ notices. notices.items ≡ text_notices own whole.now rules.now text.now) }
 {
     let lines = lines_of(alloc, text)?;
     let mut definitions = section_lines(alloc, LineKind::Definition, lines.as_slice())?;
@@ -215,6 +225,28 @@ pub(crate) fn notices_of(
     add_all_rule_notices(alloc, &mut notices, lines.as_slice(), rules)?;
     definitions.truncate(MAX_LOOKED_FOR);
     add_unused(&mut notices, own, whole, definitions.as_slice())?;
+    Ok(notices)
+}
+
+/// What is warned of in a text, which spells this specification, beside what lex warns of: in its definitions first, then
+/// in its rules, and then of definitions from the line `own` on that nothing in `whole` uses. Where nothing is left out of
+/// the text, its conditions come last. Of all these the first 100.
+pub(crate) fn notices_of(
+    alloc: Global,
+    own: usize,
+    faultless: bool,
+    whole: &[u8],
+    spec: &Spec,
+    copied: &[Option<u8>],
+    text: &[u8],
+) -> Result<Vec<Notice>, AllocError>
+    requires { length text.now ≤ max_file_bytes }
+    ensures { IfOk result (λ notices. notices.items
+        ≡ take max_notices (notices_of own faultless whole.now (spec_of spec.now) copied.now text.now)) }
+{
+    let rules = rule_lines(alloc, spec.rules())?;
+    let mut notices = text_notices(alloc, own, whole, rules.as_slice(), text)?;
+    add_conditions(alloc, &mut notices, faultless, spec, copied, text)?;
     notices.truncate(MAX_NOTICES);
     Ok(notices)
 }

@@ -1,8 +1,9 @@
 //! What is written of the files of a specification.
-ghost use Rattle.std.specs.Prelude.{◌≡◌, ◌≤◌, ◌<◌, ◌+◌, ◌-◌, ◌^◌, IfOk};
+ghost use Rattle.std.specs.Prelude.{◌≡◌, ◌≤◌, ◌<◌, ◌+◌, ◌-◌, ◌^◌, IfOk, map};
 ghost use Rattle.lex_semantics.specs.Limits.{max_positions, max_states};
 ghost use Rattle.lexlook_text.specs.Known.{AreNamesOf};
 ghost use Rattle.lexlook_check.specs.Findings.{known_lines};
+ghost use Rattle.lexlook_check.specs.Takings.{taking_of};
 ghost use Rattle.lexlook_check.specs.Telling.{IsTellingOf, TellsCheck, check_fault_count, told_bytes};
 
 use crate::checking::{Checked, check};
@@ -11,6 +12,7 @@ use crate::findings::{Finding, findings_in_order, known_lines};
 use crate::json::told_json;
 use crate::lines::told_lines;
 use crate::places::{SourceFile, joined_text, own_line};
+use crate::takings::Taking;
 use lexkit::{Options, Sink};
 use lexlook_text::{KnownNames, names_of};
 use lexspec_lines::without_returns;
@@ -41,14 +43,16 @@ fn told_bytes(
     files: &[SourceFile<'_>],
     whole: &[u8],
     names: &KnownNames,
+    takings: &[Taking],
     findings: &[Finding],
 ) -> Result<Vec<u8>, AllocError>
     requires { AreNamesOf (known_lines whole.now) names.now }
-    ensures { IfOk result (λ bytes. bytes.items ≡ told_bytes form files.now whole.now findings.now) }
+    ensures { IfOk result (λ bytes. bytes.items
+        ≡ told_bytes form files.now whole.now (map taking_of takings.now) findings.now) }
 {
     match form {
-        Form::Lines => told_lines(alloc, files, whole, names, findings),
-        Form::Json => told_json(alloc, files, whole, names, findings),
+        Form::Lines => told_lines(alloc, files, whole, names, takings, findings),
+        Form::Json => told_json(alloc, files, whole, names, takings, findings),
     }
 }
 
@@ -76,6 +80,7 @@ fn telling_of(
         files,
         whole.as_slice(),
         &names,
+        checked.takings.as_slice(),
         findings.as_slice(),
     )?;
     Ok(Telling { bytes, checked })

@@ -2,9 +2,11 @@
 ghost use Rattle.std.specs.Prelude.{◌≡◌, ◌++◌, ℕ, List, OnOk, option_map};
 ghost use Rattle.lexlook_text.specs.Known.{AreNamesOf};
 ghost use Rattle.lexlook_check.specs.WordViews.{vocabulary_of};
-ghost use Rattle.lexlook_check.specs.Words.{front_words, near_words, pattern_vocabulary, vocabulary, word_words, words_by};
+ghost use Rattle.lexlook_check.specs.Words.{copied_words, front_words, named_words, near_words, pattern_vocabulary, subject_words, vocabulary, word_words, words_by};
 
 use crate::findings::What;
+use crate::notices::NoticeKind;
+use itoa::Buffer;
 use lexlook_specs::add;
 use lexlook_text::{CLASSES, KnownNames, OPTIONS, has_word, nearest};
 use lexre_bytes::split_name;
@@ -110,6 +112,39 @@ fn add_met(text: &mut Vec<u8>, words: Option<KnownWords<'_>>, rest: &[u8]) -> Re
     }
 }
 
+/// Appends the name that begins the text.
+fn add_named(text: &mut Vec<u8>, rest: &[u8]) -> Result<(), AllocError>
+    ensures { OnOk result (text.new.items ≡ text.old.items ++ named_words rest.now) }
+{
+    add(text, b"`")?;
+    add(text, split_name(rest).0)?;
+    add(text, b"`: ")
+}
+
+/// Appends which byte the default rule copies first.
+fn add_copied(text: &mut Vec<u8>, byte: u8) -> Result<(), AllocError>
+    ensures { OnOk result (text.new.items ≡ text.old.items ++ copied_words byte) }
+{
+    let mut digits = Buffer::new();
+    add(text, b"the first byte that it copies is ")?;
+    add(text, digits.format(byte).as_bytes())?;
+    add(text, b"; ")
+}
+
+/// Appends what is said of the name that begins the text, where a condition is warned of.
+fn add_subject(text: &mut Vec<u8>, kind: NoticeKind, rest: &[u8]) -> Result<(), AllocError>
+    ensures { OnOk result (text.new.items ≡ text.old.items ++ subject_words kind rest.now) }
+{
+    match kind {
+        NoticeKind::NeverEntered | NoticeKind::NeverLeft => add_named(text, rest),
+        NoticeKind::DefaultRule(byte) => {
+            add_named(text, rest)?;
+            add_copied(text, byte)
+        }
+        _ => add(text, b""),
+    }
+}
+
 /// Appends what is said of the word at this place of the line, where one is told.
 pub(crate) fn add_front(
     text: &mut Vec<u8>,
@@ -128,6 +163,10 @@ pub(crate) fn add_front(
                 let rest = line.get(at..).unwrap_or(b"");
                 add_met(text, vocabulary(names, kind), rest)
             }
+        },
+        What::Noticed(kind) => match at {
+            None => add(text, b""),
+            Some(at) => add_subject(text, kind, line.get(at..).unwrap_or(b"")),
         },
         _ => add(text, b""),
     }

@@ -9,3 +9,5 @@ pub mod Led
 pub mod Places
 pub mod Told
 pub mod Rejected
+pub mod MatchesAlike
+pub mod FitsAlike

@@ -125,7 +125,7 @@ module _ (p : Parts) (a : IsAutomaton p) (rejects : List Bool) where
     }
 
   -- a text that is copied begins with a byte that is given up
-  copied_byte : (c : ℕ) (line : Bool) (x : ℕ) (v : List ℕ) → IsCopied (matches_in p rejects) c line (x ∷ v) → MeetsAfter p rejects (x ∷ []) Copies c line
+  pub copied_byte : (c : ℕ) (line : Bool) (x : ℕ) (v : List ℕ) → IsCopied (matches_in p rejects) c line (x ∷ v) → MeetsAfter p rejects (x ∷ []) Copies c line
   copied_byte c line x v copied = (given_up_is c line (x ∷ [])).0 (subst (IsGivenUp (matches_in p rejects) c line) (let e : take 1 (x ∷ v) ≡ x ∷ [] = refl in e) (copied 1 (omega arith) (omega arith)))
 
   pub no_copied : ((b : ℕ) → b < 256 → IsFirstStart p rejects (b ∷ []) Copies (conditions p) None) → TellsDefault (matches_in p rejects) None
@@ -135,7 +135,7 @@ module _ (p : Parts) (a : IsAutomaton p) (rejects : List Bool) where
       no c line [] h copied = let s = h.some in omega (arith, s)
       no c line (x ∷ v) h copied = none x h.text.0 c line h.condition (copied_byte c line x v copied)
 
-  one_byte : (c b : ℕ) (line : Bool) → MeetsAfter p rejects (b ∷ []) Copies c line → IsCopied (matches_in p rejects) c line (b ∷ [])
+  pub one_byte : (c b : ℕ) (line : Bool) → MeetsAfter p rejects (b ∷ []) Copies c line → IsCopied (matches_in p rejects) c line (b ∷ [])
   one_byte c b line m = λ n some few. (let e : n ≡ 1 = omega (arith, some, few) in subst (λ k. IsGivenUp (matches_in p rejects) c line (take k (b ∷ []))) (sym e) ((given_up_is c line (b ∷ [])).1 m))
 
   pub first_copied : (b : ℕ) (x : Start) (q : ShownText) → b < 256 → ((d : ℕ) → d < b → IsFirstStart p rejects (d ∷ []) Copies (conditions p) None)

@@ -7,5 +7,6 @@ pub mod Lines
 pub mod TraceLaw
 pub mod Matches
 pub mod Words
+pub mod Copied
 pub mod Placing
 pub mod Rejecting

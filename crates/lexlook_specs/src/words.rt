@@ -9,4 +9,5 @@ mod starting;
 mod taking;
 
 pub use actions::{rejecting, rejects_of};
+pub use copying::copied_bytes;
 pub use finding::{ShownText, Word, Words, find_words};

@@ -1,2 +1,3 @@
 pub mod PieceLaws
 pub mod NameLaws
+pub mod ScanLaws

@@ -4,7 +4,10 @@ pub mod Pieces
 pub mod PieceViews
 pub mod Names
 pub mod Known
+pub mod DeclaredNames
 pub mod Scan
 pub mod WordViews
+pub mod Opened
+pub mod Formats
 pub mod Spots
 pub mod PieceExamples

@@ -1,8 +1,9 @@
 -- Pieces of patterns, lines of definitions, names that are near, and words that have no meaning, worked by hand.
 use Rattle.std.specs.Prelude.{◌≡◌, ℕ, List, [], ◌∷◌, Option, Some, None, codes, map, option_map, true}
 use Rattle.lexre_bytes.specs.declared.refusals.SpecErrorKind.{SpecErrorKind}
-use Rattle.lexre_bytes.specs.declared.refusals.SpecErrorKind.TheVariants.{BadCount, UnknownCondition, UnknownStatement, UnsupportedOption}
+use Rattle.lexre_bytes.specs.declared.refusals.SpecErrorKind.TheVariants.{BadCount, LessAndMore, Unclosed, UnknownCondition, UnknownStatement, UnsupportedOption}
 use Rattle.lexlook_text.specs.DefinitionLines.{definition_lines, lines_from, section_lines}
+use Rattle.lexlook_text.specs.DeclaredNames.{declared_conditions}
 use Rattle.lexlook_text.specs.Known.{argument_names, condition_names}
 use Rattle.lexlook_text.specs.Names.{nearest, unlike}
 use Rattle.lexlook_text.specs.Pieces.{behind_pattern, pieces_from}
@@ -20,6 +21,9 @@ pub record PieceExamples : Type 0 where
   -- the conditions of a text, of which those in a block are none
   pub conditions : condition_names (section_lines Declaration
       (lines_from 1 true (codes "%{\n%s A\n%}\n%x B C\n%option stack\n%s D\n%%\n%x E\n"))) ≡ codes "INITIAL  B C  D "
+  -- the same with their lines and places there
+  pub declared : declared_conditions (lines_from 1 true (codes "%{\n%s A\n%}\n%x B  CD\n%option stack\n%%\n%x E\n"))
+      ≡ (4, 3, codes "B") ∷ (4, 6, codes "CD") ∷ []
 
 pub record NameExamples : Type 0 where
   -- a name that goes on, one with other letters, one with a letter twice, and two letters that changed places
@@ -51,6 +55,16 @@ pub record SpotExamples : Type 0 where
   pub ends : Finds UnknownStatement (codes "a  printf()\nb foo();\n") (Some (3, 3, 1))
   -- a statement whose words are known
   pub count : Finds BadCount (codes "a ECHO; yyless(0);\n") (Some (3, 8, 6))
+  -- the second of two
+  pub second : Finds LessAndMore (codes "a yyless(1); yymore();\n") (Some (3, 13, 6))
+  -- in a format: `%d`, and a second `%s`; not in another string
+  pub format : Finds UnknownStatement (codes "a puts(\"%d\"); printf(\"%%d%d\");\n") (Some (3, 25, 2))
+  pub twice : Finds UnknownStatement (codes "a printf(\"%s %s\", yytext);\n") (Some (3, 13, 2))
+  -- what has no end: a brace, the outermost of two, a string in one, a comment, and a block
+  pub brace : Finds Unclosed (codes "a { \"}\"; /* } */ { }\nb ;\n") (Some (3, 2, 1))
+  pub string : Finds Unclosed (codes "a { puts(\"}\\\"b);\n puts(\"c\"); }\n") (Some (3, 9, 1))
+  pub comment : Finds Unclosed (codes "a { ; } /* \"\nb ;\n") (Some (3, 8, 2))
+  pub block : Finds Unclosed (codes "%{\n\"\n") (Some (3, 0, 2))
   -- in the list of a rule, and in its action
   pub listed : Finds UnknownCondition (codes "<A,B>c ;\n") (Some (3, 3, 1))
   pub begun : Finds UnknownCondition (codes "<A>c BEGIN(B);\n") (Some (3, 11, 1))

@@ -1,5 +1,5 @@
 -- The first name of a text that is not among some words, outside of strings and comments. (POSIX, lex, Rules in lex.)
-use Rattle.std.specs.Prelude.{ℕ, suc, ◌-◌, ◌==◌, ◌&&◌, ◌||◌, Bool, true, false, not, if◌then◌else◌, List, [], ◌∷◌, length, Option, Some, None}
+use Rattle.std.specs.Prelude.{ℕ, suc, ◌-◌, ◌==◌, ◌&&◌, ◌||◌, Bool, true, false, not, if◌then◌else◌, List, [], ◌∷◌, length, Option, Some, None, is_none}
 use Rattle.std.specs.Option.{option_or}
 use Rattle.lex_semantics.specs.Reading.{goes_on_name, starts_name}
 use Rattle.lexspec_lines.specs.DefinitionLines.{has_name}
@@ -67,8 +67,18 @@ unknown_at known c b text =
     if not (begins_name c b) || is_among known (front_name text) then None
     else Some (record { line = c.line; at = c.at; size = length (front_name text) })
 
--- the first of a text
-abbrev pub unknown_from : List ℕ × List ℕ → Cursor → List ℕ → Option Spot
-unknown_from known c [] = None
-unknown_from known c (b ∷ t) =
-    if ends_scan c b then None else option_or (unknown_at known c b (b ∷ t)) (unknown_from known (past c b) t)
+-- the one that is met, where no more are to be passed over
+abbrev pub met_last : Option Spot → ℕ → Option Spot
+met_last met n = if n == 0 then met else None
+
+-- so many more are to be passed over behind it
+abbrev pub others_behind : Option Spot → ℕ → ℕ
+others_behind met n = if is_none met then n else n - 1
+
+-- the first of a text, but for n before it
+abbrev pub unknown_from : List ℕ × List ℕ → ℕ → Cursor → List ℕ → Option Spot
+unknown_from known n c [] = None
+unknown_from known n c (b ∷ t) =
+    if ends_scan c b then None
+    else let met = unknown_at known c b (b ∷ t) in
+    option_or (met_last met n) (unknown_from known (others_behind met n) (past c b) t)

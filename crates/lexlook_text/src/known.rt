@@ -41,7 +41,7 @@ const STACK: &[u8] = b"yy_push_state yy_pop_state ";
 const NOTHING: &[u8] = b"";
 
 /// The words that declare conditions.
-const DECLARING: &[u8] = b"%s %S %start %Start %x %X";
+pub(crate) const DECLARING: &[u8] = b"%s %S %start %Start %x %X";
 
 /// Appends what the line that begins the text has behind its first word, where that is one of these.
 fn add_declared(names: &mut Vec<u8>, firsts: &[u8], text: &[u8]) -> Result<(), AllocError>

@@ -1,14 +1,14 @@
 //! The first name of a text that has no meaning there, outside of strings and comments. (POSIX, lex, Rules in lex.)
 ghost use Rattle.std.specs.Prelude.{◌≡◌, ◌<◌, ◌+◌, ◌^◌, length};
 ghost use Rattle.lexlook_text.specs.WordViews.{words_of};
-ghost use Rattle.lexlook_text.specs.Scan.{begins_name, depth_behind, ends_scan, ends_there, is_among, is_code, past, place_behind, start_at, unknown_at, unknown_from};
+ghost use Rattle.lexlook_text.specs.Scan.{begins_name, depth_behind, ends_scan, ends_there, is_among, is_code, met_last, others_behind, past, place_behind, start_at, unknown_at, unknown_from};
 
 use crate::names::has_word;
 use lexre_bytes::{goes_on_name, split_name, starts_name};
 
 /// Where a byte stands.
 #[derive(Clone, Copy)]
-enum Place {
+pub(crate) enum Place {
     /// Outside of strings and comments.
     Outside,
     /// Behind a slash there.
@@ -29,15 +29,15 @@ enum Place {
 #[derive(Clone, Copy)]
 pub(crate) struct Cursor {
     /// What the next byte stands in.
-    place: Place,
+    pub(crate) place: Place,
     /// Whether no byte of a name stands before it.
     fresh: bool,
     /// How many braces are open.
-    depth: usize,
+    pub(crate) depth: usize,
     /// Its line.
-    line: u32,
+    pub(crate) line: u32,
     /// How many bytes of that stand before it.
-    at: usize,
+    pub(crate) at: usize,
 }
 
 /// Where a word stands.
@@ -71,7 +71,7 @@ impl Words<'_> {
 
 impl Place {
     /// Where the byte behind this one stands.
-    fn behind(self, byte: u8) -> Place
+    pub(crate) fn behind(self, byte: u8) -> Place
         ensures { result ≡ place_behind self byte }
     {
         match self {
@@ -109,7 +109,7 @@ impl Place {
     }
 
     /// Whether it is outside of strings and comments.
-    fn is_code(self) -> bool
+    pub(crate) fn is_code(self) -> bool
         ensures { result ≡ is_code self }
     {
         matches!(self, Place::Outside | Place::Slash)
@@ -153,7 +153,7 @@ impl Cursor {
     }
 
     /// Behind the byte.
-    fn past(self, byte: u8) -> Cursor
+    pub(crate) fn past(self, byte: u8) -> Cursor
         requires depth { self.depth + 1 < 2 ^ 64 }
         requires line { self.line + 1 < 2 ^ 32 }
         requires at { self.at + 1 < 2 ^ 64 }
@@ -172,14 +172,14 @@ impl Cursor {
     }
 
     /// Whether the byte is the newline that ends the scan.
-    fn ends_scan(self, byte: u8) -> bool
+    pub(crate) fn ends_scan(self, byte: u8) -> bool
         ensures { result ≡ ends_scan self byte }
     {
         byte == b'\n' && self.depth == 0 && self.place.ends_there()
     }
 
     /// Whether a name begins with the byte.
-    fn begins_name(self, byte: u8) -> bool
+    pub(crate) fn begins_name(self, byte: u8) -> bool
         ensures { result ≡ begins_name self byte }
     {
         self.place.is_code() && self.fresh && starts_name(byte)
@@ -201,23 +201,49 @@ impl Cursor {
     }
 }
 
-/// The first name of a text that is not among these words, outside of strings and comments, up to the first newline outside
-/// of braces too. The text begins at this place.
-pub(crate) fn first_unknown(known: Words<'_>, start: Cursor, text: &[u8]) -> Option<Spot>
+/// The one that is met, where no more are to be passed over.
+fn met_last(met: Option<Spot>, others: usize) -> Option<Spot>
+    ensures { result ≡ met_last met others }
+{
+    if others == 0 { met } else { None }
+}
+
+/// How many more are to be passed over behind it.
+fn others_behind(met: Option<Spot>, others: usize) -> usize
+    ensures { result ≡ others_behind met others }
+{
+    if met.is_none() {
+        others
+    } else {
+        others.saturating_sub(1)
+    }
+}
+
+/// The first name of a text that is not among these words, but for so many before it: outside of strings and comments, up
+/// to the first newline outside of braces too. The text begins at this place.
+pub(crate) fn unknown_behind(
+    known: Words<'_>,
+    others: usize,
+    start: Cursor,
+    text: &[u8],
+) -> Option<Spot>
     requires depth { start.depth + length text.now < 2 ^ 64 }
     requires line { start.line + length text.now < 2 ^ 32 }
     requires at { start.at + length text.now < 2 ^ 64 }
-    ensures { result ≡ unknown_from (words_of known.entry) start text.now }
+    ensures { result ≡ unknown_from (words_of known.entry) others start text.now }
 {
     let mut cursor = start;
     let mut rest = text;
+    let mut left = others;
     'bytes: while let Some((first, next)) = rest.split_first() {
         if cursor.ends_scan(*first) {
             return None;
         }
-        if let Some(spot) = cursor.unknown_at(known, *first, rest) {
+        let met = cursor.unknown_at(known, *first, rest);
+        if let Some(spot) = met_last(met, left) {
             return Some(spot);
         }
+        left = others_behind(met, left);
         cursor = cursor.past(*first);
         rest = next;
     }

@@ -2,27 +2,29 @@
 ghost use Rattle.std.specs.Prelude.{◌≡◌, ◌≤◌, ◌+◌, length, option_map};
 ghost use Rattle.lex_semantics.specs.Limits.{max_file_bytes};
 ghost use Rattle.lexlook_text.specs.LineViews.{line_of};
-ghost use Rattle.lexlook_text.specs.Spots.{action_spot, condition_spot, first_spot, kind_spot, listed_spot, option_spot, sound_words, spot_behind, spot_of, statement_spot};
+ghost use Rattle.lexlook_text.specs.Spots.{action_spot, condition_spot, first_spot, kind_spot, listed_spot, option_spot, other_spot, others_before, sound_words, spot_behind, spot_of, statement_spot};
 ghost use Rattle.lexlook_text.specs.WordViews.{words_of};
 
 use crate::definitions::Line;
+use crate::formats::format_spot;
 use crate::known::{KnownNames, OPTIONS, STATEMENTS};
 use crate::names::split_word;
+use crate::opened::unclosed_spot;
 use crate::pieces::behind_pattern;
 pub use crate::scan::Spot;
-use crate::scan::{Cursor, Words, first_unknown};
+use crate::scan::{Cursor, Words, unknown_behind};
 use lex_semantics::MAX_FILE_BYTES;
 use lexre_bytes::{SpecErrorKind, skip_first};
 use lexspec_lines::{skip_blanks, split_before};
 
-/// The first name that is not among these words, from a rest of the text of a line on.
-fn spot_behind(known: Words<'_>, line: Line<'_>, rest: &[u8]) -> Option<Spot>
+/// The first name that is not among these words, from a rest of the text of a line on, but for so many before it.
+fn spot_behind(known: Words<'_>, others: usize, line: Line<'_>, rest: &[u8]) -> Option<Spot>
     requires few { line.number + length line.text.now ≤ max_file_bytes + 1 }
     requires rest { length rest.now ≤ length line.text.now }
-    ensures { result ≡ spot_behind (words_of known.entry) (line_of line.entry) rest.now }
+    ensures { result ≡ spot_behind (words_of known.entry) others (line_of line.entry) rest.now }
 {
     let at = line.text.len().saturating_sub(rest.len());
-    first_unknown(known, Cursor::start_at(line.number, at), rest)
+    unknown_behind(known, others, Cursor::start_at(line.number, at), rest)
 }
 
 /// The first word of a line of options that is none.
@@ -34,7 +36,7 @@ fn option_spot(line: Line<'_>) -> Option<Spot>
         some: OPTIONS,
         others: NOTHING,
     };
-    spot_behind(known, line, split_word(line.text).1)
+    spot_behind(known, 0, line, split_word(line.text).1)
 }
 
 /// The first name in the condition list of a rule that is none of these.
@@ -50,15 +52,15 @@ fn listed_spot(conditions: &[u8], line: Line<'_>) -> Option<Spot>
         some: conditions,
         others: NOTHING,
     };
-    first_unknown(known, Cursor::start_at(line.number, 1), list)
+    unknown_behind(known, 0, Cursor::start_at(line.number, 1), list)
 }
 
-/// The first name in the action of a rule that is not among these words.
-fn action_spot(known: Words<'_>, line: Line<'_>) -> Option<Spot>
+/// The first name in the action of a rule that is not among these words, but for so many before it.
+fn action_spot(known: Words<'_>, others: usize, line: Line<'_>) -> Option<Spot>
     requires { line.number + length line.text.now ≤ max_file_bytes + 1 }
-    ensures { result ≡ action_spot (words_of known.entry) (line_of line.entry) }
+    ensures { result ≡ action_spot (words_of known.entry) others (line_of line.entry) }
 {
-    spot_behind(known, line, behind_pattern(line.text))
+    spot_behind(known, others, line, behind_pattern(line.text))
 }
 
 /// The first byte of the action of a rule.
@@ -73,9 +75,23 @@ fn first_spot(line: Line<'_>) -> Spot
     }
 }
 
+/// What of a format in the action is not read, or else its first byte.
+fn other_spot(line: Line<'_>) -> Spot
+    requires { line.number + length line.text.now ≤ max_file_bytes + 1 }
+    ensures { result ≡ other_spot (line_of line.entry) }
+{
+    match format_spot(line) {
+        Some(spot) => spot,
+        None => first_spot(line),
+    }
+}
+
 /// The words of statements without yyless.
 const WITHOUT_LESS: &[u8] =
     b"ECHO REJECT BEGIN printf fputs puts yymore yyterminate exit yytext yyout";
+
+/// Those without yymore too.
+const WITHOUT_MORE: &[u8] = b"ECHO REJECT BEGIN printf fputs puts yyterminate exit yytext yyout";
 
 /// Those without exit.
 const WITHOUT_EXIT: &[u8] =
@@ -100,7 +116,8 @@ fn sound_words(kind: SpecErrorKind) -> Option<&'static [u8]>
 {
     match kind {
         SpecErrorKind::UnknownStatement => Some(STATEMENTS),
-        SpecErrorKind::BadCount | SpecErrorKind::LessAndMore => Some(WITHOUT_LESS),
+        SpecErrorKind::BadCount => Some(WITHOUT_LESS),
+        SpecErrorKind::LessAndMore => Some(WITHOUT_MORE),
         SpecErrorKind::BadStatus => Some(WITHOUT_EXIT),
         SpecErrorKind::RejectCombination => Some(WITHOUT_REJECT),
         SpecErrorKind::NotLast => Some(WITHOUT_LAST),
@@ -109,19 +126,36 @@ fn sound_words(kind: SpecErrorKind) -> Option<&'static [u8]>
     }
 }
 
-/// The first word of an action that is at fault, where these are not, or else its first byte.
-fn statement_spot(sound: Option<&[u8]>, arguments: &[u8], line: Line<'_>) -> Option<Spot>
+/// How many of these words stand before the one at fault.
+fn others_before(kind: SpecErrorKind) -> usize
+    ensures { result ≡ others_before kind }
+{
+    match kind {
+        SpecErrorKind::LessAndMore => 1,
+        _ => 0,
+    }
+}
+
+/// The first word of an action that is at fault behind so many others, where these are not, or else what of
+/// a format is not read, or else its first byte.
+fn statement_spot(
+    sound: Option<&[u8]>,
+    others: usize,
+    arguments: &[u8],
+    line: Line<'_>,
+) -> Option<Spot>
     requires { line.number + length line.text.now ≤ max_file_bytes + 1 }
-    ensures { result ≡ statement_spot (option_map (λ words. words.now) sound.entry) arguments.now (line_of line.entry) }
+    ensures { result
+        ≡ statement_spot (option_map (λ words. words.now) sound.entry) others arguments.now (line_of line.entry) }
 {
     let some = sound?;
     let known = Words {
         some,
         others: arguments,
     };
-    match action_spot(known, line) {
+    match action_spot(known, others, line) {
         Some(spot) => Some(spot),
-        None => Some(first_spot(line)),
+        None => Some(other_spot(line)),
     }
 }
 
@@ -136,7 +170,7 @@ fn condition_spot(conditions: &[u8], arguments: &[u8], line: Line<'_>) -> Option
     };
     match listed_spot(conditions, line) {
         Some(spot) => Some(spot),
-        None => action_spot(known, line),
+        None => action_spot(known, 0, line),
     }
 }
 
@@ -150,7 +184,8 @@ fn kind_spot(names: &KnownNames, kind: SpecErrorKind, line: Line<'_>) -> Option<
     match kind {
         SpecErrorKind::UnsupportedOption => option_spot(line),
         SpecErrorKind::UnknownCondition => condition_spot(conditions, arguments, line),
-        _ => statement_spot(sound_words(kind), arguments, line),
+        SpecErrorKind::Unclosed => unclosed_spot(line),
+        _ => statement_spot(sound_words(kind), others_before(kind), arguments, line),
     }
 }
 

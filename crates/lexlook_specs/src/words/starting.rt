@@ -50,7 +50,13 @@ fn state_after(dfa: &Dfa, start: Start, text: &[u8]) -> u32
 }
 
 /// Whether a text does what is wished, from this start on.
-fn meets_after(dfa: &Dfa, rejects: &[bool], text: &[u8], wish: Wish, start: Start) -> bool
+pub(crate) fn meets_after(
+    dfa: &Dfa,
+    rejects: &[bool],
+    text: &[u8],
+    wish: Wish,
+    start: Start,
+) -> bool
     requires condition { start.condition < conditions_of dfa.now }
     requires rules { (s i : ℕ) → s < states_of dfa.now → Among (accepts_of dfa.now s) i → i < length rejects.now }
     ensures yes { result ≡ true

@@ -5,7 +5,9 @@ use Rattle.lexlook_text.specs.LineViews.{line_of}
 use Rattle.lexlook_check.specs.Checks.{IsChecked}
 use Rattle.lexlook_check.specs.Findings.{AreInOrder, findings_of, known_lines}
 use Rattle.lexlook_check.specs.Places.{joined_text}
+use Rattle.lexlook_check.specs.Takings.{taking_of}
 use Rattle.lexlook_check.specs.Telling.{told_bytes}
+use Rattle.lexlook_check.specs.declared.takings.Taking.{Taking}
 use Rattle.lexlook_check.proofs.telling.telling_of.Goals as goal
 
 pub findings_in_order-requires : goal.findings_in_order-requires
@@ -34,6 +36,7 @@ returns c =
       told = c.in_ok-findings.findings.items;
       in_order = subst (λ (ls : List (ℕ × List ℕ)). AreInOrder (findings_of ls c.in_ok-checked.checked) c.in_ok-findings.findings.items) lines c.in_ok-findings.ensures;
       bytes_are = c.in_ok-bytes.ensures
-          ∙ ap (λ (t : List ℕ). told_bytes c.args.form files t c.as_slice-8.result.now) (c.as_slice-7.ensures.value ∙ kept)
-          ∙ ap (told_bytes c.args.form files shown) c.as_slice-8.ensures.value;
+          ∙ ap (λ (t : List ℕ). told_bytes c.args.form files t (map taking_of c.as_slice-8.result.now) c.as_slice-9.result.now) (c.as_slice-7.ensures.value ∙ kept)
+          ∙ ap (λ (ts : List Taking). told_bytes c.args.form files shown (map taking_of ts) c.as_slice-9.result.now) c.as_slice-8.ensures.value
+          ∙ ap (told_bytes c.args.form files shown (map taking_of c.in_ok-checked.checked.takings.items)) c.as_slice-9.ensures.value;
     }

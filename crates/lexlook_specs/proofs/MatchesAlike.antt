@@ -1,7 +1,9 @@
 -- What is told of rules depends on the texts that fit them alone.
-use Rattle.std.proofs.Common.{◌≡◌, ◌↔◌, ◌≤◌, ℕ, Bool, List, length, take, Option, Some, None, sym, ◌∙◌, arith}
+use Rattle.std.proofs.Common.{◌≡◌, ◌↔◌, ◌<◌, ◌≤◌, ℕ, Bool, List, [], ◌∷◌, length, take, Option, Some, None, sym, ◌∙◌, arith}
 use Rattle.std.proofs.lemmas.List.{length-take-le}
+use Rattle.std.proofs.lemmas.Option.{slice_get_within}
 use Rattle.lex_semantics.proofs.Texts.{is_text_take}
+use Rattle.lexlook_specs.specs.Copied.{AreCopied, CopiesByte, IsFirstCopied}
 use Rattle.lexlook_specs.specs.Matches.{RuleMatches, IsInput, IsCopied, TakesText}
 use Rattle.lexlook_specs.specs.Words.{AreTakers, AreWords, IsFirst, IsWordOf, TellsDefault}
 use Rattle.lexlook_specs.specs.declared.words.finding.ShownText.{ShownText}
@@ -72,4 +74,27 @@ module _ (m n : RuleMatches) (a : AreAlike m n) where
     each = t.each ∙ a.count;
     rules = λ i x e. to_tells i x (t.rules i x e);
     default = to_default v.default t.default;
+  }
+
+  byte_input : (c b : ℕ) → c < m.conditions → b < 256 → IsInput m c (b ∷ [])
+  byte_input c b low byte = record { condition = low; text = (byte, tt); some = omega arith }
+
+  to_byte : (c b : ℕ) → IsInput m c (b ∷ []) → CopiesByte m c b → CopiesByte n c b
+  to_byte c b h (line, copied) = (line, to_copied c line (b ∷ []) h copied)
+
+  from_byte : (c b : ℕ) → IsInput m c (b ∷ []) → CopiesByte n c b → CopiesByte m c b
+  from_byte c b h (line, copied) = (line, from_copied c line (b ∷ []) h copied)
+
+  to_first_copied : (c : ℕ) (o : Option ℕ) → c < m.conditions → IsFirstCopied m c o → IsFirstCopied n c o
+  to_first_copied c None low none = λ b byte copies. none b byte (from_byte c b (byte_input c b low byte) copies)
+  to_first_copied c (Some b) low (byte, copies, none) = (
+    byte,
+    to_byte c b (byte_input c b low byte) copies,
+    λ d less other. none d less (from_byte c d (byte_input c d low (omega (arith, less, byte))) other),
+  )
+
+  pub copied_alike : (bytes : List (Option ℕ)) → AreCopied m bytes → AreCopied n bytes
+  copied_alike bytes t = record {
+    each = t.each ∙ a.conditions;
+    first = λ c o e. to_first_copied c o (let low = slice_get_within bytes c o e in let len = t.each in omega (arith, low, len)) (t.first c o e);
   }

@@ -1,14 +1,24 @@
 -- A specification in which each action is REJECT has the same texts that fit its rules, and as many states before minimising.
-use Rattle.std.proofs.Common.{◌≡◌, ◌↔◌, ℕ, zero, suc, ◌+◌, Bool, true, List, [], ◌∷◌, ◌++◌, length, map, Some, refl, sym, ap, subst, arith}
+use Rattle.std.proofs.Common.{◌≡◌, ◌↔◌, ◌<◌, ℕ, zero, suc, ◌+◌, Bool, true, List, [], ◌∷◌, ◌++◌, length, map, Option, Some, refl, sym, ap, subst, ◌∙◌, arith}
 use Rattle.std.specs.Prelude.{slice_get, take}
 use Rattle.std.specs.Prelude.{MatchOption}
 use Rattle.std.specs.Prelude.{drop}
-use Rattle.lex_semantics.specs.Spec.{Spec, Rule, Condition}
+use Rattle.lex_semantics.specs.Spec.{Spec, Rule, Condition, has_reject, statements_at}
+use Rattle.lex_semantics.specs.Text.{Among, flag}
 use Rattle.lex_semantics.specs.Active.{active}
 use Rattle.lex_semantics.specs.Reports.{HasFit}
-use Rattle.lex_semantics.specs.TableFor.{Accepted}
+use Rattle.lex_semantics.specs.TableFor.{Accepted, TableFor}
 use Rattle.lex_semantics.specs.Positions.{MarkedByte, Readings, Matches}
 use Rattle.lex_semantics.specs.Subsets.{all_positions, positions_of_rule, AreLasts, AreStarts, IsActive, IsLast, ListsSet, ReadsActive, ReadsRule, HasSubsets}
+use Rattle.lexauto_dfa.proofs.Machinery.{walk_after}
+use Rattle.lexauto_dfa.specs.Automata.{machine_in}
+use Rattle.lexauto_dfa.specs.Parts.{conditions, start, accepts}
+use Rattle.lexauto_dfa.specs.declared.dfa.Parts.{Parts}
+use Rattle.lexlook_specs.proofs.MatchesAlike.{AreAlike, copied_alike, words_alike}
+use Rattle.lexlook_specs.specs.Copied.{AreCopied}
+use Rattle.lexlook_specs.specs.Matches.{matches_in, matches_of}
+use Rattle.lexlook_specs.specs.Words.{AreWords}
+use Rattle.lexlook_specs.specs.declared.words.finding.Words.{Words}
 use Rattle.lexlook_specs.specs.Rejecting.{rejecting, rejecting_rule}
 
 pub got_map : (rs : List Rule) (i : ℕ) (r : Rule) → slice_get rs i ≡ Some r → slice_get (map rejecting_rule rs) i ≡ Some (rejecting_rule r)
@@ -146,3 +156,42 @@ subsets_to S n = subsets_alike (rejecting S) S refl (active_same S) (reads_same 
 
 pub subsets_from : (S : Spec) (n : ℕ) → HasSubsets S n → HasSubsets (rejecting S) n
 subsets_from S n = subsets_alike S (rejecting S) refl (λ c line i. swap (active_same S c line i)) (λ c line rs. swap (reads_same S c line rs)) n
+
+-- the automaton of the specification in which each action is REJECT tells which texts fit
+pub automaton_alike : (S : Spec) (p : Parts) (rejects : List Bool) → conditions p ≡ length S.conditions → TableFor (machine_in p (rejecting S)) (rejecting S)
+    → length rejects ≡ length S.rules → ((i : ℕ) → flag rejects i ≡ has_reject (statements_at (slice_get S.rules i)))
+    → AreAlike (matches_in p rejects) (matches_of S)
+automaton_alike S p rejects count table len flags = record {
+  conditions = count;
+  count = len;
+  fits = λ c line w i h.
+      let low = h.condition in
+      let known : c < length S.conditions = omega (arith, low, count) in
+      let e = table.accepts c line w i known h.text in
+      let walked = walk_after p (rejecting S) (start p c line) w in
+      let back = fits_accepted S c line w i in
+      (λ a. back.0 (e.0 (subst (λ (s : ℕ). Among (accepts p s) i) (sym walked) a)), λ f. subst (λ (s : ℕ). Among (accepts p s) i) walked (e.1 (back.1 f)));
+  gives_up = flags;
+}
+
+-- what is copied by it is copied by the specification
+pub copied_shown : (S T : Spec) (p : Parts) (rejects : List Bool) (bytes : List (Option ℕ)) → T ≡ rejecting S → conditions p ≡ length T.conditions → TableFor (machine_in p T) T
+    → length rejects ≡ length S.rules → ((i : ℕ) → flag rejects i ≡ has_reject (statements_at (slice_get S.rules i))) → AreCopied (matches_in p rejects) bytes → AreCopied (matches_of S) bytes
+copied_shown S T p rejects bytes is count table len flags copied =
+    copied_alike (matches_in p rejects) (matches_of S)
+    (automaton_alike S p rejects (count ∙ ap (λ (U : Spec). length U.conditions) is) (subst (λ (U : Spec). TableFor (machine_in p U) U) is table) len flags) bytes copied
+
+-- the same of the texts that its rules take
+pub words_shown_by : (S T : Spec) (p : Parts) (rejects : List Bool) (v : Words) → T ≡ rejecting S → conditions p ≡ length T.conditions → TableFor (machine_in p T) T
+    → length rejects ≡ length S.rules → ((i : ℕ) → flag rejects i ≡ has_reject (statements_at (slice_get S.rules i))) → AreWords (matches_in p rejects) v → AreWords (matches_of S) v
+words_shown_by S T p rejects v is count table len flags words =
+    words_alike (matches_in p rejects) (matches_of S)
+    (automaton_alike S p rejects (count ∙ ap (λ (U : Spec). length U.conditions) is) (subst (λ (U : Spec). TableFor (machine_in p U) U) is table) len flags) v words
+
+rules_again : (rs : List Rule) → map rejecting_rule (map rejecting_rule rs) ≡ map rejecting_rule rs
+rules_again [] = refl
+rules_again (r ∷ rs) = ap (λ (qs : List Rule). rejecting_rule r ∷ qs) (rules_again rs)
+
+-- it is its own
+pub rejecting_again : (S : Spec) → rejecting (rejecting S) ≡ rejecting S
+rejecting_again S = ap (λ (rs : List Rule). record { conditions = S.conditions; rules = rs }) (rules_again S.rules)
