@@ -224,7 +224,7 @@ fn run_text(error: RunError) -> &'static str
 }
 
 /// Writes these parts and a newline. It takes no memory.
-pub fn write_line<K: Sink>(parts: &[&str], sink: &mut K) -> Result<(), WriteFault>
+fn write_line<K: Sink>(parts: &[&str], sink: &mut K) -> Result<(), WriteFault>
     requires { K.failures sink.old < 2 ^ 64 - 1 }
     ensures bytes { Appended (λ xs. K.wrote sink.old xs sink.new) (with_newline (joined parts.now)) result }
     ensures failures { K.failures sink.new ≡ K.failures sink.old + fault_count result }

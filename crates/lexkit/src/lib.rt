@@ -39,7 +39,7 @@ mod stats;
 
 pub use errors::{GenError, ScanError};
 pub use failure::Failure;
-pub use faults::{Fault, write_fault, write_line, write_words};
+pub use faults::{Fault, write_fault, write_words};
 pub use laws::{
     example_of_canonical_files, example_of_the_headline, file_scans, one_file, text_tokens,
 };

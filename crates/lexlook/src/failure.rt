@@ -7,7 +7,7 @@ ghost use Rattle.lexlook.specs.Failures.{failure_front, failure_line, failure_wo
 ghost use Rattle.lexlook.specs.declared.failure.LookFailure.{LookFailure};
 
 use lexauto_reports::put_all;
-use lexkit::{Failure, Sink, ToWrite, WriteFault, write_line, write_words};
+use lexkit::{Failure, Sink, ToWrite, WriteFault, write_words};
 use std::alloc::AllocError;
 use std::io::ErrorKind;
 use std::process::ExitCode;
@@ -108,7 +108,7 @@ fn put_words<K: Sink>(failure: &LookFailure, sink: &mut K) -> Result<(), WriteFa
     match failure {
         LookFailure::Plain(failure) => write_words(failure.fault(), sink),
         LookFailure::Refused { failure, .. } => write_words(failure.fault(), sink),
-        LookFailure::Unread { reason, .. } => write_line(&[reason_words(*reason)], sink),
+        LookFailure::Unread { reason, .. } => put_all(sink, &[reason_words(*reason), "\n"]),
     }
 }
 
