@@ -42,7 +42,6 @@ pub enum Pulled {
 }
 
 /// One turn over the bytes that wait, which reads them. It is undone where it asks for more than these.
-#[inline(never)]
 fn turn_by_reading<M: Machine>(
     machine: &M,
     scan: &mut Scan,
@@ -69,7 +68,6 @@ fn turn_by_reading<M: Machine>(
 }
 
 /// One turn over the bytes that wait. It is undone where it asks for more than these.
-#[inline(always)]
 fn turn_over<M: Machine>(
     machine: &M,
     scan: &mut Scan,
@@ -89,7 +87,6 @@ fn turn_over<M: Machine>(
 }
 
 /// The same from a place on, which moves past the bytes that a turn has asked for.
-#[inline(always)]
 fn turn_from<M: Machine>(
     machine: &M,
     scan: &mut Scan,
