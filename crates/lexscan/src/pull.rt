@@ -262,7 +262,6 @@ impl<M: Machine> PullScanner<M> {
     /// The next token, by one turn; or that the next match asks for more than was fed, which never comes once the end
     /// was told; or that the scan has ended. A turn is refused where memory runs out, and as `Stack` where a push finds the
     /// stack of start conditions full or a pop finds it empty; after that each call is refused as `Failed`.
-    #[inline(always)]
     pub fn next(&mut self) -> Result<Pulled, RunError>
         ensures machine { pull_machine self.new ≡ pull_machine self.old }
         ensures finished { pull_finished self.new ≡ pull_finished self.old }
