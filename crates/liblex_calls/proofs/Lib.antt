@@ -1,7 +1,6 @@
 pub mod Telling
 mod Refused
 mod Listed
-mod Gathered
 mod Loosened
 mod Held
 mod HeldRules
