@@ -7,15 +7,15 @@
 //! What is asked for is read by lex_command. What is written and answered is that of lexlook_calls and lexlook_check, and
 //! proved there. A read and a status are as those of the program lex, by lexkit.
 //!
-//! A subcommand has its words in lex_command, its call in lexlook_calls or a room of its own, and here its function
-//! `show_..`, which writes to standard output, flushes, and answers the status: 1 for an answer no, and of a trace that of
-//! the scan. The call of `utf8` is that of lexlook_unicode.
+//! A subcommand has its words in lex_command, its call in lexlook_calls or a room of its own, and here its case of `tell`.
+//! What that writes `show` puts on standard output and flushes, and answers the status: 1 for an answer no. A trace and the
+//! definition of sets have functions of their own, since the one reads too and the other has no options.
 //!
 //! - **A line of a failure names the file**, where one is refused or not read. Of two that are compared it is the first if
 //!   that is refused beside itself, since the call tells the failure alone.
 #![tactic(auto)]
 
-ghost use Rattle.std.specs.Prelude.{◌≡◌, ◌≤◌};
+ghost use Rattle.std.specs.Prelude.{◌≡◌, ◌≤◌, ◌<◌, ◌-◌, ◌^◌, OnOk};
 
 mod failure;
 mod reading;
@@ -32,9 +32,9 @@ use lexkit::{
 use lexlook_calls::{
     Given, Language, LookError, draw, tell_header, tell_lines, tell_same, tell_words, trace,
 };
-use lexlook_check::{Form, tell_check};
+use lexlook_check::{Form, SourceFile, tell_check};
 use lexlook_unicode::{DefinitionError, UNICODE, definition_of};
-use std::alloc::AllocError;
+use std::alloc::{AllocError, Global};
 use std::io;
 use std::process::ExitCode;
 
@@ -70,26 +70,53 @@ fn show_about(rt: &HostRuntime, what: About) -> Result<ExitCode, Failure> {
     Ok(ExitCode::SUCCESS)
 }
 
-/// Writes the picture of a specification to standard output.
-fn show_picture(rt: &HostRuntime, text: &[u8], options: Options) -> Result<ExitCode, Failure>
-    requires few_positions { options.limits.positions ≤ MAX_POSITIONS }
-    requires few_states { options.limits.states ≤ MAX_STATES }
-{
-    let mut sink = ToBytes::new(ByteWriter::new(rt.alloc(), io::writer(rt))?);
-    draw(rt.alloc(), text, options, &mut sink)?;
-    sink.flush()?;
-    Ok(ExitCode::SUCCESS)
+/// What is written to standard output, and of which bytes.
+#[derive(Drop)]
+enum Told<'a> {
+    Picture(&'a [u8]),
+    Words(&'a [u8]),
+    Lines(&'a [u8]),
+    Same(Given<'a>, Given<'a>),
+    Check(&'a [SourceFile<'a>], Form),
+    Header(&'a [u8], Language),
 }
 
-/// Writes to standard output the texts that the rules of a specification take.
-fn show_words(rt: &HostRuntime, text: &[u8], options: Options) -> Result<ExitCode, Failure>
+/// Writes what is asked for, and answers whether the answer is yes.
+fn tell<K: Sink>(
+    alloc: Global,
+    what: Told<'_>,
+    options: Options,
+    sink: &mut K,
+) -> Result<bool, Failure>
+    requires few_positions { options.limits.positions ≤ MAX_POSITIONS }
+    requires few_states { options.limits.states ≤ MAX_STATES }
+    requires few { K.failures sink.old < 2 ^ 64 - 1 }
+    ensures { OnOk result (K.failures sink.new ≡ K.failures sink.old) }
+{
+    match what {
+        Told::Picture(text) => draw(alloc, text, options, sink)?,
+        Told::Words(text) => tell_words(alloc, text, options, sink)?,
+        Told::Header(text, language) => tell_header(alloc, text, options, language, sink)?,
+        Told::Lines(bytes) => return Ok(tell_lines(alloc, bytes, options, sink)?),
+        Told::Same(left, right) => return Ok(tell_same(alloc, left, right, options, sink)?),
+        Told::Check(files, form) => return Ok(tell_check(alloc, files, options, form, sink)?),
+    }
+    Ok(true)
+}
+
+/// Writes to standard output what is asked for, and answers with the status: 0 for yes, 1 for no.
+fn show(rt: &HostRuntime, what: Told<'_>, options: Options) -> Result<ExitCode, Failure>
     requires few_positions { options.limits.positions ≤ MAX_POSITIONS }
     requires few_states { options.limits.states ≤ MAX_STATES }
 {
     let mut sink = ToBytes::new(ByteWriter::new(rt.alloc(), io::writer(rt))?);
-    tell_words(rt.alloc(), text, options, &mut sink)?;
+    let yes = tell(rt.alloc(), what, options, &mut sink)?;
     sink.flush()?;
-    Ok(ExitCode::SUCCESS)
+    if yes {
+        Ok(ExitCode::SUCCESS)
+    } else {
+        Ok(ExitCode::from(1))
+    }
 }
 
 /// A file as it is compared.
@@ -98,22 +125,6 @@ fn given(file: &ReadFile) -> Given<'_> {
         name: file.name.as_str(),
         bytes: file.bytes.as_slice(),
     }
-}
-
-/// Says on standard output what two files do not do the same.
-fn show_same(
-    rt: &HostRuntime,
-    left: &ReadFile,
-    right: &ReadFile,
-    options: Options,
-) -> Result<ExitCode, Failure>
-    requires few_positions { options.limits.positions ≤ MAX_POSITIONS }
-    requires few_states { options.limits.states ≤ MAX_STATES }
-{
-    let mut sink = ToBytes::new(ByteWriter::new(rt.alloc(), io::writer(rt))?);
-    let same = tell_same(rt.alloc(), given(left), given(right), options, &mut sink)?;
-    sink.flush()?;
-    Ok(status_of(same))
 }
 
 /// Whether a file is refused beside itself.
@@ -136,22 +147,11 @@ fn compare_files(
     requires few_positions { options.limits.positions ≤ MAX_POSITIONS }
     requires few_states { options.limits.states ≤ MAX_STATES }
 {
-    match show_same(rt, &left, &right, options) {
+    match show(rt, Told::Same(given(&left), given(&right)), options) {
         Ok(status) => Ok(status),
         Err(failure) if is_refused(rt, &left, options) => Err(LookFailure::of(failure, left.name)),
         Err(failure) => Err(LookFailure::of(failure, right.name)),
     }
-}
-
-/// Says on standard output what stands against cuts of an input at its newlines.
-fn show_lines(rt: &HostRuntime, bytes: &[u8], options: Options) -> Result<ExitCode, Failure>
-    requires few_positions { options.limits.positions ≤ MAX_POSITIONS }
-    requires few_states { options.limits.states ≤ MAX_STATES }
-{
-    let mut sink = ToBytes::new(ByteWriter::new(rt.alloc(), io::writer(rt))?);
-    let may = tell_lines(rt.alloc(), bytes, options, &mut sink)?;
-    sink.flush()?;
-    Ok(status_of(may))
 }
 
 /// Writes a line for each match of a scan of standard input. It is flushed before a read that may wait.
@@ -194,34 +194,8 @@ fn show_check(
     requires few_states { options.limits.states ≤ MAX_STATES }
 {
     let files = source_files(rt.alloc(), files)?;
-    let mut sink = ToBytes::new(ByteWriter::new(rt.alloc(), io::writer(rt))?);
     let form = if json { Form::Json } else { Form::Lines };
-    let well = tell_check(rt.alloc(), files.as_slice(), options, form, &mut sink)?;
-    sink.flush()?;
-    Ok(status_of(well))
-}
-
-/// Writes the rules of a specification to standard output as constants of a program.
-fn show_header(
-    rt: &HostRuntime,
-    text: &[u8],
-    rust: bool,
-    options: Options,
-) -> Result<ExitCode, Failure> {
-    let mut sink = ToBytes::new(ByteWriter::new(rt.alloc(), io::writer(rt))?);
-    let language = if rust { Language::Rust } else { Language::C };
-    tell_header(rt.alloc(), text, options, language, &mut sink)?;
-    sink.flush()?;
-    Ok(ExitCode::SUCCESS)
-}
-
-/// The status of an answer: 0 for yes, 1 for no.
-fn status_of(yes: bool) -> ExitCode {
-    if yes {
-        ExitCode::SUCCESS
-    } else {
-        ExitCode::from(1)
-    }
+    show(rt, Told::Check(files.as_slice(), form), options)
 }
 
 /// The bytes that are read of a file at most: one more than it may have.
@@ -243,9 +217,9 @@ fn show_one(
     requires few_states { options.limits.states ≤ MAX_STATES }
 {
     match what {
-        Subcommand::Picture => show_picture(rt, bytes, options),
-        Subcommand::Lines => show_lines(rt, bytes, options),
-        Subcommand::Words => show_words(rt, bytes, options),
+        Subcommand::Picture => show(rt, Told::Picture(bytes), options),
+        Subcommand::Lines => show(rt, Told::Lines(bytes), options),
+        Subcommand::Words => show(rt, Told::Words(bytes), options),
         Subcommand::Trace => show_trace(rt, bytes, options),
     }
 }
@@ -295,7 +269,9 @@ fn run(rt: &HostRuntime) -> Result<ExitCode, LookFailure> {
             patterns,
         } => {
             let read = read_file(rt, file, SPEC_READ_BYTES)?;
-            let shown = show_header(rt, read.bytes.as_slice(), rust, options_of(patterns));
+            let language = if rust { Language::Rust } else { Language::C };
+            let header = Told::Header(read.bytes.as_slice(), language);
+            let shown = show(rt, header, options_of(patterns));
             shown_of(shown, read.name)
         }
     }
