@@ -1,6 +1,6 @@
 #!/usr/bin/env python3
 """Tells whether docs/EDITS.md is the page of the wrong bodies that stand in the crates, with a status of 1 where it is not. The first
-line of each wrong body says what it guards: `# TEXT`.
+line of each wrong body says what it guards: `# TEXT`. A second one says by what it is refused, where `wrong-bodies.py --write` wrote it.
 
 usage: edits.py [--write]
   --write   writes the page
@@ -22,12 +22,18 @@ def guards(path):
     return first.removeprefix("# ")
 
 
+def refused_by(path):
+    """By what a wrong body is refused, where its second line says so."""
+    said = re.match(r".*\n# refused by: (.*)", path.read_text())
+    return said[1] if said else ""
+
+
 def rows(crate):
     """The rows of a crate, by their names; those that the gate tries are bold."""
     found = [(path.stem, folder, path) for folder in FOLDERS for path in (crate / folder).glob("*.edit")]
     for name, folder, path in sorted(found):
         bold = "**" if folder == "must-fail" else ""
-        yield f"| {bold}`{name}`{bold} | {guards(path)} |"
+        yield f"| {bold}`{name}`{bold} | {guards(path)} | {refused_by(path)} |"
 
 
 def page():
@@ -35,7 +41,7 @@ def page():
     head = re.split(r"(?m)^## ", PAGE.read_text())[0]
     crates = [re.split(r"[ :]", line)[0] for line in (ROOT / "crates.txt").read_text().splitlines()]
     chapters = [(crate, list(rows(ROOT / "crates" / crate))) for crate in crates]
-    texts = (f"## {crate}\n\n| Edit | What it guards |\n|---|---|\n" + "\n".join(lines) + "\n" for crate, lines in chapters if lines)
+    texts = (f"## {crate}\n\n| Edit | What it guards | Refused by |\n|---|---|---|\n" + "\n".join(lines) + "\n" for crate, lines in chapters if lines)
     return head + "\n".join(texts)
 
 

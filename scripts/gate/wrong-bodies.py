@@ -5,6 +5,7 @@ whether the prover refuses it in its own function, and by which clause.
     scripts/gate/wrong-bodies.py [CRATE..]        those of these crates, or of all
         --changed REV     of the crates whose src/ or specs/ differ from REV, and of those above whose inherited contracts do
         --jobs N          N checks side by side (as many as processors)
+        --write           writes into each file of wrong-bodies/ that is tried by what it is refused, as its second line
         --itself          two bodies of lex_machine that are right, which must be told as proved, and one that is wrong
 
 The bodies stand in two folders of a crate, each a file with lines 'file:', 'old:' and 'new:' as `rt help` has them:
@@ -17,7 +18,8 @@ misreadings, which `misreadings.py` tries.
 
 A line of the answer begins with one of these words, and the status is 1 where one is not 'refused':
 
-    refused      in its own function; the clause, or what else the prover says first of that function
+    refused      in its own function; the clause, or what else the prover says of that function
+    bound        in its own function, but only since a number may not fit, an index may lie outside, or a place may be reached
     name         in its own function, but only since a proof file cites what the edit took away
     elsewhere    only another function is refused: nothing shows that the contract of its own refuses it
     proves       the whole crate is still proved
@@ -53,6 +55,19 @@ LOST = re.compile(r"error\[[\w-]+\]|^rattle: ", re.M)
 GONE = re.compile(r"has no `[^`]*` that can be named from here|is not in scope|has no field")
 TOLD = re.compile(r"^(?:note: )?(?:\./)?((?:src|specs|proofs)/[^:\s]+):(\d+):\d+: (?:error: |it is not proved that )(.*)$", re.M)
 GOAL = re.compile(r"`([\w+-]+)`")
+# How the line of a wrong body begins that says by what it is refused.
+REFUSED_BY = "# refused by:"
+# What the words of the prover say that a goal is of, the most telling first.
+KINDS = (
+    ("returned", re.compile(r"what the function ensures")),
+    ("held", re.compile(r"the `invariant`|the struct's|the `&mut`")),
+    ("loop", re.compile(r"the invariant (?:of the loop|that rattle tried)")),
+    ("end", re.compile(r"the loop ends")),
+    ("call", re.compile(r".*requires holds at this call")),
+    ("answer", re.compile(r"`")),
+    ("other", re.compile(r"")),
+    ("bound", re.compile(r"the (?:index|array|part|value|float|sum|subtraction|negation|product|divisor|amount|bytes)\b|this is no NaN|control never")),
+)
 
 
 # Where the kit's inside is used: how it calls the prover for a crate.
@@ -289,18 +304,27 @@ def told_of(checked, edit):
             yield text
 
 
-def clause(checked, edit):
-    """The first clause that the prover refuses of the edit's functions; or else the first goal, or what it says first."""
+def kind_of(text):
+    """What a goal is of, by the prover's words for it."""
+    fitting = [kind for kind, words in KINDS if kind not in ("other", "answer") and words.match(text)]
+    if not fitting and (GOAL.search(text) or GONE.search(text)):
+        return "answer"
+    return fitting[0] if fitting else "other"
+
+
+def reason(checked, edit):
+    """The kind of the most telling goal of the edit's functions that the prover refuses, and the goal: a clause, if one is refused."""
     # (first what is not proved, then what a proof file cites in vain)
     told = sorted(told_of(checked, edit), key=lambda it: bool(GONE.search(it)))
-    goals = [(goal[1], text) for text in told for goal in [GOAL.search(text)] if goal]
-    for goal, text in goals:
+    goals = [(kind_of(text), goal[1], text) for text in told for goal in [GOAL.search(text)] if goal]
+    for _, goal, _ in goals:
         if "-clause-" in goal:
-            return f"clause {goal.rpartition('-clause-')[2]}"
+            return "clause", f"clause {goal.rpartition('-clause-')[2]}"
     if not goals:
-        return told[0][:90] if told else "no place told"
-    what = goals[0][1].split(" (`")[0]
-    return goals[0][0] if what.startswith(("what the function ensures", "`")) else f"{goals[0][0]} ({what})"
+        return "other", told[0][:90] if told else "no place told"
+    order = [kind for kind, _ in KINDS]
+    kind, goal, text = min(goals, key=lambda it: order.index(it[0]))
+    return kind, goal if kind == "returned" else f"{goal} ({text.split(' (`')[0][:150]})"
 
 
 def is_gone(checked, edit):
@@ -314,7 +338,9 @@ def judge(checked, edit, others):
     own = {name: said for name, said in checked.functions.items() if any(is_of(name, it, edit.crate) for it in edit.functions)}
     refused = [name for name, (word, why) in own.items() if word == "not proved" or word == "no proof" and not INHERITED.search(why)]
     if refused:
-        return "name" if is_gone(checked, edit) else "refused", f"{refused[0].removeprefix(edit.crate + '::')}: {clause(checked, edit)}"
+        kind, why = reason(checked, edit)
+        word = "name" if is_gone(checked, edit) else "bound" if kind == "bound" else "refused"
+        return word, f"{refused[0].removeprefix(edit.crate + '::')}: {kind}: {why}"
     if not own or any(word != "proved" for word, _ in own.values()) or len(others) > 1:
         return None
     return "proves", "its functions are proved"
@@ -423,20 +449,48 @@ def itself(rtlib, crates):
     return failed
 
 
+WORDS = {
+    "returned": "what it returns",
+    "held": "what its type keeps to",
+    "loop": "the invariant of its loop",
+    "end": "a loop that must end",
+    "call": "what a call asks for",
+}
+# What a goal is of, by the front of its name.
+FRONTS = {"returns": "returned", "invariant_of": "held", "loop": "loop"}
+
+
+def record(edit, why):
+    """Writes into a wrong body by what it is refused."""
+    _, kind, goal = why.split(": ", 2)
+    if kind == "clause":
+        named = f"clause `{goal.removeprefix('clause ')}`"
+    elif kind == "answer":
+        fronts = [known for front, known in FRONTS.items() if goal.startswith(front)]
+        named = f"{WORDS[fronts[0] if fronts else 'call']}; its written proof fits no more"
+    else:
+        named = WORDS.get(kind, kind)
+    path = ROOT / "crates" / edit.crate / edit.folder / f"{edit.name}.edit"
+    head, *rest = path.read_text().split("\n")
+    rest = [line for line in rest if not line.startswith(REFUSED_BY)]
+    path.write_text("\n".join([head, f"{REFUSED_BY} {named}", *rest]))
+
+
 class Report:
     """What is told, a line for each wrong body, and how many of each kind."""
 
     def __init__(self):
-        self.count, self.lock = Counter(), threading.Lock()
+        self.count, self.kinds, self.lock = Counter(), Counter(), threading.Lock()
 
     def tell(self, name, word, why):
         with self.lock:
             self.count[word] += 1
+            self.kinds[why.split(": ")[1] if word == "refused" else word] += 1
             print(f"{word:10} {name}: {why}", flush=True)
 
     def total(self, crates, batches):
-        told = ", ".join(f"{number} {word}" for word, number in self.count.most_common())
-        return f"{sum(self.count.values())} wrong bodies of {crates} crates in {batches} batches: {told or 'none'}"
+        told, kinds = (", ".join(f"{number} {word}" for word, number in of.most_common()) for of in (self.count, self.kinds))
+        return f"{sum(self.count.values())} wrong bodies of {crates} crates in {batches} batches: {told or 'none'}\nby what is refused first: {kinds or 'none'}"
 
 
 def batches_of(chosen, rtlib, report):
@@ -456,14 +510,16 @@ def batches_of(chosen, rtlib, report):
     return sorted(found, key=lambda it: -len(it[1]))
 
 
-def try_all(chosen, rtlib, jobs):
-    """Tries the wrong bodies of some crates, and returns whether each is refused."""
+def try_all(chosen, rtlib, jobs, writes):
+    """Tries the wrong bodies of some crates, writes by what each is refused where it is asked to, and returns whether each is."""
     report = Report()
     batches = batches_of(chosen, rtlib, report)
 
     def work(crate, batch):
         for edit, told in tries(crate, batch).items():
             report.tell(edit, *told)
+            if writes and told[0] == "refused" and edit.folder == "wrong-bodies":
+                record(edit, told[1])
 
     with ThreadPoolExecutor(jobs) as pool:
         for done in [pool.submit(work, *it) for it in batches]:
@@ -478,6 +534,7 @@ def words():
     parser.add_argument("crates", nargs="*")
     parser.add_argument("--changed")
     parser.add_argument("--jobs", type=int, default=len(os.sched_getaffinity(0)))
+    parser.add_argument("--write", action="store_true")
     parser.add_argument("--itself", action="store_true")
     return parser.parse_args()
 
@@ -498,7 +555,7 @@ def main():
         sys.exit(f"wrong-bodies: no crate is named {' '.join(sorted(lacking))}")
     chosen = changed(crates, given.changed) if given.changed else crates
     chosen = [it for it in chosen if not given.crates or it.name in given.crates]
-    return 0 if try_all(chosen, rtlib, given.jobs) else 1
+    return 0 if try_all(chosen, rtlib, given.jobs, given.write) else 1
 
 
 if __name__ == "__main__":
