@@ -19,9 +19,9 @@ EXAMPLES = os.path.join(os.path.dirname(os.path.dirname(os.path.dirname(os.path.
 PIECES = [b"foo();", b"[z-a]", b"<NONE>", b"{", b"}", b'"', b"(", b")", b"|", b"%{\n", b"%}\n", b"\n", b" ", b"{NONE}", b"/", b"$", b"^", b"\\400",
           b"REJECT;", b"yyless(0);", b"exit(64);", b"BEGIN(NONE);", b"<<EOF>> ;\n", b"/*", b"*/", b"\t", b"a |\n", b"%option none\n", b"%x INITIAL\n"]
 TOLD = re.compile(rb"(?:lex: line (\d+): |lex: )(\w+)(?: at (\d+))?\n")
-# What is told at the place of a word, where one has no meaning.
+# What is told at a place that lex does not tell: that of a word, of what has no end, of a name that is twice, and of a slash.
 OF_WORDS = (b"UnknownStatement", b"UnknownCondition", b"UnsupportedOption", b"BadCount", b"BadEofAction", b"BadStatus", b"LessAndMore",
-            b"NotLast", b"RejectCombination")
+            b"NotLast", b"RejectCombination", b"Unclosed", b"DuplicateName", b"DuplicateCondition", b"VariableTrailing")
 ERROR = re.compile(rb"[^: ]*(?::(\d+))?(?::(\d+))?: error: (\w+)\n")
 
 

@@ -146,10 +146,12 @@ def after(text, words):
 def hints():
     """What is expected for each reason, by the definitions of lexlook_check."""
     text = (ROOT / "crates/lexlook_check/specs/Hints.antt").read_text()
-    found = re.findall(r'^\w+ (?:patterns|kinds)\.(\w+) =\s+codes "((?:[^"\\]|\\.)*)"', text, re.M)
+    found = re.findall(r'^\w+ (?:patterns|kinds|builds)\.(\w+) =\s+codes\s+"((?:[^"\\]|\\.)*)"', text, re.M)
     return {kind: re.sub(r"\\(.)", r"\1", hint) for kind, hint in found}
 
 
+# How many are allowed, by the limit that is passed, and how many positions the only rule has.
+ALLOWED = {"TooManyPositions": (16384, 255 * 65), "TooManyStates": (8192, 2 + 1 + 2 * 14)}
 # What a word is not, by the reason, and the nearest one of words that have one.
 NOUNS = {
     "UnsupportedOption": "option that is read",
@@ -174,10 +176,17 @@ AT_FAULT = {
 BEFORE = {"LessAndMore": 1}
 
 
+# Where a fault is whose line alone lex tells: at the first of these bytes.
+PLACED = {"Unclosed": r'["{]', "DuplicateName": "", "DuplicateCondition": "INITIAL", "VariableTrailing": "/"}
+
+
 def word_met(kind, shown, at):
     """What is said of the word in this line that is at fault, and its place; nothing, and the place where there is none."""
-    if kind == "Unclosed":
-        return "", str(re.search(r'["{]', shown).start())
+    if kind in ALLOWED:
+        allowed, count = ALLOWED[kind]
+        return f"{allowed} are allowed; the rule at a.l:2 has the most positions, {count} of {count}; ", at
+    if kind in PLACED:
+        return "", str(re.search(PLACED[kind], shown).start())
     if kind not in NOUNS and kind not in AT_FAULT:
         return "", at
     action = shown.index(" ") if kind in AT_FAULT or shown[0] not in "%<[{" else 1
@@ -189,17 +198,53 @@ def word_met(kind, shown, at):
     return "", at or str(action + 1)
 
 
+# What is said of what stands at the place of a fault: by its reason, and the text from the byte before it on, or from it on.
+LISTED = "rules in braces behind a condition list are not read, and each rule begins with its list; "
+OTHER_CLASS = "no class is taken from another or added to one, and a class has all its bytes itself; "
+CONSTANT = "no character constant is read, and what is written stands in a string; "
+REMARKS = [
+    ("BadInterval", ">{", "", LISTED),
+    ("BadInterval", "", r"{[-+]}", OTHER_CLASS),
+    ("MissingOperand", r"\(\?", "", "a group with flags is not read, and a letter of both cases is a class, as `[Aa]`, or by -i; "),
+    ("MissingOperand", "", r"/\*", "a comment among rules stands behind a blank; "),
+    ("MissingOperand", ">$", "", LISTED),
+    ("UnknownStatement", "", "%{", "a block is no action, and braces alone hold several statements; "),
+    ("UnknownStatement", "", "%", "a format has `%s` once, for yytext, and `%%` for a `%`; "),
+    ("UnknownStatement", "'", "", CONSTANT),
+    ("UnknownStatement", "", r"return(?![\w-])", 'what a parser is to read is written, as by puts("NAME"); '),
+    ("UnknownStatement", "", r"(unput|input)(?![\w-])", "bytes are read and given back by rules and yyless alone; "),
+    ("Unclosed", "'", "", CONSTANT),
+]
+
+
+def remark(kind, shown, at):
+    """What is said of what stands at this place of a line."""
+    around, rest = shown[max(at - 1, 0) :], shown[at:]
+    met = [said for reason, before, behind, said in REMARKS if reason == kind and re.match(before, around) and re.match(behind, rest)]
+    return met[0] if met else ""
+
+
+def home(spec, shown, at):
+    """Where the name at this place of a line is defined before the rules, if it is: one that begins the line, or one in braces."""
+    name = re.match(r"[A-Za-z_][\w-]*" if at == 0 and shown[0] != "{" else r"{([A-Za-z_][\w-]*)}", shown[at:])
+    lines = spec[: spec.index("%%")].splitlines()
+    found = [n for n, line in enumerate(lines, 1) if name and re.match(rf"{name[name.lastindex or 0]}(?![\w-])", line)]
+    return f"`{name[name.lastindex or 0]}` is defined at a.l:{found[0]}; " if found else ""
+
+
 def faulty_rows(spec, line, expected):
     """The row of what `lexlook check` writes of a specification that lex refuses by this line; none where what follows is at fault too."""
     number, kind, at = re.fullmatch(r"lex: (?:line (\d+): )?(\w+)(?: at (\d+))?\n", line).groups()
     if any(later not in ("", "%%") for later in spec.splitlines()[int(number or 0) :]) and number:
         return
-    shown = (spec.splitlines() + [""])[int(number or 0) - 1]
+    shown = (spec.splitlines() + [""])[int(number) - 1] if number else ""
+    named = kind == "DuplicateName" or at
     word, at = word_met(kind, shown, at)
+    word += (home(spec, shown, int(at)) if named else "") + remark(kind, shown, int(at or 0))
     head = "".join(":" + part for part in (number, str(int(at) + 1) if at else None) if part and part != "0")
     written = f"a.l{head}: error: {kind}\n"
     if kind in expected:
-        blank = " " * len(number)
+        blank = " " * len(number or "0")
         written += f"    {number} | {shown}\n" if shown else ""
         written += f"    {blank} | {' ' * int(at)}^\n" if at else ""
         written += f"    {blank} = {word}{expected[kind]}\n"

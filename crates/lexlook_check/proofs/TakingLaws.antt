@@ -1,5 +1,5 @@
 -- What is told of one rule more.
-use Rattle.std.proofs.Common.{◌≡◌, ◌∙◌, ℕ, zero, suc, ◌+◌, List, ◌++◌, refl, ap, sym, append_assoc, append-nil, arith, flat_map}
+use Rattle.std.proofs.Common.{◌≡◌, ◌∙◌, ℕ, zero, suc, ◌+◌, List, ◌++◌, ap, sym, append_assoc, append-nil, arith, flat_map}
 use Rattle.std.specs.List.{range_with_len}
 use Rattle.lexlook_check.specs.Takings.{TakenTexts}
 

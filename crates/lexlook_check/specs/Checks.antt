@@ -19,6 +19,7 @@ use Rattle.lexlook_specs.specs.declared.words.finding.Words.{Words}
 use Rattle.lexlook_check.specs.Finding.{AreFaultsOf, ReadsSpec, max_faults}
 use Rattle.lexlook_check.specs.Notices.{max_notices, notices_of}
 use Rattle.lexlook_check.specs.Takings.{TakenTexts, takings_of, taking_of}
+use Rattle.lexlook_check.specs.Weights.{AreWeightsOf}
 use Rattle.lexlook_check.specs.declared.checking.Checked.{Checked}
 use Rattle.lexlook_check.specs.declared.notices.Notice.{Notice}
 
@@ -64,12 +65,13 @@ IsFoundOf options own faultless whole (Some left) None warnings takings notices 
     × AreNoticesOf options own faultless whole left notices
 
 -- the faults of a text, and what is found of the text that is left without them: what is defined before the line `own`
--- is there for others
+-- is there for others; and how many positions there are, where a limit is passed
 pub record IsChecked (options : Options) (own : ℕ) (text : List ℕ) (c : Checked) : Type 0 where
   pub left : Option (List ℕ)
   pub faults : AreFaultsOf (ReadsSpec (reading options)) max_faults text c.faults.items left
   pub found : IsFoundOf options own (length c.faults.items == 0) text left c.limit c.warnings.items
       (map taking_of c.takings.items) c.notices.items
+  pub weights : AreWeightsOf options left c.limit c.weights
 
 -- neither a fault nor a limit was found
 abbrev pub is_well : Checked → Bool

@@ -5,9 +5,11 @@ use Rattle.lexre_bytes.specs.declared.error.PatternErrorKind.{PatternErrorKind}
 use Rattle.lexre_bytes.specs.declared.error.PatternErrorKind.TheVariants as patterns
 use Rattle.lexre_bytes.specs.declared.refusals.SpecErrorKind.{SpecErrorKind}
 use Rattle.lexre_bytes.specs.declared.refusals.SpecErrorKind.TheVariants as kinds
+use Rattle.lexauto.specs.declared.error.BuildError.{BuildError}
+use Rattle.lexauto.specs.declared.error.BuildError.TheVariants as builds
 use Rattle.lexlook_check.specs.SourceLines.{under}
 use Rattle.lexlook_check.specs.declared.notices.NoticeKind.{NoticeKind}
-use Rattle.lexlook_check.specs.declared.notices.NoticeKind.TheVariants.{LettersAsBytes, LetterAlone, Backspace, UnusedDefinition, NeverEntered, NeverLeft, DefaultRule}
+use Rattle.lexlook_check.specs.declared.notices.NoticeKind.TheVariants.{LettersAsBytes, LetterAlone, Backspace, LineWalk, FlexTrail, UnusedDefinition, NeverEntered, NeverLeft, DefaultRule}
 
 -- of a pattern
 abbrev pub pattern_hint : PatternErrorKind → List ℕ
@@ -25,7 +27,7 @@ pattern_hint patterns.UnbalancedParen =
     codes "a parenthesis has its other; one that is a byte stands in quotes or behind a backslash"
 pattern_hint patterns.MissingOperand =
     codes "something to repeat or to choose stands there; a sign that is a byte stands in quotes or behind a backslash"
-pattern_hint patterns.UndefinedName = codes "a name is defined before the first `%%`"
+pattern_hint patterns.UndefinedName = codes "a name is defined before the first `%%`, and so are those in its pattern"
 pattern_hint patterns.DefinitionCycle = codes "no definition leads back to its name"
 pattern_hint patterns.TooDeep = codes "64 parentheses and names are open at most, and 64 signs stand on an item"
 pattern_hint patterns.TooBig = codes "a pattern has 65536 nodes at most"
@@ -50,7 +52,8 @@ action_hint other = codes "memory ran out"
 abbrev pub rule_hint : SpecErrorKind → List ℕ
 rule_hint kinds.UnknownCondition = codes "%s and %x declare conditions, and a list of them ends with `>` on its line"
 rule_hint kinds.VariableTrailing =
-    codes "one side of a trailing context has texts of one length, of 65535 bytes at most"
+    codes
+    "neither side of the `/` has texts of one length, of 65535 bytes at most: what stands behind it may be a byte or a class, or a rule of a condition may take it"
 rule_hint kinds.TwoTrailing = codes "a rule has one trailing context, by `/` or by a `$` at its end"
 rule_hint kinds.BadEofRule = codes "<<EOF>> stands alone before its action"
 rule_hint kinds.DuplicateEof = codes "a condition has one <<EOF>> rule"
@@ -73,6 +76,15 @@ definition_hint kinds.UnsupportedOption =
 definition_hint kinds.TooManyConditions = codes "there are 255 conditions at most, INITIAL among them"
 definition_hint other = rule_hint other
 
+-- of a limit
+abbrev pub limit_hint : BuildError → List ℕ
+limit_hint builds.TooManyPositions =
+    codes "a pattern has a position for each byte and class, in each copy that a repetition counts"
+limit_hint builds.TooManyStates =
+    codes
+    "there is a state for each set of positions that some input may have read last, so what a counted repetition has to remember may double with each count"
+limit_hint builds.OutOfMemory = codes "memory ran out"
+
 -- of what is warned of
 abbrev pub notice_hint : NoticeKind → List ℕ
 notice_hint LettersAsBytes =
@@ -81,6 +93,12 @@ notice_hint LetterAlone =
     codes "`\\d`, `\\s` and `\\w` are the letters themselves, and so are `\\D`, `\\S` and `\\W`: [0-9], [ \\t\\n] and [A-Za-z0-9_] are classes"
 notice_hint Backspace =
     codes "`\\b` is a backspace, the byte 8: no sign stands for the end of a word, and the longest text is taken anyway"
+notice_hint LineWalk =
+    codes
+    "where it does not match it is walked to the end of the line, and again from the next byte, so a line of 1000 bytes may take some 500000 steps: with `^` it is walked once"
+notice_hint FlexTrail =
+    codes
+    "one side has texts of one length, and so many bytes are left or taken; flex takes a side with `*`, `+`, `?`, `|` or an interval to vary, and may take more of what follows"
 notice_hint UnusedDefinition =
     codes "a definition stands for its pattern where its name is in braces, as `{DIGIT}`"
 notice_hint NeverEntered = codes "no BEGIN and no yy_push_state of a rule names it, so no match is made in it"

@@ -9,6 +9,8 @@ use Rattle.lexkit.specs.Generated.{lines_of}
 use Rattle.lexlook_text.specs.DefinitionLines.{definition_lines, lines_from}
 use Rattle.lexlook_text.specs.Pieces.{pieces_from}
 use Rattle.lexlook_check.specs.Conditions.{faultless_notices}
+use Rattle.lexlook_check.specs.FlexTrails.{trail_notices}
+use Rattle.lexlook_check.specs.LineWalks.{walk_notices}
 use Rattle.lexlook_check.specs.Unused.{max_looked_for, unused_notices}
 use Rattle.lexlook_check.specs.declared.notices.Notice.{Notice}
 use Rattle.lexlook_check.specs.declared.notices.NoticeKind.{NoticeKind}
@@ -51,10 +53,15 @@ abbrev pub definition_notices : ℕ × List ℕ → List Notice
 definition_notices l = let text =
     after_blanks (take_run goes_on_name l.1).1 in pattern_notices l.0 (length l.1 - length text) text
 
--- of the rule that begins a line, where there is one
+-- of the rule that begins a line: its pieces, its first class, where it walks each line at each byte, and its slash,
+-- where flex takes both sides of it to vary
+abbrev pub rule_line_notices : ℕ × List ℕ → List Notice
+rule_line_notices l = pattern_notices l.0 0 l.1 ++ walk_notices l ++ trail_notices l
+
+-- the same, where there is one
 abbrev pub line_notices : Option (ℕ × List ℕ) → List Notice
 line_notices None = []
-line_notices (Some l) = pattern_notices l.0 0 l.1
+line_notices (Some l) = rule_line_notices l
 
 -- of the rule at the line of this number, among all lines
 abbrev pub rule_notices : List (ℕ × List ℕ) → ℕ → List Notice

@@ -10,6 +10,7 @@ use crate::finding::{Found, find_faults};
 use crate::notices::{Notice, notices_of};
 use crate::reader::LexReader;
 use crate::takings::{Taking, takings_in};
+use crate::weights::{Weights, weights_in};
 use lexauto::BuildError;
 use lexauto_reports::Warning;
 use lexkit::{GenError, Made, Options, generate_tables, read_text};
@@ -23,6 +24,8 @@ pub struct Checked {
     pub faults: Vec<SpecError>,
     /// The limit that the automaton of what is left passes.
     pub limit: Option<BuildError>,
+    /// How many positions there are, where it passes one.
+    pub weights: Option<Weights>,
     /// The warnings of what is left, where there is neither a hundredth fault nor a limit.
     pub warnings: Vec<Warning>,
     /// By which rules the texts of those are taken that cannot be matched, where one is warned of.
@@ -97,19 +100,24 @@ fn check_left(
             Ok(Checked {
                 faults,
                 limit: None,
+                weights: None,
                 warnings,
                 takings,
                 notices,
             })
         }
         Err(GenError::Build(BuildError::OutOfMemory)) => Err(AllocError),
-        Err(GenError::Build(limit)) => Ok(Checked {
-            faults,
-            limit: Some(limit),
-            warnings: Vec::new(alloc),
-            takings: Vec::new(alloc),
-            notices: Vec::new(alloc),
-        }),
+        Err(GenError::Build(limit)) => {
+            let weights = weights_in(alloc, left, options, limit)?;
+            Ok(Checked {
+                faults,
+                limit: Some(limit),
+                weights: Some(weights),
+                warnings: Vec::new(alloc),
+                takings: Vec::new(alloc),
+                notices: Vec::new(alloc),
+            })
+        }
         Err(GenError::Spec(_)) | Err(GenError::OutOfMemory) => Err(AllocError),
     }
 }
@@ -140,6 +148,7 @@ pub fn check(
         None => Ok(Checked {
             faults,
             limit: None,
+            weights: None,
             warnings: Vec::new(alloc),
             takings: Vec::new(alloc),
             notices: Vec::new(alloc),

@@ -3,10 +3,12 @@ ghost use Rattle.std.specs.Prelude.{◌≡◌, ◌≤◌, ◌++◌, IfOk, OnOk, 
 ghost use Rattle.lex_semantics.specs.Limits.{max_file_bytes};
 ghost use Rattle.lexlook_text.specs.Known.{AreNamesOf};
 ghost use Rattle.lexlook_text.specs.LineViews.{line_of};
-ghost use Rattle.lexlook_check.specs.Findings.{AreInOrder, fault_finding, fault_place, fault_spot, findings_of, known_lines, limit_findings, notice_finding, warning_finding};
+ghost use Rattle.lexlook_check.specs.Findings.{AreInOrder, fault_finding, fault_place, fault_spot, finding_at, findings_of, known_lines, limit_findings, notice_finding, warning_finding, word_spot};
 
 use crate::checking::Checked;
+use crate::homes::again_spot;
 use crate::notices::{Notice, NoticeKind};
+use crate::weights::Weights;
 use lex_semantics::MAX_FILE_BYTES;
 use lexauto::BuildError;
 use lexauto_reports::Warning;
@@ -19,8 +21,8 @@ use std::alloc::{AllocError, Global};
 pub(crate) enum What {
     /// A fault, as lex calls it.
     Fault(SpecErrorKind),
-    /// A limit that the automaton passes.
-    Limit(BuildError),
+    /// A limit that the automaton passes, and how many positions there are.
+    Limit(BuildError, Option<Weights>),
     /// A warning of lex: of skipped code, or of a rule that cannot be matched.
     Warned(bool),
     /// What is warned of beside these.
@@ -69,9 +71,9 @@ pub(crate) fn known_lines(alloc: Global, text: &[u8]) -> Result<Vec<Line<'_>>, A
 }
 
 /// The word that is at fault, in a text with these lines and names.
-fn fault_spot(names: &KnownNames, lines: &[Line<'_>], fault: SpecError) -> Option<Spot>
+fn word_spot(names: &KnownNames, lines: &[Line<'_>], fault: SpecError) -> Option<Spot>
     requires { AreNamesOf (map line_of lines.now) names.now }
-    ensures { result ≡ fault_spot (map line_of lines.now) fault }
+    ensures { result ≡ word_spot (map line_of lines.now) fault }
 {
     match lines.get((fault.line as usize).saturating_sub(1)) {
         None => None,
@@ -79,13 +81,29 @@ fn fault_spot(names: &KnownNames, lines: &[Line<'_>], fault: SpecError) -> Optio
     }
 }
 
-/// A fault, at that word, or else at one byte, where lex tells its place.
-fn fault_finding(names: &KnownNames, lines: &[Line<'_>], fault: SpecError) -> Finding
+/// The name of a condition that is declared again, or else that word.
+fn fault_spot(
+    alloc: Global,
+    names: &KnownNames,
+    lines: &[Line<'_>],
+    fault: SpecError,
+) -> Result<Option<Spot>, AllocError>
     requires { AreNamesOf (map line_of lines.now) names.now }
-    ensures { result ≡ fault_finding (map line_of lines.now) fault }
+    ensures { IfOk result (λ spot. spot ≡ fault_spot (map line_of lines.now) fault) }
+{
+    let again = again_spot(alloc, lines, fault.line, fault.kind)?;
+    match again {
+        Some(spot) => Ok(Some(spot)),
+        None => Ok(word_spot(names, lines, fault)),
+    }
+}
+
+/// A fault, at this word, or else at one byte, where lex tells its place.
+fn finding_at(fault: SpecError, spot: Option<Spot>) -> Finding
+    ensures { result ≡ finding_at fault spot }
 {
     let what = What::Fault(fault.kind);
-    match fault_spot(names, lines, fault) {
+    match spot {
         None => Finding {
             line: fault.line,
             at: fault_place(fault.kind),
@@ -101,8 +119,23 @@ fn fault_finding(names: &KnownNames, lines: &[Line<'_>], fault: SpecError) -> Fi
     }
 }
 
+/// A fault of a text with these lines and names, at the word that is at fault.
+fn fault_finding(
+    alloc: Global,
+    names: &KnownNames,
+    lines: &[Line<'_>],
+    fault: SpecError,
+) -> Result<Finding, AllocError>
+    requires { AreNamesOf (map line_of lines.now) names.now }
+    ensures { IfOk result (λ finding. finding ≡ fault_finding (map line_of lines.now) fault) }
+{
+    let spot = fault_spot(alloc, names, lines, fault)?;
+    Ok(finding_at(fault, spot))
+}
+
 /// Appends faults of a text with these lines and names.
 fn add_faults(
+    alloc: Global,
     findings: &mut Vec<Finding>,
     names: &KnownNames,
     lines: &[Line<'_>],
@@ -113,21 +146,26 @@ fn add_faults(
         ≡ findings.old.items ++ map (fault_finding (map line_of lines.now)) faults.now) }
 {
     for fault in faults {
-        findings.push(fault_finding(names, lines, *fault))?;
+        let finding = fault_finding(alloc, names, lines, *fault)?;
+        findings.push(finding)?;
     }
     Ok(())
 }
 
 /// Appends a limit, where one is passed, at line 0, which is the whole.
-fn add_limit(findings: &mut Vec<Finding>, limit: Option<BuildError>) -> Result<(), AllocError>
-    ensures { OnOk result (findings.new.items ≡ findings.old.items ++ limit_findings limit) }
+fn add_limit(
+    findings: &mut Vec<Finding>,
+    limit: Option<BuildError>,
+    weights: Option<Weights>,
+) -> Result<(), AllocError>
+    ensures { OnOk result (findings.new.items ≡ findings.old.items ++ limit_findings limit weights) }
 {
     if let Some(limit) = limit {
         findings.push(Finding {
             line: 0,
             at: None,
             size: 1,
-            what: What::Limit(limit),
+            what: What::Limit(limit, weights),
         })?;
     }
     Ok(())
@@ -174,8 +212,14 @@ fn findings_of(
     ensures { IfOk result (λ findings. findings.items ≡ findings_of (map line_of lines.now) checked.now) }
 {
     let mut findings = Vec::new(alloc);
-    add_faults(&mut findings, names, lines, checked.faults.as_slice())?;
-    add_limit(&mut findings, checked.limit)?;
+    add_faults(
+        alloc,
+        &mut findings,
+        names,
+        lines,
+        checked.faults.as_slice(),
+    )?;
+    add_limit(&mut findings, checked.limit, checked.weights)?;
     add_warnings(&mut findings, checked.warnings.as_slice())?;
     add_notices(&mut findings, checked.notices.as_slice())?;
     Ok(findings)

@@ -1,10 +1,11 @@
 //! What is expected where a fault is.
 ghost use Rattle.std.specs.Prelude.{◌≡◌, ◌++◌, OnOk};
-ghost use Rattle.lexlook_check.specs.Hints.{action_hint, definition_hint, hint_words, notice_hint, pattern_hint, rule_hint};
+ghost use Rattle.lexlook_check.specs.Hints.{action_hint, definition_hint, hint_words, limit_hint, notice_hint, pattern_hint, rule_hint};
 
 use crate::notices::NoticeKind;
 use crate::source::add_under;
 use itoa::Buffer;
+use lexauto::BuildError;
 use lexlook_specs::add;
 use lexspec::{PatternErrorKind, SpecErrorKind};
 use std::alloc::AllocError;
@@ -36,7 +37,9 @@ fn pattern_hint(kind: PatternErrorKind) -> &'static str
         PatternErrorKind::MissingOperand => {
             "something to repeat or to choose stands there; a sign that is a byte stands in quotes or behind a backslash"
         }
-        PatternErrorKind::UndefinedName => "a name is defined before the first `%%`",
+        PatternErrorKind::UndefinedName => {
+            "a name is defined before the first `%%`, and so are those in its pattern"
+        }
         PatternErrorKind::DefinitionCycle => "no definition leads back to its name",
         PatternErrorKind::TooDeep => {
             "64 parentheses and names are open at most, and 64 signs stand on an item"
@@ -77,7 +80,7 @@ fn rule_hint(kind: SpecErrorKind) -> &'static str
             "%s and %x declare conditions, and a list of them ends with `>` on its line"
         }
         SpecErrorKind::VariableTrailing => {
-            "one side of a trailing context has texts of one length, of 65535 bytes at most"
+            "neither side of the `/` has texts of one length, of 65535 bytes at most: what stands behind it may be a byte or a class, or a rule of a condition may take it"
         }
         SpecErrorKind::TwoTrailing => {
             "a rule has one trailing context, by `/` or by a `$` at its end"
@@ -118,6 +121,21 @@ pub(crate) fn definition_hint(kind: SpecErrorKind) -> &'static str
     }
 }
 
+/// What is to be known where this limit is passed.
+pub(crate) fn limit_hint(limit: BuildError) -> &'static str
+    ensures { result.now ≡ limit_hint limit }
+{
+    match limit {
+        BuildError::TooManyPositions => {
+            "a pattern has a position for each byte and class, in each copy that a repetition counts"
+        }
+        BuildError::TooManyStates => {
+            "there is a state for each set of positions that some input may have read last, so what a counted repetition has to remember may double with each count"
+        }
+        BuildError::OutOfMemory => "memory ran out",
+    }
+}
+
 /// What is to be known where this is warned of.
 pub(crate) fn notice_hint(kind: NoticeKind) -> &'static str
     ensures { result.now ≡ notice_hint kind }
@@ -131,6 +149,12 @@ pub(crate) fn notice_hint(kind: NoticeKind) -> &'static str
         }
         NoticeKind::Backspace => {
             "`\\b` is a backspace, the byte 8: no sign stands for the end of a word, and the longest text is taken anyway"
+        }
+        NoticeKind::LineWalk => {
+            "where it does not match it is walked to the end of the line, and again from the next byte, so a line of 1000 bytes may take some 500000 steps: with `^` it is walked once"
+        }
+        NoticeKind::FlexTrail => {
+            "one side has texts of one length, and so many bytes are left or taken; flex takes a side with `*`, `+`, `?`, `|` or an interval to vary, and may take more of what follows"
         }
         NoticeKind::UnusedDefinition => {
             "a definition stands for its pattern where its name is in braces, as `{DIGIT}`"

@@ -79,11 +79,13 @@ fn what_name(what: What) -> &'static str
         What::Noticed(NoticeKind::LettersAsBytes) => "LettersAsBytes",
         What::Noticed(NoticeKind::LetterAlone) => "LetterAlone",
         What::Noticed(NoticeKind::Backspace) => "Backspace",
+        What::Noticed(NoticeKind::LineWalk) => "LineWalk",
+        What::Noticed(NoticeKind::FlexTrail) => "FlexTrail",
         What::Noticed(NoticeKind::UnusedDefinition) => "UnusedDefinition",
         What::Noticed(NoticeKind::NeverEntered) => "NeverEntered",
         What::Noticed(NoticeKind::NeverLeft) => "NeverLeft",
         What::Noticed(NoticeKind::DefaultRule(_)) => "DefaultRule",
-        What::Fault(_) | What::Limit(_) => what_text(what),
+        What::Fault(_) | What::Limit(_, _) => what_text(what),
     }
 }
 

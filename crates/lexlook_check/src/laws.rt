@@ -3,6 +3,7 @@ ghost use Rattle.lexlook_check.specs.Checks.{NothingToldJustOf};
 ghost use Rattle.lexlook_check.specs.ConditionExamples.{ConditionExamples};
 ghost use Rattle.lexlook_check.specs.LeavingExamples.{LeavingExamples};
 ghost use Rattle.lexlook_check.specs.NoticeExamples.{NoticeExamples};
+ghost use Rattle.lexlook_check.specs.WarnedRules.{WarnedRules};
 ghost use Rattle.lexlook_check.specs.WordExamples.{WordExamples};
 
 use lexspec::one_specification;
@@ -24,12 +25,17 @@ pub fn examples_of_notices()
     ensures { NoticeExamples }
 {}
 
+/// Rules that walk each line, and those that flex takes otherwise, worked by hand.
+pub fn examples_of_warned_rules()
+    ensures { WarnedRules }
+{}
+
 /// Conditions that no action enters, or leaves, worked by hand.
 pub fn examples_of_conditions()
     ensures { ConditionExamples }
 {}
 
-/// What is said of words that have no meaning, worked by hand.
+/// What is said of words that have no meaning, and where names are defined or declared, worked by hand.
 pub fn examples_of_words()
     ensures { WordExamples }
 {}

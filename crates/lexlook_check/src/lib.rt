@@ -5,15 +5,20 @@
 //! - `leaving`: the text in which the lines of a rule are empty.
 //! - `finding`: the faults that a reader answers of a text, each behind that of the text without the rules before.
 //! - `unused`: definitions that no pattern uses.
+//! - `line_walks`: rules that walk a line at each of its bytes.
+//! - `flex_trails`: trailing context that flex takes otherwise.
 //! - `copies`: what the default rule copies in each condition.
 //! - `conditions`: conditions that no action enters, or leaves, and exclusive ones in which the default rule copies.
 //! - `notices`: what is warned of in patterns and definitions, beside what lex warns of.
 //! - `takings`: by which rules the texts of one are taken that cannot be matched.
+//! - `weights`: how many positions there are where a limit is passed, and which rule has the most.
 //! - `checking`: the faults, the limit that the automaton of what is left passes, and the warnings: `check`.
 //! - `places`: the files, as one text, and in which of them a line stands.
 //! - `source`: the line of a fault as it stands, with a mark under its place.
 //! - `hints`: what is expected where a fault is.
 //! - `words`: the word at the place of a fault that has no meaning there, and the nearest one that has.
+//! - `remarks`: what is said of what stands at the place of a fault, where that is known from flex or from elsewhere.
+//! - `homes`: where the name at the place of a fault is defined or declared.
 //! - `findings`: what is told of a text, in order of place.
 //! - `lines`: the lines of what was found.
 //! - `json`: the same as objects of JSON.
@@ -47,28 +52,34 @@ mod copies;
 mod error;
 mod finding;
 mod findings;
+mod flex_trails;
 mod hints;
+mod homes;
 mod json;
 mod laws;
 mod leaving;
+mod line_walks;
 mod lines;
 mod notices;
 mod places;
 mod reader;
+mod remarks;
 mod source;
 mod takings;
 mod telling;
 mod unused;
+mod weights;
 mod words;
 
 pub use checking::{Checked, check};
 pub use error::CheckError;
 pub use finding::MAX_FAULTS;
 pub use laws::{
-    examples_of_conditions, examples_of_leaving, examples_of_notices, examples_of_words,
-    nothing_told,
+    examples_of_conditions, examples_of_leaving, examples_of_notices, examples_of_warned_rules,
+    examples_of_words, nothing_told,
 };
 pub use notices::{Notice, NoticeKind};
 pub use places::SourceFile;
 pub use takings::Taking;
 pub use telling::{Form, tell_check};
+pub use weights::{RuleWeight, Weights};

@@ -10,11 +10,14 @@ ghost use Rattle.lexlook_check.specs.SourceLines.{place_in};
 ghost use Rattle.lexlook_check.specs.Takings.{is_useless, taking_of};
 
 use crate::findings::{Finding, What};
-use crate::hints::{add_hint, definition_hint, notice_hint};
+use crate::hints::{add_hint, definition_hint, limit_hint, notice_hint};
+use crate::homes::add_home_of;
 use crate::notices::NoticeKind;
 use crate::places::{SourceFile, line_place};
+use crate::remarks::remark_told;
 use crate::source::{add_source, place_in, text_line};
 use crate::takings::{Taking, add_taken, taking_for};
+use crate::weights::add_limit;
 use crate::words::add_front;
 use itoa::Buffer;
 use lexauto::BuildError;
@@ -84,6 +87,8 @@ fn notice_text(kind: NoticeKind) -> &'static str
         NoticeKind::LettersAsBytes => "letters of a class as bytes",
         NoticeKind::LetterAlone => "letter behind a backslash",
         NoticeKind::Backspace => "backspace by its escape",
+        NoticeKind::LineWalk => "line walked at each byte",
+        NoticeKind::FlexTrail => "trailing context that flex takes otherwise",
         NoticeKind::UnusedDefinition => "definition that no pattern uses",
         NoticeKind::NeverEntered => "condition that no action enters",
         NoticeKind::NeverLeft => "condition that no action leaves",
@@ -96,7 +101,7 @@ pub(crate) fn severity_text(what: What) -> &'static str
     ensures { result.now ≡ severity_words what }
 {
     match what {
-        What::Fault(_) | What::Limit(_) => "error",
+        What::Fault(_) | What::Limit(_, _) => "error",
         What::Warned(_) | What::Noticed(_) => "warning",
     }
 }
@@ -107,7 +112,7 @@ pub(crate) fn what_text(what: What) -> &'static str
 {
     match what {
         What::Fault(kind) => kind.name(),
-        What::Limit(limit) => limit_text(limit),
+        What::Limit(limit, _) => limit_text(limit),
         What::Warned(code) => warning_text(code),
         What::Noticed(kind) => notice_text(kind),
     }
@@ -119,14 +124,17 @@ fn hint_of(what: What) -> Option<&'static str>
 {
     match what {
         What::Fault(kind) => Some(definition_hint(kind)),
-        What::Limit(_) | What::Warned(_) => None,
+        What::Limit(limit, _) => Some(limit_hint(limit)),
+        What::Warned(_) => None,
         What::Noticed(kind) => Some(notice_hint(kind)),
     }
 }
 
-/// What is told of the word at the place in this line of the text, which has these names, and what is expected there.
+/// What is told of the word at the place in this line of the text, which has these names, where that is defined or declared,
+/// or how many positions there are where a limit is passed, and what is expected there.
 pub(crate) fn full_hint(
     alloc: Global,
+    files: &[SourceFile<'_>],
     whole: &[u8],
     names: &KnownNames,
     what: What,
@@ -134,13 +142,17 @@ pub(crate) fn full_hint(
     line: &[u8],
 ) -> Result<Option<Vec<u8>>, AllocError>
     requires { AreNamesOf (known_lines whole.now) names.now }
-    ensures { IfOk result (λ hint. option_map (λ h. h.items) hint ≡ full_hint whole.now what offset line.now) }
+    ensures { IfOk result (λ hint. option_map (λ h. h.items) hint
+        ≡ full_hint files.now whole.now what offset line.now) }
 {
     match hint_of(what) {
         None => Ok(None),
         Some(hint) => {
             let mut text = Vec::new(alloc);
             add_front(&mut text, names, what, offset, line)?;
+            add_home_of(alloc, &mut text, files, whole, what, offset, line)?;
+            add_limit(&mut text, files, what)?;
+            add(&mut text, remark_told(whole, what, offset, line).as_bytes())?;
             add(&mut text, hint.as_bytes())?;
             Ok(Some(text))
         }
@@ -224,6 +236,7 @@ pub(crate) fn whole_hint(
     match taking_for(takings, finding) {
         None => full_hint(
             alloc,
+            files,
             whole,
             names,
             finding.what,

@@ -6,9 +6,11 @@ ghost use Rattle.lex_semantics.specs.Limits.{max_file_bytes};
 ghost use Rattle.lexspec.specs.Views.{spec_of};
 ghost use Rattle.lexlook_text.specs.LineViews.{line_of};
 ghost use Rattle.lexlook_text.specs.PieceViews.{piece_of};
-ghost use Rattle.lexlook_check.specs.Notices.{definition_notices, escapes_letter, has_letters, max_notices, notice_of, notices_of, pattern_notices, piece_notices, rule_notices, text_notices};
+ghost use Rattle.lexlook_check.specs.Notices.{definition_notices, escapes_letter, has_letters, max_notices, notice_of, notices_of, pattern_notices, piece_notices, rule_line_notices, rule_notices, text_notices};
 
 use crate::conditions::add_conditions;
+use crate::flex_trails::add_trail;
+use crate::line_walks::add_walk;
 use crate::unused::add_unused;
 use lexkit::lines_of as rule_lines;
 use lexlook_text::{Line, LineKind, Piece, lines_of, pieces_of, section_lines};
@@ -26,6 +28,10 @@ pub enum NoticeKind {
     LetterAlone,
     /// `\b` outside of classes and quotes: a backspace.
     Backspace,
+    /// A rule that begins with `.*` or the like and goes on, so that it walks to the end of the line at each byte.
+    LineWalk,
+    /// A trailing context whose sides flex takes to vary in length, though one does not.
+    FlexTrail,
     /// A definition whose name stands in braces nowhere.
     UnusedDefinition,
     /// A condition that no action enters.
@@ -154,6 +160,19 @@ fn add_definition_notices(
     add_pattern_notices(alloc, notices, line.number, before, text)
 }
 
+/// Appends what is warned of in the rule that begins a line.
+fn add_rule_line_notices(
+    alloc: Global,
+    notices: &mut Vec<Notice>,
+    line: Line<'_>,
+) -> Result<(), AllocError>
+    ensures { OnOk result (notices.new.items ≡ notices.old.items ++ rule_line_notices (line_of line.entry)) }
+{
+    add_pattern_notices(alloc, notices, line.number, 0, line.text)?;
+    add_walk(notices, line)?;
+    add_trail(alloc, notices, line)
+}
+
 /// Appends what is warned of in the rule that stands at this line.
 fn add_rule_notices(
     alloc: Global,
@@ -165,7 +184,7 @@ fn add_rule_notices(
 {
     match lines.get((rule as usize).saturating_sub(1)) {
         None => Ok(()),
-        Some(line) => add_pattern_notices(alloc, notices, line.number, 0, line.text),
+        Some(line) => add_rule_line_notices(alloc, notices, *line),
     }
 }
 

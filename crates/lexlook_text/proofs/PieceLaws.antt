@@ -6,7 +6,7 @@ use Rattle.std.proofs.lemmas.Str.{IsUtf8-from_is_utf8}
 use Rattle.lex_semantics.specs.Reading.{is_white}
 use Rattle.lexlook_text.specs.LineViews.{line_of}
 use Rattle.lexlook_text.specs.PieceViews.{piece_of}
-use Rattle.lexlook_text.specs.Pieces.{behind_pattern, behind_piece, pieces_from}
+use Rattle.lexlook_text.specs.Pieces.{behind_pattern, behind_piece, from_slash, pieces_from, stops_at_slash}
 use Rattle.lexlook_text.specs.declared.definitions.Line.{Line}
 use Rattle.lexlook_text.specs.declared.pieces.Piece.{Piece}
 
@@ -91,3 +91,25 @@ pub next_in_pattern : (c more : ℕ) (t rest : List ℕ) → rest ≡ c ∷ t �
 next_in_pattern c more t rest is black size =
     subst (λ r. more ≡ length t - length (behind_piece r) → behind_pattern 0 r ≡ behind_pattern 0 (drop (more + 1) r))
     (sym is) (λ e. goes_on c more t black e) size
+
+-- behind the first k bytes the slash is looked for on
+skipped_to_slash : (k : ℕ) (t : List ℕ) → from_slash k t ≡ from_slash 0 (drop k t)
+skipped_to_slash zero t = refl
+skipped_to_slash (suc k) [] = refl
+skipped_to_slash (suc k) (c ∷ t) = skipped_to_slash k t
+
+goes_on_to_slash : (c more : ℕ) (t : List ℕ) → stops_at_slash c ≡ false → more ≡ length t - length (behind_piece (c ∷ t))
+    → from_slash 0 (c ∷ t) ≡ from_slash 0 (drop (more + 1) (c ∷ t))
+goes_on_to_slash c more t black size =
+    let real : ℕ = length t - length (behind_piece (c ∷ t)) in
+    let long : suc real ≡ more + 1 = omega (arith, size) in
+    other_of (stops_at_slash c) (c ∷ t) (from_slash real t) black
+    ∙ skipped_to_slash real t
+    ∙ ap (λ k. from_slash 0 (drop k (c ∷ t))) long
+
+-- the first slash is behind the first piece that is none
+pub next_to_slash : (c more : ℕ) (t rest : List ℕ) → rest ≡ c ∷ t → stops_at_slash c ≡ false → more ≡ length t - length (behind_piece rest)
+    → from_slash 0 rest ≡ from_slash 0 (drop (more + 1) rest)
+next_to_slash c more t rest is black size =
+    subst (λ r. more ≡ length t - length (behind_piece r) → from_slash 0 r ≡ from_slash 0 (drop (more + 1) r))
+    (sym is) (λ e. goes_on_to_slash c more t black e) size

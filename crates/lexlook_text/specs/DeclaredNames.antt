@@ -1,11 +1,12 @@
--- Where the conditions that a text declares stand. (flex, Start Conditions.)
-use Rattle.std.specs.Prelude.{ℕ, suc, ◌&&◌, Bool, true, not, if◌then◌else◌, List, [], ◌∷◌, ◌++◌, flat_map, length, codes}
-use Rattle.lex_semantics.specs.ByteSets.{is_blank}
+-- Where the conditions and definitions of a text stand. (flex, Start Conditions, Format of the Input File.)
+use Rattle.std.specs.Prelude.{ℕ, suc, ◌==◌, ◌&&◌, ◌||◌, Bool, true, false, not, if◌then◌else◌, List, [], ◌∷◌, ◌++◌, flat_map, map, length, Option, Some, None, codes}
+use Rattle.lex_semantics.specs.ByteSets.{is_blank, same_bytes}
 use Rattle.lexspec_lines.specs.DefinitionLines.{has_name}
 use Rattle.lexspec_lines.specs.Lines.{before_blank, line_in, words}
 use Rattle.lexlook_text.specs.DefinitionLines.{section_lines}
+use Rattle.lexlook_text.specs.Known.{front_name}
 use Rattle.lexlook_text.specs.declared.naming.DeclaredName.{DeclaredName}
-use Rattle.lexlook_text.specs.declared.definitions.LineKind.TheVariants.{Declaration}
+use Rattle.lexlook_text.specs.declared.definitions.LineKind.TheVariants.{Declaration, Definition}
 
 -- what a `DeclaredName` stands for: its line, how many bytes of that stand before it, and the name
 abbrev pub declared_name_of : DeclaredName → ℕ × ℕ × List ℕ
@@ -28,3 +29,30 @@ declared_in l =
 -- the conditions that these lines declare, but for INITIAL
 abbrev pub declared_conditions : List (ℕ × List ℕ) → List (ℕ × ℕ × List ℕ)
 declared_conditions lines = flat_map declared_in (section_lines Declaration lines)
+
+-- the name that begins a line
+abbrev pub front_place : ℕ × List ℕ → ℕ × ℕ × List ℕ
+front_place l = (l.0, 0, front_name l.1)
+
+-- the definitions that stand in these lines, each at its name
+abbrev pub defined_names : List (ℕ × List ℕ) → List (ℕ × ℕ × List ℕ)
+defined_names lines = map front_place (section_lines Definition lines)
+
+-- of names at their places the first that is this one
+abbrev pub first_named : List ℕ → List (ℕ × ℕ × List ℕ) → Option (ℕ × ℕ × List ℕ)
+first_named name [] = None
+first_named name (p ∷ ps) = if same_bytes p.2 name then Some p else first_named name ps
+
+-- a name does not stand at the place of the first that is the same
+abbrev pub is_behind : ℕ × ℕ × List ℕ → Option (ℕ × ℕ × List ℕ) → Bool
+is_behind p None = false
+is_behind p (Some q) = not (q.0 == p.0 && q.1 == p.1)
+
+-- a condition is declared before: INITIAL always is, and others are where one of all has the name before
+abbrev pub is_again : List (ℕ × ℕ × List ℕ) → ℕ × ℕ × List ℕ → Bool
+is_again all p = same_bytes p.2 (codes "INITIAL") || is_behind p (first_named p.2 all)
+
+-- of these the first at line n that is declared before
+abbrev pub again_in : List (ℕ × ℕ × List ℕ) → ℕ → List (ℕ × ℕ × List ℕ) → Option (ℕ × ℕ × List ℕ)
+again_in all n [] = None
+again_in all n (p ∷ ps) = if p.0 == n && is_again all p then Some p else again_in all n ps

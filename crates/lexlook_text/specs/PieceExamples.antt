@@ -1,14 +1,19 @@
 -- Pieces of patterns, lines of definitions, names that are near, and words that have no meaning, worked by hand.
 use Rattle.std.specs.Prelude.{◌≡◌, ℕ, List, [], ◌∷◌, Option, Some, None, codes, map, option_map, true}
 use Rattle.lexre_bytes.specs.declared.refusals.SpecErrorKind.{SpecErrorKind}
-use Rattle.lexre_bytes.specs.declared.refusals.SpecErrorKind.TheVariants.{BadCount, LessAndMore, Unclosed, UnknownCondition, UnknownStatement, UnsupportedOption}
+use Rattle.lexre_bytes.specs.declared.refusals.SpecErrorKind.TheVariants.{BadCount, DuplicateName, LessAndMore, Unclosed, UnknownCondition, UnknownStatement, UnsupportedOption, VariableTrailing}
 use Rattle.lexlook_text.specs.DefinitionLines.{definition_lines, lines_from, section_lines}
-use Rattle.lexlook_text.specs.DeclaredNames.{declared_conditions}
+use Rattle.lexlook_text.specs.DeclaredNames.{again_in, declared_conditions, defined_names, first_named}
 use Rattle.lexlook_text.specs.Known.{argument_names, condition_names}
 use Rattle.lexlook_text.specs.Names.{nearest, unlike}
 use Rattle.lexlook_text.specs.Pieces.{behind_pattern, pieces_from}
 use Rattle.lexlook_text.specs.Spots.{spot_of}
 use Rattle.lexlook_text.specs.declared.definitions.LineKind.TheVariants.{Declaration}
+
+-- of the conditions of a text that at a line which is declared before
+abbrev pub Repeats : ℕ → List ℕ → Option (ℕ × ℕ × List ℕ) → Type 0
+Repeats n text found =
+    let places = declared_conditions (lines_from 1 true text) in again_in places n places ≡ found
 
 pub record PieceExamples : Type 0 where
   -- a class with a blank, quotes with one, a name, an escape, and a byte before the blank that ends the pattern
@@ -24,6 +29,16 @@ pub record PieceExamples : Type 0 where
   -- the same with their lines and places there
   pub declared : declared_conditions (lines_from 1 true (codes "%{\n%s A\n%}\n%x B  CD\n%option stack\n%%\n%x E\n"))
       ≡ (4, 3, codes "B") ∷ (4, 6, codes "CD") ∷ []
+  -- the definitions with theirs, and the first of two
+  pub defined : defined_names (lines_from 1 true (codes "A b\n%s C\nD e\n%%\nF g\n"))
+      ≡ (1, 0, codes "A") ∷ (3, 0, codes "D") ∷ []
+  pub first : first_named (codes "B") ((2, 3, codes "A") ∷ (4, 5, codes "B") ∷ (6, 7, codes "B") ∷ [])
+      ≡ Some (4, 5, codes "B")
+  -- the second of two of a line, and not the first; one of an earlier line; and INITIAL
+  pub again : Repeats 1 (codes "%s A B A B") (Some (1, 7, codes "A"))
+  pub behind_line : Repeats 2 (codes "%s A\n%x B A") (Some (2, 5, codes "A"))
+  pub before_line : Repeats 1 (codes "%s A\n%x B A") None
+  pub initial : Repeats 1 (codes "%s INITIAL") (Some (1, 3, codes "INITIAL"))
 
 pub record NameExamples : Type 0 where
   -- a name that goes on, one with other letters, one with a letter twice, and two letters that changed places
@@ -69,3 +84,6 @@ pub record SpotExamples : Type 0 where
   pub listed : Finds UnknownCondition (codes "<A,B>c ;\n") (Some (3, 3, 1))
   pub begun : Finds UnknownCondition (codes "<A>c BEGIN(B);\n") (Some (3, 11, 1))
   pub option : Finds UnsupportedOption (codes "%option stack reentrant\n") (Some (3, 14, 9))
+  -- the name of a definition, and a slash, but in quotes and in a class
+  pub name : Finds DuplicateName (codes "AB [a]\n") (Some (3, 0, 2))
+  pub slash : Finds VariableTrailing (codes "\"/\"[/]*\\//b* /c\n") (Some (3, 9, 1))

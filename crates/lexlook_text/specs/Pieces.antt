@@ -1,6 +1,6 @@
 -- The pieces of a pattern, as they stand: classes, texts in quotes, names and intervals in braces, escapes, and single
 -- bytes. (POSIX, lex, Regular Expressions in lex.)
-use Rattle.std.specs.Prelude.{ℕ, zero, suc, ◌-◌, ◌==◌, Bool, false, if◌then◌else◌, List, [], ◌∷◌, length, take, drop, unwrap_or}
+use Rattle.std.specs.Prelude.{ℕ, zero, suc, ◌-◌, ◌==◌, ◌||◌, Bool, false, if◌then◌else◌, List, [], ◌∷◌, length, take, drop, unwrap_or}
 use Rattle.lex_semantics.specs.Reading.{is_white}
 use Rattle.lexre_bytes.specs.Lexical.{class_at}
 use Rattle.lexre_bytes.specs.Passing.{rest_of_class}
@@ -39,3 +39,15 @@ behind_pattern k [] = []
 behind_pattern (suc k) (c ∷ t) = behind_pattern k t
 behind_pattern zero (c ∷ t) =
     if is_white c then c ∷ t else behind_pattern (length t - length (behind_piece (c ∷ t))) t
+
+-- a blank, a newline or a `/` (47)
+abbrev pub stops_at_slash : ℕ → Bool
+stops_at_slash c = is_white c || c == 47
+
+-- what the first `/` of the pattern begins, outside of its other pieces, or else what follows the pattern; the first k
+-- bytes belong to a piece before
+abbrev pub from_slash : ℕ → List ℕ → List ℕ
+from_slash k [] = []
+from_slash (suc k) (c ∷ t) = from_slash k t
+from_slash zero (c ∷ t) =
+    if stops_at_slash c then c ∷ t else from_slash (length t - length (behind_piece (c ∷ t))) t

@@ -5,13 +5,13 @@ use Rattle.std.specs.Option.{option_or}
 use Rattle.lex_semantics.specs.Limits.{max_file_bytes}
 use Rattle.lex_semantics.specs.Reading.{after_blanks, begins}
 use Rattle.lexre_bytes.specs.declared.refusals.SpecErrorKind.{SpecErrorKind}
-use Rattle.lexre_bytes.specs.declared.refusals.SpecErrorKind.TheVariants.{BadCount, BadEofAction, BadStatus, LessAndMore, NotLast, RejectCombination, Unclosed, UnknownCondition, UnknownStatement, UnsupportedOption}
+use Rattle.lexre_bytes.specs.declared.refusals.SpecErrorKind.TheVariants.{BadCount, BadEofAction, BadStatus, DuplicateName, LessAndMore, NotLast, RejectCombination, Unclosed, UnknownCondition, UnknownStatement, UnsupportedOption, VariableTrailing}
 use Rattle.lexspec_lines.specs.Lines.{before_blank}
 use Rattle.lexspec_lines.specs.Runs.{split_before}
 use Rattle.lexlook_text.specs.Formats.{format_spot}
-use Rattle.lexlook_text.specs.Known.{option_words, statement_words}
+use Rattle.lexlook_text.specs.Known.{front_name, option_words, statement_words}
 use Rattle.lexlook_text.specs.Opened.{unclosed_spot}
-use Rattle.lexlook_text.specs.Pieces.{behind_pattern}
+use Rattle.lexlook_text.specs.Pieces.{behind_pattern, from_slash}
 use Rattle.lexlook_text.specs.Scan.{start_at, unknown_from}
 use Rattle.lexlook_text.specs.declared.scan.Spot.{Spot}
 
@@ -69,11 +69,21 @@ abbrev pub condition_spot : List ℕ → List ℕ → ℕ × List ℕ → Option
 condition_spot conditions arguments l =
     option_or (listed_spot conditions l) (action_spot (statement_words, arguments) 0 l)
 
+-- the name that begins the line
+abbrev pub front_spot : ℕ × List ℕ → Spot
+front_spot l = record { line = l.0; at = 0; size = length (front_name l.1) }
+
+-- the slash of a rule
+abbrev pub slash_spot : ℕ × List ℕ → Spot
+slash_spot l = record { line = l.0; at = length l.1 - length (from_slash 0 l.1); size = 1 }
+
 -- of a line with a fault of this kind
 abbrev pub kind_spot : List ℕ → List ℕ → SpecErrorKind → ℕ × List ℕ → Option Spot
 kind_spot conditions arguments UnsupportedOption l = option_spot l
 kind_spot conditions arguments UnknownCondition l = condition_spot conditions arguments l
 kind_spot conditions arguments Unclosed l = unclosed_spot l
+kind_spot conditions arguments DuplicateName l = Some (front_spot l)
+kind_spot conditions arguments VariableTrailing l = Some (slash_spot l)
 kind_spot conditions arguments kind l = statement_spot (sound_words kind) (others_before kind) arguments l
 
 -- the same, where the text is no longer than lex takes

@@ -5,7 +5,7 @@
 //! - `pieces`: classes, texts in quotes and other pieces of a pattern, as they stand, and what follows the pattern.
 //! - `names`: the words of a text, and which of them is nearest to a name.
 //! - `known`: the names that a text declares, and those of statements and options.
-//! - `naming`: where the conditions that a text declares stand.
+//! - `naming`: where the conditions that a text declares stand, and its definitions, and which is declared twice.
 //! - `scan`: the first name of a text that is not among some words, outside of strings and comments.
 //! - `opened`: where what has no end was opened.
 //! - `formats`: where the format of a printf has what is not read.
@@ -35,7 +35,7 @@ mod spots;
 pub use definitions::{Line, LineKind, lines_of, section_lines};
 pub use known::{CLASSES, KnownNames, OPTIONS, STATEMENTS, names_of};
 pub use laws::{examples_of_names, examples_of_pieces, examples_of_spots};
-pub use names::{has_word, nearest};
-pub use naming::{DeclaredName, declared_conditions};
+pub use names::{has_word, nearest, split_word};
+pub use naming::{DeclaredName, declared_again, declared_conditions, defined_names, first_named};
 pub use pieces::{Piece, pieces_of};
 pub use spots::{Spot, spot_of};

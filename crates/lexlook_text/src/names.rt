@@ -7,7 +7,7 @@ ghost use Rattle.lexlook_text.specs.Names.{alike, is_near, longer, nearer_name, 
 use lexspec_lines::{is_blank, skip_blanks, split_before};
 
 /// The bytes before the first blank, and the text from it on.
-pub(crate) fn split_word(text: &[u8]) -> (&[u8], &[u8])
+pub fn split_word(text: &[u8]) -> (&[u8], &[u8])
     ensures word { before_blank text.now ≡ (result.0.now, result.1.now) }
     ensures shorter { length result.1.now ≤ length text.now }
 {

@@ -1,6 +1,6 @@
 //! The pieces of a pattern, as they stand. (POSIX, lex, Regular Expressions in lex.)
 ghost use Rattle.std.specs.Prelude.{◌≡◌, ◌≤◌, ◌<◌, ◌+◌, ◌^◌, false, IfOk, length, map};
-ghost use Rattle.lexlook_text.specs.Pieces.{behind_pattern, behind_piece, behind_quote, pieces_from};
+ghost use Rattle.lexlook_text.specs.Pieces.{behind_pattern, behind_piece, behind_quote, from_slash, pieces_from, stops_at_slash};
 ghost use Rattle.lexlook_text.specs.PieceViews.{piece_of};
 
 use lexre_bytes::{skip_class, skip_first};
@@ -81,6 +81,28 @@ pub(crate) fn behind_pattern(text: &[u8]) -> &[u8]
     let mut rest = text;
     'pieces: while let Some((first, next)) = rest.split_first() {
         if is_blank(*first) || *first == b'\n' {
+            return rest;
+        }
+        let more = next.len().saturating_sub(behind_piece(rest).len());
+        rest = rest.split_at(more + 1).1;
+    }
+    rest
+}
+
+/// Whether a byte is a blank, a newline or a slash.
+fn stops_at_slash(byte: u8) -> bool
+    ensures { result ≡ stops_at_slash byte }
+{
+    is_blank(byte) || byte == b'\n' || byte == b'/'
+}
+
+/// What the first slash of the pattern that begins the text begins, or else what follows the pattern.
+pub(crate) fn from_slash(text: &[u8]) -> &[u8]
+    ensures { result.now ≡ from_slash 0 text.now }
+{
+    let mut rest = text;
+    'pieces: while let Some((first, next)) = rest.split_first() {
+        if stops_at_slash(*first) {
             return rest;
         }
         let more = next.len().saturating_sub(behind_piece(rest).len());

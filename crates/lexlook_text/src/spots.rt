@@ -2,7 +2,7 @@
 ghost use Rattle.std.specs.Prelude.{◌≡◌, ◌≤◌, ◌+◌, length, option_map};
 ghost use Rattle.lex_semantics.specs.Limits.{max_file_bytes};
 ghost use Rattle.lexlook_text.specs.LineViews.{line_of};
-ghost use Rattle.lexlook_text.specs.Spots.{action_spot, condition_spot, first_spot, kind_spot, listed_spot, option_spot, other_spot, others_before, sound_words, spot_behind, spot_of, statement_spot};
+ghost use Rattle.lexlook_text.specs.Spots.{action_spot, condition_spot, first_spot, front_spot, kind_spot, listed_spot, option_spot, other_spot, others_before, slash_spot, sound_words, spot_behind, spot_of, statement_spot};
 ghost use Rattle.lexlook_text.specs.WordViews.{words_of};
 
 use crate::definitions::Line;
@@ -10,11 +10,11 @@ use crate::formats::format_spot;
 use crate::known::{KnownNames, OPTIONS, STATEMENTS};
 use crate::names::split_word;
 use crate::opened::unclosed_spot;
-use crate::pieces::behind_pattern;
+use crate::pieces::{behind_pattern, from_slash};
 pub use crate::scan::Spot;
 use crate::scan::{Cursor, Words, unknown_behind};
 use lex_semantics::MAX_FILE_BYTES;
-use lexre_bytes::{SpecErrorKind, skip_first};
+use lexre_bytes::{SpecErrorKind, skip_first, split_name};
 use lexspec_lines::{skip_blanks, split_before};
 
 /// The first name that is not among these words, from a rest of the text of a line on, but for so many before it.
@@ -174,6 +174,29 @@ fn condition_spot(conditions: &[u8], arguments: &[u8], line: Line<'_>) -> Option
     }
 }
 
+/// The name that begins a line.
+fn front_spot(line: Line<'_>) -> Spot
+    ensures { result ≡ front_spot (line_of line.entry) }
+{
+    Spot {
+        line: line.number,
+        at: 0,
+        size: split_name(line.text).0.len(),
+    }
+}
+
+/// The slash of the rule that stands at a line.
+fn slash_spot(line: Line<'_>) -> Spot
+    ensures { result ≡ slash_spot (line_of line.entry) }
+{
+    let rest = from_slash(line.text);
+    Spot {
+        line: line.number,
+        at: line.text.len().saturating_sub(rest.len()),
+        size: 1,
+    }
+}
+
 /// The word of a line with a fault of this kind that is at fault.
 fn kind_spot(names: &KnownNames, kind: SpecErrorKind, line: Line<'_>) -> Option<Spot>
     requires { line.number + length line.text.now ≤ max_file_bytes + 1 }
@@ -185,11 +208,14 @@ fn kind_spot(names: &KnownNames, kind: SpecErrorKind, line: Line<'_>) -> Option<
         SpecErrorKind::UnsupportedOption => option_spot(line),
         SpecErrorKind::UnknownCondition => condition_spot(conditions, arguments, line),
         SpecErrorKind::Unclosed => unclosed_spot(line),
+        SpecErrorKind::DuplicateName => Some(front_spot(line)),
+        SpecErrorKind::VariableTrailing => Some(slash_spot(line)),
         _ => statement_spot(sound_words(kind), others_before(kind), arguments, line),
     }
 }
 
-/// The word of a line with a fault of this kind that is at fault. None where it is no fault of words or statements.
+/// The word of a line with a fault of this kind that is at fault. None where it is no fault of words or statements, of a name
+/// that is defined twice, or of trailing context.
 pub fn spot_of(names: &KnownNames, kind: SpecErrorKind, line: Line<'_>) -> Option<Spot>
     ensures { result ≡ spot_of names.now.conditions.items names.now.arguments.items kind (line_of line.entry) }
 {

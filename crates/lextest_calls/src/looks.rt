@@ -132,7 +132,7 @@ fn compares_table_files(rt: HostRuntime) {
 const DRAFT: &[u8] = b"%x INITIAL\n%%\na b();\n<C>c ;\nd |\n";
 
 const FAULTS: &[u8] =
-    b"a.l:1: error: DuplicateCondition\n    1 | %x INITIAL\n      = each condition is declared once, and INITIAL always is\na.l:3:3: error: UnknownStatement\n    3 | a b();\n      |   ^\n      = `b` is no word of a statement; statements are ECHO, BEGIN, printf, fputs, puts, yymore, yyless, REJECT, exit, yyterminate and more, each with its `;`: see lex(1)\na.l:4:2: error: UnknownCondition\n    4 | <C>c ;\n      |  ^\n      = `C` is no condition; %s and %x declare conditions, and a list of them ends with `>` on its line\na.l:5: error: DanglingBar\n    5 | d |\n      = `|` is the action of the next rule that has a pattern, and there is none\n";
+    b"a.l:1:4: error: DuplicateCondition\n    1 | %x INITIAL\n      |    ^\n      = each condition is declared once, and INITIAL always is\na.l:3:3: error: UnknownStatement\n    3 | a b();\n      |   ^\n      = `b` is no word of a statement; statements are ECHO, BEGIN, printf, fputs, puts, yymore, yyless, REJECT, exit, yyterminate and more, each with its `;`: see lex(1)\na.l:4:2: error: UnknownCondition\n    4 | <C>c ;\n      |  ^\n      = `C` is no condition; %s and %x declare conditions, and a list of them ends with `>` on its line\na.l:5: error: DanglingBar\n    5 | d |\n      = `|` is the action of the next rule that has a pattern, and there is none\n";
 
 /// What is answered of the faults of a text, and what is written of them.
 fn checked(alloc: Global, text: &[u8], mut sink: MemorySink) -> (Result<bool, CheckError>, Vec<u8>)

@@ -1,4 +1,4 @@
-use Rattle.std.proofs.Common.{◌≡◌, ◌∙◌, ℕ, List, Option, true, ap, sym, subst, take}
+use Rattle.std.proofs.Common.{◌≡◌, ℕ, List, Option, true, sym, subst}
 use Rattle.std.proofs.lemmas.Result.{IfOk-weaker}
 use Rattle.lex_semantics.specs.Spec.{Spec}
 use Rattle.lexkit.specs.Headline.{reading}

@@ -1,4 +1,4 @@
-use Rattle.std.proofs.Common.{◌≡◌, ◌∙◌, ◌<◌, ◌++◌, ℕ, List, Option, length, ap, map, sym, append-nil, arith}
+use Rattle.std.proofs.Common.{◌≡◌, ◌∙◌, ◌++◌, ℕ, List, Option, length, ap, map, sym, append-nil, arith}
 use Rattle.std.proofs.lemmas.List.{length-map}
 use Rattle.std.proofs.lemmas.Result.{on_ok_weaker}
 use Rattle.lex_semantics.specs.Spec as S
@@ -8,7 +8,6 @@ use Rattle.lexspec_actions.specs.Views.{condition_of}
 use Rattle.lexlook_specs.proofs.Sounding.{few_conditions}
 use Rattle.lexlook_text.specs.DeclaredNames.{declared_name_of}
 use Rattle.lexlook_check.specs.Conditions.{numbered_notices}
-use Rattle.lexlook_check.specs.declared.notices.Notice.{Notice}
 use Rattle.lexlook_check.proofs.ConditionLaws.{named}
 use Rattle.lexlook_check.proofs.conditions.add_declared.Goals as goal
 

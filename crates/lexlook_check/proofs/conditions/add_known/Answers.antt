@@ -1,4 +1,4 @@
-use Rattle.std.proofs.Common.{◌≡◌, ◌∙◌, ◌++◌, ℕ, List, ap, flat_map, map}
+use Rattle.std.proofs.Common.{◌≡◌, ◌∙◌, ◌++◌, ap, flat_map, map}
 use Rattle.std.proofs.lemmas.Result.{on_ok_weaker}
 use Rattle.lexspec.specs.Views.{spec_of}
 use Rattle.lexspec_lines.specs.Lines.{without_returns}

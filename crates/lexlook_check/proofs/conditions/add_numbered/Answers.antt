@@ -1,8 +1,7 @@
 use Rattle.std.proofs.Common.{◌≡◌, ◌∙◌, ◌++◌, List, Option, ap, append_assoc}
 use Rattle.std.proofs.lemmas.Result.{on_ok_weaker}
-use Rattle.lexspec.specs.Views.{spec_of}
 use Rattle.lexlook_text.specs.DeclaredNames.{declared_name_of}
-use Rattle.lexlook_check.specs.Conditions.{condition_notice, copied_notice, placed_notices}
+use Rattle.lexlook_check.specs.Conditions.{placed_notices}
 use Rattle.lexlook_check.specs.declared.notices.Notice.{Notice}
 use Rattle.lexlook_check.specs.declared.notices.NoticeKind.{NoticeKind}
 use Rattle.lexlook_check.proofs.conditions.add_numbered.Goals as goal

@@ -1,5 +1,5 @@
-use Rattle.std.proofs.Common.{◌≡◌, ◌∙◌, ◌<◌, ℕ, Bool, List, Option, Some, length, ap, map, sym, arith}
-use Rattle.std.specs.Prelude.{◌&&◌, slice_get, unwrap_or, None}
+use Rattle.std.proofs.Common.{◌≡◌, ◌∙◌, ◌<◌, Bool, List, Some, length, ap, map, sym, arith}
+use Rattle.std.specs.Prelude.{slice_get}
 use Rattle.std.proofs.lemmas.List.{length-map}
 use Rattle.lex_semantics.specs.Spec as S
 use Rattle.lexspec.specs.Views.{conditions_in, rules_in, spec_of}

@@ -1,4 +1,4 @@
-use Rattle.std.proofs.Common.{Bool, List, ℕ, subst}
+use Rattle.std.proofs.Common.{Bool, List, subst}
 use Rattle.std.proofs.lemmas.Result.{IfOk-weaker}
 use Rattle.lexlook_specs.proofs.FitsAlike.{copied_shown}
 use Rattle.lexlook_specs.specs.Copied.{AreCopied}

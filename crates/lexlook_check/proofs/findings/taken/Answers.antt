@@ -1,4 +1,4 @@
-use Rattle.std.proofs.Common.{sym, take}
+use Rattle.std.proofs.Common.{sym}
 use Rattle.std.proofs.lemmas.List.{take_all}
 use Rattle.lex_semantics.specs.Limits.{max_file_bytes}
 use Rattle.lexlook_check.proofs.findings.taken.Goals as goal

@@ -5,4 +5,4 @@ use Rattle.lexlook_check.proofs.laws.examples_of_words.Goals as goal
 
 pub returns : goal.returns
 unfolding is_alpha is_digit is_alnum is_blank is_upper is_lower take_up_to
-returns c = record { condition = refl; statement = refl; option = refl; name = refl; class = refl; known = refl }
+returns c = record { condition = refl; statement = refl; option = refl; name = refl; class = refl; known = refl; defined_again = refl; declared_again = refl; always = refl; inside = refl; interval = refl }

@@ -21,5 +21,5 @@ returns-in-Some c =
     some
     ∙ ap (λ (k : ℕ). Some (line_of (get_or c.args.lines.now k c.in-Some.line.now))) (sym c.saturating_sub.ensures)
     ∙ ap (λ (l : Line). Some (line_of l)) (sym c.in-Some.ensures.lookup.1) in
-    on_ok_weaker c.add_pattern_notices.result
-    (λ h. h ∙ ap (λ (z : List Notice). c.args.notices.now.items ++ z) (sym (ap line_notices there))) c.add_pattern_notices.ensures
+    on_ok_weaker c.add_rule_line_notices.result
+    (λ h. h ∙ ap (λ (z : List Notice). c.args.notices.now.items ++ z) (sym (ap line_notices there))) c.add_rule_line_notices.ensures

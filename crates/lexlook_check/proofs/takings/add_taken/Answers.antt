@@ -1,4 +1,4 @@
-use Rattle.std.proofs.Common.{◌≡◌, ◌∙◌, ◌++◌, ℕ, List, ap, codes, flat_map}
+use Rattle.std.proofs.Common.{◌∙◌, ◌++◌, ℕ, List, ap, codes, flat_map}
 use Rattle.std.proofs.lemmas.Result.{on_ok_weaker}
 use Rattle.lexlook_check.specs.Places.{file_line_words}
 use Rattle.lexlook_check.specs.Takings.{text_byte}

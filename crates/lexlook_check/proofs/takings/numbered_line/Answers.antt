@@ -1,4 +1,4 @@
-use Rattle.std.proofs.Common.{◌≡◌, ℕ, Option, length, ap, refl, sym, arith}
+use Rattle.std.proofs.Common.{ℕ, Option, length, ap, refl, sym, arith}
 use Rattle.std.specs.Prelude.{unwrap_or}
 use Rattle.std.proofs.lemmas.Option.{slice_get_past, slice_get_read}
 use Rattle.lexlook_check.proofs.takings.numbered_line.Goals as goal

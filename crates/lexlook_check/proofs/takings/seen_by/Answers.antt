@@ -1,4 +1,4 @@
-use Rattle.std.proofs.Common.{◌≡◌, ◌∙◌, Bool, List, ℕ, length, ap, sym, subst}
+use Rattle.std.proofs.Common.{◌∙◌, Bool, List, length, ap, sym, subst}
 use Rattle.std.specs.Prelude.{slice_get}
 use Rattle.lex_semantics.specs.Spec.{Rule, has_reject, statements_at}
 use Rattle.lexlook_specs.proofs.FitsAlike.{rejecting_again, words_shown_by}

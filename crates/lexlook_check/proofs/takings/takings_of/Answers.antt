@@ -1,6 +1,5 @@
-use Rattle.std.proofs.Common.{◌≡◌, ◌∙◌, ◌+◌, ◌<◌, ◌++◌, ℕ, List, Some, ap, length, map, refl, sym, arith}
-use Rattle.std.specs.Prelude.{flat_map, slice_get}
-use Rattle.std.specs.List.{range_with_len}
+use Rattle.std.proofs.Common.{◌≡◌, ◌∙◌, ◌<◌, ◌++◌, Some, ap, length, map, refl, sym, arith}
+use Rattle.std.specs.Prelude.{slice_get}
 use Rattle.std.proofs.lemmas.Option.{slice_get_read}
 use Rattle.lexlook_check.specs.Takings.{taking_of, takings_at}
 use Rattle.lexlook_check.proofs.TakingLaws.{more_told}

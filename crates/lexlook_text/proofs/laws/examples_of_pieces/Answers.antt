@@ -7,4 +7,4 @@ use Rattle.lexlook_text.proofs.laws.examples_of_pieces.Goals as goal
 
 pub returns : goal.returns
 unfolding has set_of single is_alpha is_digit is_alnum is_blank is_upper is_lower take_up_to after_word run_at escape_at class_name_at enclosed_by bracketed_at range_at element_at elements_at class_at span simple_escape octal_at hexadecimal_at until_quote
-returns c = record { pieces = refl; behind = refl; definitions = refl; conditions = refl; declared = refl }
+returns c = record { pieces = refl; behind = refl; definitions = refl; conditions = refl; declared = refl; defined = refl; first = refl; again = refl; behind_line = refl; before_line = refl; initial = refl }

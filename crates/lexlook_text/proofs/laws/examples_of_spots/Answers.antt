@@ -1,8 +1,10 @@
 use Rattle.std.proofs.Common.{refl}
-use Rattle.lex_semantics.specs.ByteSets.{is_alpha, is_digit, is_alnum, is_blank, is_upper, is_lower}
+use Rattle.lex_semantics.specs.ByteSets.{has, set_of, single, is_alpha, is_digit, is_alnum, is_blank, is_upper, is_lower}
+use Rattle.lex_semantics.specs.Escapes.{simple_escape, octal_at, hexadecimal_at, until_quote}
 use Rattle.lex_semantics.specs.Reading.{take_up_to}
+use Rattle.lexre_bytes.specs.Lexical.{after_word, run_at, escape_at, class_name_at, enclosed_by, bracketed_at, range_at, element_at, elements_at, class_at, span}
 use Rattle.lexlook_text.proofs.laws.examples_of_spots.Goals as goal
 
 pub returns : goal.returns
-unfolding is_alpha is_digit is_alnum is_blank is_upper is_lower take_up_to
-returns c = record { statement = refl; next = refl; ends = refl; count = refl; second = refl; format = refl; twice = refl; brace = refl; string = refl; comment = refl; block = refl; listed = refl; begun = refl; option = refl }
+unfolding has set_of single is_alpha is_digit is_alnum is_blank is_upper is_lower take_up_to after_word run_at escape_at class_name_at enclosed_by bracketed_at range_at element_at elements_at class_at span simple_escape octal_at hexadecimal_at until_quote
+returns c = record { statement = refl; next = refl; ends = refl; count = refl; second = refl; format = refl; twice = refl; brace = refl; string = refl; comment = refl; block = refl; listed = refl; begun = refl; option = refl; name = refl; slash = refl }

@@ -7,7 +7,7 @@ use Rattle.lexlook_text.specs.Spots.{spot_of}
 use Rattle.lexlook_text.specs.declared.definitions.Line.{Line}
 use Rattle.lexlook_text.specs.declared.definitions.LineKind.TheVariants.{Declaration}
 use Rattle.lexlook_check.specs.Findings.{line_spot}
-use Rattle.lexlook_check.proofs.findings.fault_spot.Goals as goal
+use Rattle.lexlook_check.proofs.findings.word_spot.Goals as goal
 
 pub returns-in-None : goal.returns-in-None
 returns-in-None c =
