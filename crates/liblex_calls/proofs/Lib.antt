@@ -1,6 +1,7 @@
 pub mod Telling
 mod Refused
 mod Listed
+mod Gathered
 mod Loosened
 mod Held
 mod HeldRules

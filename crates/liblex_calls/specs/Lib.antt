@@ -8,6 +8,7 @@ pub mod Scanning
 pub mod Lines
 pub mod LinesExamples
 pub mod Listing
+pub mod Gathering
 pub mod Ends
 pub mod Backlogs
 pub mod Stages
