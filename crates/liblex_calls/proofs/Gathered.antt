@@ -1,6 +1,6 @@
 -- What gathering the tokens of a whole input leaves.
 use Rattle.std.proofs.Common.{◌≡◌, ℕ, ◌+◌, ◌<◌, ◌≤◌, inl, inr, ◌⊎◌, min, Bool, true, false, List, [], ◌∷◌, ◌++◌, length, map, take, drop, Ok, refl, sym, ap, subst, ◌∙◌, length-append, arith}
-use Rattle.std.proofs.lemmas.List.{take_all, take-take, take-append-le, take-append-drop, length-take, map-append, drop_all}
+use Rattle.std.proofs.lemmas.List.{take_all, take-take, take-append-le, take-append-drop, length-take, length-map, map-append, drop_all}
 use Rattle.lex_semantics.specs.Text.{IsText, part}
 use Rattle.lex_semantics.specs.Demand.{Consistent}
 use Rattle.lex_semantics.specs.Machine.{Machine}
@@ -13,31 +13,45 @@ use Rattle.lexscan.specs.Scanners.{pull_machine, pull_state, pull_waiting, pull_
 use Rattle.liblex_calls.specs.Buffers.{HandedOut}
 use Rattle.liblex_calls.specs.Listing.{text_token}
 use Rattle.liblex_calls.specs.Rules.{rules_machine}
-use Rattle.liblex_calls.specs.Gathering.{AreKept, Feeds}
+use Rattle.liblex_calls.specs.Gathering.{AreKept, Feeds, kept_tokens}
+use Rattle.liblex_calls.specs.Brief.{drawn_out}
+use Rattle.liblex_calls.specs.declared.brief.BriefToken.{BriefToken}
 use Rattle.liblex_calls.specs.declared.gathering.KeptTokens.{KeptTokens}
 use Rattle.liblex_calls.specs.declared.gathering.WholeScan.{WholeScan}
 use Rattle.liblex_calls.specs.declared.listing.TextToken.{TextToken}
 use Rattle.liblex_calls.proofs.Lining.{front_part}
+use Rattle.liblex_calls.proofs.Drawn.{drawn_length, either_way, both_put}
 
 -- Where only the first items are kept that there is room for, a buffer gets what it would get of all.
-either : (a b : ℕ) → (a ≤ b) ⊎ (b ≤ a)
-either a b = grind arith
-
 rest_is : (items old : List TextToken) → (length items ≤ length old) ⊎ (length old ≤ length items) → drop (length (take (length old) items)) old ≡ drop (length items) old
 rest_is items old (inl le) = ap (λ l. drop (length l) old) (take_all (length old) items le)
 rest_is items old (inr le) =
     let size : length (take (length old) items) ≡ min (length old) (length items) = length-take (length old) items in
     drop_all (length (take (length old) items)) old (omega arith) ∙ sym (drop_all (length items) old le)
 
-pub first_handed : (items list old new : List TextToken) (room count counted : ℕ) → list ≡ take room items → room ≡ length old → HandedOut list old new counted → count ≡ length items → HandedOut items old new count
-first_handed items list old new room count counted is size h all =
+pub first_handed : (items list old new : List TextToken) (room count : ℕ) → list ≡ take room items → room ≡ length old → new ≡ take (length old) list ++ drop (length list) old → count ≡ length items → HandedOut items old new count
+first_handed items list old new room count is size buffer all =
     let n = length old in
     let first : list ≡ take n items = is ∙ ap (λ k. take k items) size in
     record {
       buffer =
-          h.buffer ∙ ap (λ l. take n l ++ drop (length l) old) first ∙ ap (λ l. l ++ drop (length (take n items)) old) (take-take n n items (omega arith)) ∙ ap (λ l. take n items ++ l) (rest_is items old (either (length items) n));
+          buffer ∙ ap (λ l. take n l ++ drop (length l) old) first ∙ ap (λ l. l ++ drop (length (take n items)) old) (take-take n n items (omega arith)) ∙ ap (λ l. take n items ++ l) (rest_is items old (either_way (length items) n));
       count_is = all;
     }
+
+-- how many are kept
+pub kept_length : (k : KeptTokens) → length (kept_tokens k) ≡ length k.brief.items + length k.long.items
+kept_length k = omega (arith, length-append (drawn_out 0 k.brief.items) k.long.items, drawn_length 0 k.brief.items)
+
+-- what stands in a buffer that got those in brief, and then the others behind them
+pub handed_kept : (tokens : List Token) (k : KeptTokens) (old mid new : List TextToken) (brief : List BriefToken) (long : List TextToken) (n : ℕ) → AreKept tokens k → k.room ≡ length old → brief ≡ k.brief.items → long ≡ k.long.items → n ≡ length brief → mid ≡ take (length old) (drawn_out 0 brief) ++ drop (length brief) old → take n new ≡ take n mid →
+    take (length long) (drop n new) ≡ long → drop (n + length long) new ≡ drop (n + length long) mid → HandedOut (map text_token tokens) old new k.count
+handed_kept tokens k old mid new brief long n h size brief_is long_is count was front behind rest =
+    let drawn = drawn_out 0 brief in
+    let lengths : length drawn ≡ n = drawn_length 0 brief ∙ sym count in
+    let few : n + length long ≤ length old = omega (arith, k.few, size, count, ap length brief_is, ap length long_is) in
+    let all : drawn ++ long ≡ kept_tokens k = ap (λ l. drawn_out 0 l ++ long) brief_is ∙ ap (λ l. drawn_out 0 k.brief.items ++ l) long_is in
+    first_handed (map text_token tokens) (drawn ++ long) old new k.room k.count (all ∙ h.first) size (both_put drawn long old mid new n (sym lengths) few (was ∙ ap (λ i. take (length old) drawn ++ drop i old) (sym count)) front behind rest) (h.count_is ∙ sym (length-map tokens text_token))
 
 -- One token more, where there is room for it, and where there is none.
 kept_more : (room : ℕ) (all list : List TextToken) (t : TextToken) → list ≡ take room all → length list < room → list ++ t ∷ [] ≡ take room (all ++ t ∷ [])
@@ -58,15 +72,15 @@ module _ (tokens : List Token) (t : Token) (k l : KeptTokens) (h : AreKept token
   one_more : l.count ≡ length (tokens ++ t ∷ [])
   one_more = omega (arith, count, h.count_is, length-append tokens (t ∷ []))
 
-  pub more_kept : l.list.items ≡ k.list.items ++ text_token t ∷ [] → length k.list.items < k.room → AreKept (tokens ++ t ∷ []) l
+  pub more_kept : kept_tokens l ≡ kept_tokens k ++ text_token t ∷ [] → length (kept_tokens k) < k.room → AreKept (tokens ++ t ∷ []) l
   more_kept list few = record {
-    first = list ∙ kept_more k.room (map text_token tokens) k.list.items (text_token t) h.first few ∙ with_more;
+    first = list ∙ kept_more k.room (map text_token tokens) (kept_tokens k) (text_token t) h.first few ∙ with_more;
     count_is = one_more;
   }
 
-  pub full_kept : l.list.items ≡ k.list.items → k.room ≤ length k.list.items → AreKept (tokens ++ t ∷ []) l
+  pub full_kept : kept_tokens l ≡ kept_tokens k → k.room ≤ length (kept_tokens k) → AreKept (tokens ++ t ∷ []) l
   full_kept list full = record {
-    first = list ∙ kept_full k.room (map text_token tokens) k.list.items (text_token t) h.first full ∙ with_more;
+    first = list ∙ kept_full k.room (map text_token tokens) (kept_tokens k) (text_token t) h.first full ∙ with_more;
     count_is = one_more;
   }
 

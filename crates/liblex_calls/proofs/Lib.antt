@@ -1,6 +1,7 @@
 pub mod Telling
 mod Refused
 mod Listed
+mod Drawn
 mod Gathered
 mod Loosened
 mod Held

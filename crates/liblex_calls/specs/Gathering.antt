@@ -1,6 +1,6 @@
 -- How the tokens of a whole input are gathered, as a scan tells one after another. (Which tokens these are is POSIX's
 -- and flex's; the rest is own.)
-use Rattle.std.specs.Prelude.{◌≡◌, ℕ, true, List, map, take, length, Option, Some, None, Result, Ok, Err}
+use Rattle.std.specs.Prelude.{◌≡◌, ℕ, true, List, ◌++◌, map, take, length, Option, Some, None, Result, Ok, Err}
 use Rattle.lex_semantics.specs.Rules.{Rules}
 use Rattle.lex_semantics.specs.Acting.{Status}
 use Rattle.lex_semantics.specs.Machine.{Machine, rules_of_machine}
@@ -11,13 +11,19 @@ use Rattle.lexscan.specs.Pulls.{TokensTold}
 use Rattle.lexscan.specs.Scanners.{pull_machine, pull_state, pull_waiting, pull_finished}
 use Rattle.lexscan.specs.Tokens.{Tokenised, Stopped}
 use Rattle.liblex_calls.specs.Listing.{text_token}
+use Rattle.liblex_calls.specs.Brief.{drawn_out}
 use Rattle.liblex_calls.specs.Rules.{rules_machine}
 use Rattle.liblex_calls.specs.declared.gathering.KeptTokens.{KeptTokens}
 use Rattle.liblex_calls.specs.declared.gathering.WholeScan.{WholeScan}
+use Rattle.liblex_calls.specs.declared.listing.TextToken.{TextToken}
+
+-- all that are kept, those in few bytes and those behind them
+abbrev pub kept_tokens : KeptTokens → List TextToken
+kept_tokens k = drawn_out 0 k.brief.items ++ k.long.items
 
 -- The first of these tokens are kept, as many as there is room for, and all of them are counted.
 pub record AreKept (tokens : List Token) (k : KeptTokens) : Type 0 where
-  pub first : k.list.items ≡ take k.room (map text_token tokens)
+  pub first : kept_tokens k ≡ take k.room (map text_token tokens)
   pub count_is : k.count ≡ length tokens
 
 -- The scan goes by this machine. It was fed the first bytes of the input, all of them where their end was told, and it

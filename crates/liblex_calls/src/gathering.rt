@@ -1,13 +1,14 @@
 //! The tokens of a whole input, of which the first are kept, as many as a caller has room for.
-ghost use Rattle.std.specs.Prelude.{◌≡◌, ℕ, ◌+◌, ◌^◌, ◌<◌, ◌≤◌, ◌⊎◌, true, false, OnOk};
+ghost use Rattle.std.specs.Prelude.{◌≡◌, ℕ, ◌+◌, ◌^◌, ◌<◌, ◌≤◌, ◌⊎◌, true, false, OnOk, IfSome};
 ghost use Rattle.std.specs.Prelude.{List, [], ◌∷◌, ◌++◌, length, map};
 ghost use Rattle.lex_semantics.specs.Machine.{Machine};
 ghost use Rattle.lexscan.specs.declared.token.Token.{Token as TokenModel};
 ghost use Rattle.lexscan.specs.Pulls.{whole_token};
 ghost use Rattle.liblex_calls.specs.Listing.{text_token};
+ghost use Rattle.liblex_calls.specs.Brief.{long_token, end_of};
 
 use crate::answer::Answer;
-use crate::buffers::hand_out;
+use crate::brief::{BriefToken, brief_of, draw_out, put_behind};
 use crate::listing::{TextToken, rule_number};
 use crate::rules::Rules;
 use lexkit::RunError;
@@ -31,12 +32,20 @@ fn text_token(token: PulledToken) -> TextToken
     }
 }
 
-/// The first tokens of an input, as many as there is room for, and how many there are.
+/// The first tokens of an input, as many as there is room for, and how many there are. Those up to the first that cannot be
+/// kept in brief are kept so: each begins where the one before it ends.
 #[derive(Drop)]
 pub(crate) struct KeptTokens {
-    list: Vec<TextToken>,
+    brief: Vec<BriefToken>,
+    /// Where the last of these ends.
+    end: usize,
+    /// Those behind them.
+    long: Vec<TextToken>,
     room: usize,
     count: usize,
+    ghost few: { length brief.items + length long.items ≤ room },
+    ghost ends: { end ≡ end_of 0 brief.items },
+    ghost small: { end_of 0 brief.items < 2 ^ 64 },
 }
 
 impl KeptTokens {
@@ -49,10 +58,23 @@ impl KeptTokens {
         ensures room { result.room ≡ room }
     {
         KeptTokens {
-            list: Vec::new(alloc),
+            brief: Vec::new(alloc),
+            end: 0,
+            long: Vec::new(alloc),
             room,
             count: 0,
         }
+    }
+
+    /// The token in brief, where all before it are kept so, and it begins where the last of them ends.
+    fn in_brief(&self, token: PulledToken) -> Option<BriefToken>
+        ensures token { IfSome result (λ b. long_token self.now.end b ≡ text_token (whole_token token)) }
+        ensures alone { IfSome result (λ _. length self.now.long.items ≡ 0) }
+    {
+        if !self.long.is_empty() || token.start != self.end as u64 {
+            return None;
+        }
+        brief_of(token)
     }
 
     /// Counts a token, and keeps it where there is room.
@@ -66,10 +88,15 @@ impl KeptTokens {
             return Err(AllocError);
         };
         self.count = count;
-        if self.room <= self.list.len() {
+        if self.room <= self.brief.len() + self.long.len() {
             return Ok(());
         }
-        self.list.push(text_token(token))?;
+        if let Some(brief) = self.in_brief(token) {
+            self.brief.push(brief)?;
+            self.end += usize::from(brief.length);
+            return Ok(());
+        }
+        self.long.push(text_token(token))?;
         Ok(())
     }
 
@@ -81,7 +108,8 @@ impl KeptTokens {
         ensures fits { (tokens : List TokenModel) → AreKept tokens self.now
             → FitsInto (map text_token tokens) buffer.old result }
     {
-        hand_out(&self.list, buffer, count);
+        draw_out(&self.brief, buffer);
+        put_behind(&self.long, buffer, self.brief.len());
         *count = self.count;
         if self.count <= buffer.len() {
             Answer::Done
