@@ -60,6 +60,7 @@ fn condition_after(gist: Gist<'_>, condition: u8) -> u8
 }
 
 /// The first rule of a state, where it is told what that does.
+#[inline(always)]
 fn told_rule<M: Machine>(machine: &M, state: u32, gist: Gist<'_>) -> Option<u32>
     requires known { state < M.states machine.now }
     requires gists { Gists (M.machine machine.now) state gist }
