@@ -153,7 +153,8 @@ struct lex_token {
    LEX_REFUSED, LEX_OUT_OF_MEMORY: *count is 0, and `tokens` is as it was.
 
    Each lies in the input, and begins no earlier than the one before it. A match that REJECT gives up is no token. *status is 0 but after
-   LEX_OK and LEX_TOO_SMALL. While it runs, the call takes memory in proportion to the tokens. */
+   LEX_OK and LEX_TOO_SMALL. While it runs, the call keeps as many tokens as there is room for, and those past tokens_len are counted only.
+   A token takes 8 bytes then, or 24 from the first on that does not begin where the one before it ends, or has more than 65,535 bytes. */
 int32_t lex_tokens(const uint8_t *file, size_t file_len, const uint8_t *input, size_t input_len, struct lex_token *tokens,
                    size_t tokens_len, size_t *count, uint8_t *status);
 

@@ -60,6 +60,7 @@ fn condition_after(gist: Gist<'_>, condition: u8) -> u8
 }
 
 /// The first rule of a state, where it is told what that does.
+#[inline(always)]
 fn told_rule<M: Machine>(machine: &M, state: u32, gist: Gist<'_>) -> Option<u32>
     requires known { state < M.states machine.now }
     requires gists { Gists (M.machine machine.now) state gist }
@@ -73,6 +74,7 @@ fn told_rule<M: Machine>(machine: &M, state: u32, gist: Gist<'_>) -> Option<u32>
 
 /// The match at the front of a text, where it ends there, and the last state of its walk or the one before it tells
 /// its rule.
+#[inline(always)]
 #[tactic(auto, using(lex_machine::proofs::Growing::is_text_from))]
 fn told_match<M: Machine>(machine: &M, first: u32, bytes: &[u8], condition: u8) -> Option<ToldMatch>
     requires first { first < M.states machine.now }
@@ -103,6 +105,7 @@ fn told_match<M: Machine>(machine: &M, first: u32, bytes: &[u8], condition: u8) 
 }
 
 /// Leaves the place of a match that is told, of which so many bytes were shown.
+#[inline(always)]
 fn leave_told(state: &mut State, told: ToldMatch, line_start: bool, got: usize)
     requires got { got ≤ length state.old.reading.window.ahead }
     requires few { state.old.reading.taken + got + bit_of state.old.reading.at_end ≤ state.old.reading.max_reads }
@@ -125,6 +128,7 @@ fn leave_told(state: &mut State, told: ToldMatch, line_start: bool, got: usize)
 impl Scan {
     /// One turn over the bytes held and those that wait, if its match is told at a glance. Otherwise the scan stands where it
     /// stood.
+    #[inline(always)]
     pub fn turn_at_glance<M: Machine>(&mut self, machine: &M, waiting: &[u8]) -> bool
         requires going { IsGoing self.old }
         requires kept { ScanInvariant (M.machine machine.now) self.old }

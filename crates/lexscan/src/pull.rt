@@ -42,6 +42,7 @@ pub enum Pulled {
 }
 
 /// One turn over the bytes that wait, which reads them. It is undone where it asks for more than these.
+#[inline(never)]
 fn turn_by_reading<M: Machine>(
     machine: &M,
     scan: &mut Scan,
@@ -68,6 +69,7 @@ fn turn_by_reading<M: Machine>(
 }
 
 /// One turn over the bytes that wait. It is undone where it asks for more than these.
+#[inline(always)]
 fn turn_over<M: Machine>(
     machine: &M,
     scan: &mut Scan,
@@ -87,6 +89,7 @@ fn turn_over<M: Machine>(
 }
 
 /// The same from a place on, which moves past the bytes that a turn has asked for.
+#[inline(always)]
 fn turn_from<M: Machine>(
     machine: &M,
     scan: &mut Scan,
@@ -262,6 +265,7 @@ impl<M: Machine> PullScanner<M> {
     /// The next token, by one turn; or that the next match asks for more than was fed, which never comes once the end
     /// was told; or that the scan has ended. A turn is refused where memory runs out, and as `Stack` where a push finds the
     /// stack of start conditions full or a pop finds it empty; after that each call is refused as `Failed`.
+    #[inline(always)]
     pub fn next(&mut self) -> Result<Pulled, RunError>
         ensures machine { pull_machine self.new ≡ pull_machine self.old }
         ensures finished { pull_finished self.new ≡ pull_finished self.old }

@@ -23,6 +23,7 @@ pub struct Scan {
 impl Scan {
     /// The match that the last turn carried out: the longest of the earliest rule, or after REJECT the one that was not
     /// rejected. There is none before the first turn, after an end action, and after a refused turn.
+    #[inline(always)]
     pub fn matched(&self) -> Option<Match>
         requires { self.now.state.place.at ≤ length self.now.state.reading.window.bytes }
         ensures told { result ≡ match_in self.now.state }

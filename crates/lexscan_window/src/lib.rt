@@ -4,6 +4,7 @@
 //! - `error`: why a turn is refused.
 //! - `matched`: what a turn has matched.
 //! - `window`: the bytes held, in a buffer that is used up from the front.
+//! - `glimpse`: a copy of the bytes that a glance looks at.
 //! - `walk`: takes bytes into the window as long as a machine asks for them.
 //! - `stack`: the stack of start conditions (flex's `yy_push_state` and `yy_pop_state`), for `act`.
 //! - `state`: what a scanner keeps beside source and sink: what is known of the source, the place of the next match, and
@@ -34,6 +35,7 @@
 mod act;
 mod cell;
 mod error;
+mod glimpse;
 mod intake;
 mod matched;
 mod memo;

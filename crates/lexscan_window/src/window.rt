@@ -4,6 +4,7 @@ ghost use Rattle.std.specs.Prelude.{OnOk, OnErr, vec_len, nat_lt, slice_range, g
 ghost use Rattle.lexscan_window.specs.Walks.{Filled};
 ghost use Rattle.lexscan_window.specs.Window.{last_of};
 
+use crate::glimpse::copy_shown;
 use crate::walk::{Walk, walk_into};
 use lex_machine::Machine;
 use std::alloc::{AllocError, Global};
@@ -186,6 +187,7 @@ impl Window {
 
     /// Moves the bytes to the front of the buffer, where at least as many were dropped and there is less room than
     /// this.
+    #[inline(always)]
     fn close_up(&mut self, most: usize)
         ensures bytes { self.new.bytes ≡ self.old.bytes }
     {
@@ -198,6 +200,7 @@ impl Window {
     }
 
     /// Shows the first of these bytes in the room, at most this many, and answers how many. They are not held yet.
+    #[inline(always)]
     pub fn show(&mut self, bytes: &[u8], most: usize) -> usize
         ensures bytes { self.new.bytes ≡ self.old.bytes }
         ensures ahead { self.new.ahead ≡ take result bytes.now }
@@ -208,7 +211,7 @@ impl Window {
         let end = self.end;
         let room = self.buffer.len() - end;
         let count = room.min(bytes.len()).min(most);
-        self.buffer[end..end + count].copy_from_slice(&bytes[..count]);
+        copy_shown(&mut self.buffer[end..end + count], &bytes[..count]);
         self.shown = end + count;
         count
     }

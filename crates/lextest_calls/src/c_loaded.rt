@@ -1,7 +1,7 @@
 //! What a program in C calls by a table that it loaded once: two scans side by side, tokens, the names of rules, and handles that
 //! hold none.
 use crate::building::made;
-use crate::for_c::NO_TOKEN;
+use crate::for_c::{NO_TOKEN, are_listed};
 use liblex_calls::{
     Answer, LoadedTables, Scan, close_scan, feed_into, finish_into, load_tables, open_loaded,
     rule_name_into, scan_loaded, share_tables, tokens_loaded, unload_tables,
@@ -73,6 +73,30 @@ fn one_table_serves_several_scans(rt: HostRuntime) -> Result<(), Fail> {
     assert!(rt; opened == Answer::Done && again == Answer::Done);
     assert!(rt; whole == (Answer::Done, 3) && listed == (Answer::Done, 4));
     assert!(rt; so);
+    Ok(())
+}
+
+/// Whether tokens are listed by a loaded table, or memory ran out and nothing was handed out.
+fn lists_or_stops(alloc: Global, file: &[u8]) -> bool {
+    let mut tables = LoadedTables::unloaded();
+    let mut out = [NO_TOKEN; 4];
+    let mut count = 9;
+    let mut status = 9;
+    let input = b"a12stop!";
+    let loaded = load_tables(alloc, &mut tables, file);
+    let answer = tokens_loaded(alloc, &mut tables, input, &mut out, &mut count, &mut status);
+    tables.unload(alloc);
+    if answer == Answer::Done {
+        return (count, status) == (3, 3) && are_listed(&out);
+    }
+    let stopped = answer == Answer::OutOfMemory || loaded == Answer::OutOfMemory;
+    stopped && (count, status, out[0]) == (0, 0, NO_TOKEN)
+}
+
+#[test]
+fn refused_tokens(rt: HostRuntime) -> Result<(), Fail> {
+    let file = made(rt.alloc(), TEXT)?;
+    assert!(rt; lists_or_stops(rt.alloc(), file.written()));
     Ok(())
 }
 

@@ -92,7 +92,7 @@ pub(crate) const NO_TOKEN: TextToken = TextToken {
 };
 
 /// Whether these are the tokens of a number and a stop.
-fn are_listed(tokens: &[TextToken; 4]) -> bool {
+pub(crate) fn are_listed(tokens: &[TextToken; 4]) -> bool {
     tokens[0] == token(0, 1, u32::MAX) && tokens[1] == token(1, 3, 0) && tokens[2] == token(3, 7, 1)
 }
 

@@ -1,6 +1,8 @@
 pub mod Telling
 mod Refused
 mod Listed
+mod Drawn
+mod Gathered
 mod Loosened
 mod Held
 mod HeldRules

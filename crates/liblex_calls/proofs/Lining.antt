@@ -138,7 +138,7 @@ follows R x (suc n) us t (s, ts, turns, going, before, inl (u, token, app)) =
     )
 
 -- A part of an input with what comes before it.
-front_part : (x : List ℕ) (i j : ℕ) → i ≤ j → take i x ++ part x i j ≡ take j x
+pub front_part : (x : List ℕ) (i j : ℕ) → i ≤ j → take i x ++ part x i j ≡ take j x
 front_part x i j le =
     let sum : i + (j - i) ≡ j = omega arith in
     let rest : drop i (take j x) ≡ part x i j = ap (λ k. drop i (take k x)) (sym sum) ∙ drop-take i (j - i) x in

@@ -8,6 +8,8 @@ pub mod Scanning
 pub mod Lines
 pub mod LinesExamples
 pub mod Listing
+pub mod Brief
+pub mod Gathering
 pub mod Ends
 pub mod Backlogs
 pub mod Stages

@@ -8,7 +8,8 @@
 //! - `machines`: the machine of a table file, laid flat.
 //! - `rules`: the same, read once for any number of scans.
 //! - `scanning`: scans of whole inputs.
-//! - `listing`: the tokens of an input, and the lines of rules. `naming`: the names of rules.
+//! - `gathering`: a scan that tells the tokens of an input, of which the first are kept, most of them as `brief` has them.
+//!   `listing`: its calls, and the lines of rules. `naming`: the names of rules.
 //! - `stage`, `backlog` and `piece_scan`: a scan by pieces, how far it has come, and what was not handed out yet.
 //! - `tables`: the struct that C holds of a loaded table, with `rules_holder`, the owning pointer in it. `loading` has its calls.
 //! - `handle`: the struct that C holds of a scan by pieces. `holder` and `loose` are the owning pointer in it, and
@@ -30,6 +31,9 @@
 //!   together (`Arc`), so none outlives it. To read through a `&` to a struct with a pointer would take a law of its own.
 //! - **Output that does not fit the caller's buffer is kept and handed out first**; only then is the end or the fault
 //!   answered. A feed takes each piece whole. After out of memory a scan by pieces has stopped.
+//! - **Listed tokens are kept, and handed out at the end**: where memory runs out, nothing was. Those that the buffer has no room
+//!   for are counted only. Most begin where the one before them ends: these are kept in 8 bytes, since what is kept is memory to
+//!   ask for. The input is fed to the scan by pieces, so that it holds no copy of the whole.
 //! - **The text of a token is copied out.** A pointer into the scan could be read after the next call has moved what it
 //!   leads to, and no contract could say what stands there. Who needs no text pays nothing for it.
 //! - **Lines are counted as a stream goes, over the bytes that its tokens take for good**, and not where they are read: what
@@ -45,9 +49,11 @@
 
 mod answer;
 mod backlog;
+mod brief;
 mod buffers;
 mod by_pieces;
 mod flags;
+mod gathering;
 mod generating;
 mod handle;
 mod holder;

@@ -1,19 +1,18 @@
 //! The tokens of whole inputs and the lines of rules, into a buffer of the caller.
-ghost use Rattle.std.specs.Prelude.{◌≡◌, ℕ, List, None, map};
+ghost use Rattle.std.specs.Prelude.{◌≡◌, ℕ, List, None};
 ghost use Rattle.liblex_calls.specs.Loading.{AreRulesOf, HoldsTable};
 ghost use Rattle.liblex_calls.specs.Handles.{loaded_in};
-ghost use Rattle.liblex_calls.specs.Buffers.{FitsInto, HandedOut, NothingOut};
-ghost use Rattle.liblex_calls.specs.Listing.{ListsInto, TellsLines, rule_number, text_token};
+ghost use Rattle.liblex_calls.specs.Buffers.{NothingOut};
+ghost use Rattle.liblex_calls.specs.Listing.{ListsInto, TellsLines, rule_number};
 
 use crate::answer::Answer;
 use crate::buffers::hand_out;
+use crate::gathering::{KeptTokens, WholeScan};
 use crate::kinds::kind_number;
 use crate::loading::rules_of;
 use crate::rules::Rules;
 use crate::tables::LoadedTables;
-use lexkit::{
-    GenError, MatchedRule, Options, RunError, TableError, Token, lines_of, read_text, tokens,
-};
+use lexkit::{GenError, MatchedRule, Options, RunError, TableError, lines_of, read_text};
 use std::alloc::Global;
 
 /// A match of a scan: where its text begins and ends in the input, the number of its rule, from 0 on in the order of
@@ -37,36 +36,6 @@ pub(crate) fn rule_number(rule: MatchedRule) -> u32
     }
 }
 
-/// The token with a number for its rule.
-fn text_token(token: &Token) -> TextToken
-    ensures { result ≡ text_token token.now }
-{
-    TextToken {
-        start: token.start,
-        end: token.end,
-        rule: rule_number(token.rule),
-        condition: u32::from(token.condition),
-    }
-}
-
-/// Puts the tokens at the front of a buffer, as many as it has room for, with numbers for their rules, and tells how many
-/// there are.
-fn hand_tokens(list: &[Token], buffer: &mut [TextToken], count: &mut usize) -> Answer
-    ensures handed { HandedOut (map text_token list.now) buffer.old buffer.new count.new }
-    ensures fits { FitsInto (map text_token list.now) buffer.old result }
-{
-    *count = list.len();
-    let room = list.len().min(buffer.len());
-    for i in 0..room {
-        buffer[i] = text_token(&list[i]);
-    }
-    if list.len() <= buffer.len() {
-        Answer::Done
-    } else {
-        Answer::TooSmall
-    }
-}
-
 /// Lists the tokens of an input by a table file, and hands them out into the buffer. How many there are is told in
 /// `count`, also where the buffer is too small, and the status that the scan ends with in `status`.
 pub fn tokens_into(
@@ -84,7 +53,7 @@ pub fn tokens_into(
     match Rules::read(alloc, file) {
         Err(TableError::OutOfMemory) => Answer::OutOfMemory,
         Err(_) => Answer::Refused,
-        Ok(rules) => tokens_by_rules(alloc, &rules, input, buffer, count, status),
+        Ok(rules) => tokens_by_rules(alloc, rules, input, buffer, count, status),
     }
 }
 
@@ -107,32 +76,33 @@ pub fn tokens_loaded(
     *status = 0;
     match rules_of(alloc, tables) {
         Err(answer) => answer,
-        Ok(rules) => tokens_by_rules(alloc, &rules, input, buffer, count, status),
+        Ok(rules) => tokens_by_rules(alloc, rules, input, buffer, count, status),
     }
 }
 
 /// Lists the tokens of an input by rules.
 fn tokens_by_rules(
     alloc: Global,
-    rules: &Rules,
+    rules: Rules,
     input: &[u8],
     buffer: &mut [TextToken],
     count: &mut usize,
     status: &mut u8,
 ) -> Answer
-    ensures { (file : List ℕ) → AreRulesOf file rules.now
+    ensures { (file : List ℕ) → AreRulesOf file rules
         → ListsInto file input.now buffer.old buffer.new count.new status.new result }
 {
     *count = 0;
     *status = 0;
-    let mut list = Vec::new(alloc);
-    match tokens(alloc, rules, input, &mut list) {
+    let mut kept = KeptTokens::new(alloc, buffer.len());
+    let mut scan = WholeScan::new(alloc, rules);
+    match scan.gather(input, &mut kept) {
         Ok(end) => {
             *status = end;
-            hand_tokens(&list, buffer, count)
+            kept.hand_tokens(buffer, count)
         }
         Err(RunError::Stack) => {
-            hand_tokens(&list, buffer, count);
+            kept.hand_tokens(buffer, count);
             Answer::Stack
         }
         Err(_) => Answer::OutOfMemory,

@@ -1,0 +1,98 @@
+-- Tokens of which few bytes are kept, and what they are drawn out to.
+use Rattle.std.proofs.Common.{rules, ◌≡◌, ℕ, zero, suc, ◌+◌, ◌^◌, ◌<◌, ◌≤◌, inl, inr, ◌⊎◌, min, List, [], ◌∷◌, ◌++◌, length, take, drop, refl, sym, ap, ◌∙◌, length-append, append_assoc, take-append-drop, arith}
+use Rattle.std.specs.Prelude.{slice_set, slice_index_or}
+use Rattle.std.proofs.lemmas.List.{take_all, drop_all, take_at, drop_at, drop-drop, append-nil, nil_from_length}
+use Rattle.liblex_calls.specs.Brief.{long_token, end_of, drawn_out}
+use Rattle.liblex_calls.specs.declared.brief.BriefToken.{BriefToken}
+use Rattle.liblex_calls.specs.declared.listing.TextToken.{TextToken}
+
+pub drawn_length : (start : ℕ) (ts : List BriefToken) → length (drawn_out start ts) ≡ length ts
+drawn_length start [] = refl
+drawn_length start (t ∷ ts) = ap suc (drawn_length (start + t.length) ts)
+
+-- one token more
+pub drawn_more : (start : ℕ) (ts : List BriefToken) (t : BriefToken) → drawn_out start (ts ++ t ∷ []) ≡ drawn_out start ts ++ long_token (end_of start ts) t ∷ []
+drawn_more start [] t = refl
+drawn_more start (u ∷ ts) t = ap (λ l. long_token start u ∷ l) (drawn_more (start + u.length) ts t)
+
+pub end_more : (start : ℕ) (ts : List BriefToken) (t : BriefToken) → end_of start (ts ++ t ∷ []) ≡ end_of start ts + t.length
+end_more start [] t = refl
+end_more start (u ∷ ts) t = end_more (start + u.length) ts t
+
+-- Of all tokens the first some end no later.
+no_earlier : (start : ℕ) (ts : List BriefToken) → start ≤ end_of start ts
+no_earlier start [] = omega arith
+no_earlier start (t ∷ ts) = omega (arith, no_earlier (start + t.length) ts)
+
+pub end_within : (start : ℕ) (ts : List BriefToken) (i : ℕ) → end_of start (take i ts) ≤ end_of start ts
+end_within start ts zero = no_earlier start ts
+end_within start [] (suc i) = omega arith
+end_within start (t ∷ ts) (suc i) = end_within (start + t.length) ts i
+
+-- the token at a place
+pub end_next : (start : ℕ) (ts : List BriefToken) (i : ℕ) (d : BriefToken) → i < length ts → end_of start (take (suc i) ts) ≡ end_of start (take i ts) + (slice_index_or ts i d).length
+end_next start [] i d low = absurd (omega (arith, low))
+end_next start (t ∷ ts) zero d low = refl
+end_next start (t ∷ ts) (suc i) d low = end_next (start + t.length) ts i d (omega (arith, low))
+
+pub drawn_at : (start : ℕ) (ts : List BriefToken) (i : ℕ) (d : BriefToken) (e : TextToken) → i < length ts → slice_index_or (drawn_out start ts) i e ≡ long_token (end_of start (take i ts)) (slice_index_or ts i d)
+drawn_at start [] i d e low = absurd (omega (arith, low))
+drawn_at start (t ∷ ts) zero d e low = refl
+drawn_at start (t ∷ ts) (suc i) d e low = drawn_at (start + t.length) ts i d e (omega (arith, low))
+
+-- an item more at the front of a buffer
+pub put_more : {A : Type 0} (items old : List A) (i : ℕ) (d : A) → i < length items → i < length old → slice_set (take i items ++ drop i old) i (slice_index_or items i d) ≡ take (suc i) items ++ drop (suc i) old
+put_more [] old i d low high = absurd (omega (arith, low))
+put_more (t ∷ ts) [] i d low high = absurd (omega (arith, high))
+put_more (t ∷ ts) (o ∷ os) zero d low high = search rules
+put_more (t ∷ ts) (o ∷ os) (suc i) d low high = ap (λ l. t ∷ l) (put_more ts os i d (omega (arith, low)) (omega (arith, high)))
+
+-- A turn of the loop that draws tokens out.
+module _ (ts : List BriefToken) (i start : ℕ) (d : BriefToken) (low : i < length ts) (is : start ≡ end_of 0 (take i ts)) where
+  pub next_fits : end_of 0 ts < 2 ^ 64 → start + (slice_index_or ts i d).length < 2 ^ 64
+  next_fits small = omega (arith, is, end_next 0 ts i d low, end_within 0 ts (suc i), small)
+
+  pub next_end : (t : TextToken) → t ≡ long_token start (slice_index_or ts i d) → t.end ≡ end_of 0 (take (i + 1) ts)
+  next_end t e =
+      let next : suc i ≡ i + 1 = omega arith in
+      ap (λ (u : TextToken). u.end) e ∙ ap (λ s. s + (slice_index_or ts i d).length) is ∙ sym (end_next 0 ts i d low) ∙ ap (λ k. end_of 0 (take k ts)) next
+
+  pub next_put : (old buffer : List TextToken) (t : TextToken) → t ≡ long_token start (slice_index_or ts i d) → i < length old → buffer ≡ take i (drawn_out 0 ts) ++ drop i old → slice_set buffer i t ≡ take (i + 1) (drawn_out 0 ts) ++ drop (i + 1) old
+  next_put old buffer t e high so_far =
+      let items = drawn_out 0 ts in
+      let next : suc i ≡ i + 1 = omega arith in
+      let same : t ≡ slice_index_or items i t = e ∙ ap (λ s. long_token s (slice_index_or ts i d)) is ∙ sym (drawn_at 0 ts i d t low) in
+      ap (λ b. slice_set b i t) so_far ∙ ap (λ y. slice_set (take i items ++ drop i old) i y) same ∙ put_more items old i t (omega (arith, low, drawn_length 0 ts)) high ∙ ap (λ n. take n items ++ drop n old) next
+
+pub either_way : (a b : ℕ) → (a ≤ b) ⊎ (b ≤ a)
+either_way a b = grind arith
+
+-- as many items as there are and as there is room for
+pub front_put : {A : Type 0} (items old : List A) (n room : ℕ) → length items ≡ n → room ≡ min n (length old) → (n ≤ length old) ⊎ (length old ≤ n) → take room items ++ drop room old ≡ take (length old) items ++ drop n old
+front_put items old n room size is (inl le) =
+    let same : room ≡ n = omega (arith, is, le) in
+    ap (λ k. take k items ++ drop k old) same ∙ ap (λ l. l ++ drop n old) (take_all n items (omega (arith, size)) ∙ sym (take_all (length old) items (omega (arith, size, le))))
+front_put items old n room size is (inr le) =
+    let same : room ≡ length old = omega (arith, is, le) in
+    ap (λ k. take k items ++ drop k old) same ∙ ap (λ l. take (length old) items ++ l) (drop_all (length old) old (omega arith) ∙ sym (drop_all n old le))
+
+-- Some items were put at the front of a buffer, and others behind them.
+pub both_put : {A : Type 0} (xs ys old mid new : List A) (n : ℕ) → n ≡ length xs → n + length ys ≤ length old → mid ≡ take (length old) xs ++ drop n old → take n new ≡ take n mid → take (length ys) (drop n new) ≡ ys → drop (n + length ys) new ≡ drop (n + length ys) mid →
+    new ≡ take (length old) (xs ++ ys) ++ drop (length (xs ++ ys)) old
+both_put xs ys old mid new n size few was front behind rest =
+    let sum : length (xs ++ ys) ≡ n + length ys = omega (arith, length-append xs ys, size) in
+    let first_half : mid ≡ xs ++ drop n old = was ∙ ap (λ l. l ++ drop n old) (take_all (length old) xs (omega (arith, size, few))) in
+    let first : take n new ≡ xs = front ∙ ap (take n) first_half ∙ take_at xs (drop n old) n (sym size) in
+    let left : drop n mid ≡ drop n old = ap (drop n) first_half ∙ drop_at xs (drop n old) n (sym size) in
+    let last : drop (n + length ys) new ≡ drop (n + length ys) old = rest ∙ sym (drop-drop (length ys) n mid) ∙ ap (drop (length ys)) left ∙ drop-drop (length ys) n old in
+    let back : drop n new ≡ ys ++ drop (n + length ys) old = sym (take-append-drop (length ys) (drop n new)) ∙ ap (λ l. l ++ drop (length ys) (drop n new)) behind ∙ ap (λ l. ys ++ l) (drop-drop (length ys) n new ∙ last) in
+    sym (take-append-drop n new) ∙ ap (λ l. l ++ drop n new) first ∙ ap (λ l. xs ++ l) back ∙ sym (append_assoc xs ys (drop (n + length ys) old))
+    ∙ ap (λ l. l ++ drop (n + length ys) old) (sym (take_all (length old) (xs ++ ys) (omega (arith, sum, few)))) ∙ ap (λ k. take (length old) (xs ++ ys) ++ drop k old) (sym sum)
+
+-- A token more is kept in few bytes, where all others are.
+pub brief_more : (ts : List BriefToken) (long : List TextToken) (b : BriefToken) (t : TextToken) → length long ≡ 0 → long_token (end_of 0 ts) b ≡ t → drawn_out 0 (ts ++ b ∷ []) ++ long ≡ (drawn_out 0 ts ++ long) ++ t ∷ []
+brief_more ts long b t none is =
+    let empty : long ≡ [] = nil_from_length long none in
+    let all = drawn_out 0 ts in
+    ap (λ l. drawn_out 0 (ts ++ b ∷ []) ++ l) empty ∙ append-nil (drawn_out 0 (ts ++ b ∷ [])) ∙ drawn_more 0 ts b ∙ ap (λ y. all ++ y ∷ []) is
+    ∙ ap (λ l. l ++ t ∷ []) (sym (ap (λ l. all ++ l) empty ∙ append-nil all))
