@@ -53,7 +53,7 @@ SAID = re.compile(r"^fn (\S+): (proved|not proved|no proof)(.*)$", re.M)
 INHERITED = re.compile(r"it calls \S+, (?:which|whose)|its? callee")
 LOST = re.compile(r"error\[[\w-]+\]|^rattle: ", re.M)
 GONE = re.compile(r"has no `[^`]*` that can be named from here|is not in scope|has no field")
-TOLD = re.compile(r"^(?:note: )?(?:\./)?((?:src|specs|proofs)/[^:\s]+):(\d+):\d+: (?:error: |it is not proved that )(.*)$", re.M)
+TOLD = re.compile(r"^(?:note: )?(?:\./)?((?:src|specs|proofs)/[^:\s]+):(\d+):\d+: (?:error: |it is not proved that |`search` found no proof )(.*)$", re.M)
 GOAL = re.compile(r"`([\w+-]+)`")
 # How the line of a wrong body begins that says by what it is refused.
 REFUSED_BY = "# refused by:"
@@ -304,8 +304,19 @@ def told_of(checked, edit):
             yield text
 
 
+def named_kind(goal):
+    """What a goal is of, by its name."""
+    if goal.startswith("returns"):
+        return "returned"
+    if goal.startswith("invariant_of"):
+        return "held"
+    return "loop" if "-init" in goal or "-preserved" in goal else "call"
+
+
 def kind_of(text):
     """What a goal is of, by the prover's words for it."""
+    if text.startswith("(`"):
+        return named_kind(GOAL.search(text)[1])
     fitting = [kind for kind, words in KINDS if kind not in ("other", "answer") and words.match(text)]
     if not fitting and (GOAL.search(text) or GONE.search(text)):
         return "answer"
@@ -456,8 +467,6 @@ WORDS = {
     "end": "a loop that must end",
     "call": "what a call asks for",
 }
-# What a goal is of, by the front of its name.
-FRONTS = {"returns": "returned", "invariant_of": "held", "loop": "loop"}
 
 
 def record(edit, why):
@@ -466,8 +475,7 @@ def record(edit, why):
     if kind == "clause":
         named = f"clause `{goal.removeprefix('clause ')}`"
     elif kind == "answer":
-        fronts = [known for front, known in FRONTS.items() if goal.startswith(front)]
-        named = f"{WORDS[fronts[0] if fronts else 'call']}; its written proof fits no more"
+        named = f"{WORDS[named_kind(goal)]}; its written proof fits no more"
     else:
         named = WORDS.get(kind, kind)
     path = ROOT / "crates" / edit.crate / edit.folder / f"{edit.name}.edit"
