@@ -2,7 +2,8 @@
 # Takes the tokens of about 20 MB (or SIZE bytes) of C, of JSON and of a log, by the rules of NAME.rules: through lex_next of liblex in pieces
 # of 64 KiB, without lines and with them, and through lex_tokens over the whole input; by flex's scanner as flex makes it by default
 # and with -Cf, with an action `return N;` for each rule, in a loop over yylex; and by the scanner that re2c makes of re2c/NAME.re. Each counts
-# the tokens, their bytes and their numbers, which are compared. They run in turn, RUNS times each (9 without it). A row tells the
+# the tokens, their bytes and their numbers, which are compared. One more program lists the tokens of flex's default scanner first, as
+# lex_tokens does, and counts them then. They run in turn, RUNS times each (9 without it). A row tells the
 # median of the seconds of the processor, the system's with them, and the least.
 #
 # With the word `instructions` it tells the instructions a byte that callgrind counts, over 2 MB (or SIZE bytes).
@@ -48,11 +49,33 @@ rules() {
         /^%%$/ { inside = 1 }' "$1"
 }
 
-# Makes flex's scanner of the rules $1 with the flag $2, as the program $3.
+# Makes flex's scanner of the rules $1 with the flag $2, as the program $3, and where there is a $4 one that lists the tokens as that.
 make_flex() {
     rules "$1" 1 > "$folder/flex.l"
     flex --noyywrap -8 "$2" -o "$folder/scan.c" "$folder/flex.l"
     cat >> "$folder/scan.c" <<'END'
+#ifdef LISTED
+#include <lex.h>
+int main(void)
+{
+    unsigned long tokens = 0, bytes = 0, numbers = 0;
+    struct lex_token *found = malloc((LISTED + 1) * sizeof *found);
+    size_t count = 0, start = 0, i;
+    int number;
+    while ((number = yylex()) != 0) {
+        struct lex_token token = { start, start + yyleng, number - 1, YY_START };
+        start += yyleng;
+        found[count++] = token;
+    }
+    for (i = 0; i < count; i++) {
+        tokens++;
+        bytes += found[i].end - found[i].start;
+        numbers += found[i].rule + 1;
+    }
+    printf("%lu %lu %lu\n", tokens, bytes, numbers);
+    return 0;
+}
+#else
 int main(void)
 {
     unsigned long tokens = 0, bytes = 0, numbers = 0;
@@ -65,8 +88,12 @@ int main(void)
     printf("%lu %lu %lu\n", tokens, bytes, numbers);
     return 0;
 }
+#endif
 END
     cc -O2 -w -o "$3" "$folder/scan.c"
+    if [[ ${4-} ]]; then
+        cc -O2 -w -D LISTED="$(stat -c %s "$input")" -I "$top/include" -o "$4" "$folder/scan.c"
+    fi
 }
 
 # Runs the program that $1 names, behind the words that follow, over the input, and compares what it counts with what flex's scanner counts.
@@ -109,13 +136,13 @@ middle() {
         END { if (NR == 1) print at[1]; else print at[int((NR + 1) / 2)] " (" at[1] ")" }'
 }
 
-programs=(next lines listed flex full re2c)
-echo "| Input | Tokens | lex_next | with lines | lex_tokens | flex | flex -Cf | re2c |"
-echo "|---|---|---|---|---|---|---|---|"
+programs=(next lines listed flex flex-listed full re2c)
+echo "| Input | Tokens | lex_next | with lines | lex_tokens | flex | flex, listed | flex -Cf | re2c |"
+echo "|---|---|---|---|---|---|---|---|---|"
 for name in c json log; do
     input=$folder/${inputs[$name]}.input
     rules "$here/$name.rules" 0 | "$folder/table" > "$folder/lex.tab"
-    make_flex "$here/$name.rules" -Cem "$folder/flex"
+    make_flex "$here/$name.rules" -Cem "$folder/flex" "$folder/flex-listed"
     make_flex "$here/$name.rules" -Cf "$folder/full"
     re2c -o "$folder/scan.c" "$here/re2c/$name.re"
     cc -O2 -w -I "$here/re2c" -o "$folder/re2c" "$folder/scan.c"
