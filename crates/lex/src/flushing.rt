@@ -1,6 +1,6 @@
 //! What is written to a sink that is flushed then.
-ghost use Rattle.std.specs.Prelude.{◌≡◌, ◌-◌, ◌^◌, ◌<◌, true, OnOk};
-ghost use Rattle.lex_io.specs.Sink.{Appended};
+ghost use Rattle.std.specs.Prelude.{◌≡◌, ◌+◌, ◌-◌, ◌^◌, ◌<◌, true, OnOk};
+ghost use Rattle.lex_io.specs.Sink.{Appended, fault_count};
 ghost use Rattle.lextab_packed.specs.Machines.{table_parts};
 ghost use Rattle.lextab_packed.specs.Views.{table_of};
 ghost use Rattle.lextab_file.specs.File.{file_of};
@@ -13,6 +13,7 @@ use lexkit::{BackUp, Sink, Stats, Tables, WriteFault, write_backup, write_stats,
 pub fn put_table<K: Sink>(tables: &Tables, sink: &mut K) -> Result<(), WriteFault>
     requires few { K.failures sink.old < 2 ^ 64 - 1 }
     ensures bytes { Appended (λ xs. K.wrote sink.old xs sink.new) (file_of (table_of (table_parts tables.now))) result }
+    ensures failures { K.failures sink.new ≡ K.failures sink.old + fault_count result }
     ensures flushed { OnOk result (K.flushed sink.new ≡ true) }
 {
     write_tables(tables, sink)?;
@@ -23,6 +24,7 @@ pub fn put_table<K: Sink>(tables: &Tables, sink: &mut K) -> Result<(), WriteFaul
 pub fn put_report<K: Sink>(entries: &[BackUp], sink: &mut K) -> Result<(), WriteFault>
     requires few { K.failures sink.old < 2 ^ 64 - 1 }
     ensures bytes { Appended (λ xs. K.wrote sink.old xs sink.new) (backup_lines entries.now) result }
+    ensures failures { K.failures sink.new ≡ K.failures sink.old + fault_count result }
     ensures flushed { OnOk result (K.flushed sink.new ≡ true) }
 {
     write_backup(entries, sink)?;
@@ -33,6 +35,7 @@ pub fn put_report<K: Sink>(entries: &[BackUp], sink: &mut K) -> Result<(), Write
 pub fn put_stats<K: Sink>(stats: &Stats, sink: &mut K) -> Result<(), WriteFault>
     requires few { K.failures sink.old < 2 ^ 64 - 1 }
     ensures bytes { Appended (λ xs. K.wrote sink.old xs sink.new) (stats_lines stats.now) result }
+    ensures failures { K.failures sink.new ≡ K.failures sink.old + fault_count result }
     ensures flushed { OnOk result (K.flushed sink.new ≡ true) }
 {
     write_stats(stats, sink)?;

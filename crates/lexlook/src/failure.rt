@@ -1,9 +1,11 @@
 //! What ends the program before its work is done, and the line that tells it.
 ghost use Rattle.std.specs.Prelude.{◌≡◌, ◌+◌, ◌-◌, ◌^◌, ◌<◌, List, ℕ, true, false};
+ghost use Rattle.std.specs.Process.{exit_status};
 ghost use Rattle.lex_io.specs.Sink.{Appended, fault_count};
 ghost use Rattle.lexkit.specs.Failures.{out_of_memory};
 ghost use Rattle.lexkit.specs.Faults.{with_newline};
-ghost use Rattle.lexlook.specs.Failures.{failure_front, failure_line, failure_words, is_refusal, reason_words};
+ghost use Rattle.lexlook.specs.Failures.{failure_front, failure_line, failure_status, failure_words, is_refusal};
+ghost use Rattle.lexlook.specs.Failures.{reason_words};
 ghost use Rattle.lexlook.specs.declared.failure.LookFailure.{LookFailure};
 
 use lexauto_reports::put_all;
@@ -50,7 +52,9 @@ impl LookFailure {
     }
 
     /// The exit status: that of lex, and 66 for a file that cannot be read.
-    fn status(&self) -> u8 {
+    fn status(&self) -> u8
+        ensures { result ≡ failure_status self.now }
+    {
         match self {
             LookFailure::Plain(failure) => failure.fault().status(),
             LookFailure::Refused { failure, .. } => failure.fault().status(),
@@ -125,7 +129,9 @@ pub fn write_failure<K: Sink>(failure: &LookFailure, sink: &mut K) -> Result<(),
 }
 
 /// Reports what ended the program, in a line on standard error, and answers the status that it exits with.
-pub fn report(rt: &HostRuntime, failure: &LookFailure) -> ExitCode {
+pub fn report(rt: &HostRuntime, failure: &LookFailure) -> ExitCode
+    ensures { exit_status result ≡ failure_status failure.now }
+{
     let _ = write_failure(failure, &mut ToWrite::new(rt.stderr()));
     ExitCode::from(failure.status())
 }

@@ -6,3 +6,4 @@ pub mod SameFiles
 pub mod Shown
 pub mod Traced
 pub mod Called
+pub mod ReadAlone

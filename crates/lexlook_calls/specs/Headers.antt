@@ -7,6 +7,8 @@ use Rattle.lex_names.specs.RuleNames.{rule_name}
 use Rattle.lex_semantics.specs.ByteSets.{same_bytes}
 use Rattle.lex_semantics.specs.Spec.{Spec, Rule}
 use Rattle.lexkit.specs.Headline.{Refusal, reading}
+use Rattle.lexkit.specs.declared.errors.GenError.{GenError}
+use Rattle.lexkit.specs.declared.errors.GenError.TheVariants as gens
 use Rattle.lexkit.specs.declared.options.Options.{Options}
 use Rattle.lexspec.specs.Files.{SpellsSpec}
 use Rattle.lexlook_calls.specs.declared.error.LookError.{LookError}
@@ -85,11 +87,16 @@ pub record HeaderTold {K : Type 0} (wrote : K → List ℕ → K → Type 0) (op
   pub spells : SpellsSpec (reading options) text spec
   pub written : Appended (λ xs. wrote s xs t) (header l (called spec.rules)) answer
 
+-- A text is refused by what reading it finds alone. A header needs no automaton, so no limit of one is passed.
+abbrev pub ReadingRefusal : Options → List ℕ → GenError → Type 0
+ReadingRefusal options text (gens.Spec e) = Refusal options text (gens.Spec e)
+ReadingRefusal options text other = ⊥
+
 -- What was told of a text. One that is refused leaves the sink as it was, and so does want of memory.
 abbrev pub TellsHeader : {K : Type 0} → (K → List ℕ → K → Type 0) → Options → Language → List ℕ → K → K
     → Result (Unit {0}) LookError → Type 0
 TellsHeader wrote options l text s t (Ok v) = HeaderTold wrote options l text s t (Ok v)
 TellsHeader wrote options l text s t (Err Write) = HeaderTold wrote options l text s t (Err Write)
 TellsHeader wrote options l text s t (Err OutOfMemory) = t ≡ s
-TellsHeader wrote options l text s t (Err (Refused e)) = Refusal options text e × (t ≡ s)
+TellsHeader wrote options l text s t (Err (Refused e)) = ReadingRefusal options text e × (t ≡ s)
 TellsHeader wrote options l text s t (Err (Table e)) = ⊥

@@ -207,6 +207,8 @@ fn header_of(alloc: Global, language: Language, rules: &[Rule]) -> Result<Vec<u8
 
 /// Writes a constant for each rule of the specification that a text spells, by its name or its line, and for rules that are called
 /// the same one alone; then which rules these are. A text that spells no specification is refused, and then nothing is written.
+/// The limits count for nothing.
+#[tactic(auto, using(crate::proofs::ReadAlone::read_alone))]
 pub fn tell_header<K: Sink>(
     alloc: Global,
     text: &[u8],

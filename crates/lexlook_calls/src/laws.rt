@@ -25,7 +25,8 @@ pub fn equal_are_same()
     one_table();
 }
 
-/// Worked examples of headers: a keyword as a name, a rule without one, and two rules of one name.
+/// Worked examples of headers: a keyword as a name, a rule without one, two rules of one name, and that no limit refuses a
+/// text.
 pub fn examples_of_headers()
     ensures { HeaderExamples }
 {}

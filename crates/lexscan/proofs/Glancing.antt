@@ -1,33 +1,30 @@
 -- A turn whose match is told at a glance.
-use Rattle.std.proofs.Common.{◌≡◌, ℕ, suc, ◌+◌, ◌-◌, ◌≤◌, ◌<◌, Bool, true, false, List, [], ◌∷◌, ◌++◌, length, take, drop, get_or, inl, inr, Option, Some, None, Ok, Err, refl, sym, ◌∙◌, ap, subst, arith}
+use Rattle.std.proofs.Common.{◌≡◌, ℕ, suc, ◌+◌, ◌-◌, ◌≤◌, ◌<◌, Bool, true, false, List, [], ◌++◌, length, take, drop, get_or, inl, Option, Some, None, Ok, Err, refl, sym, ◌∙◌, ap, subst, arith}
 use Rattle.std.specs.Prelude.{Result, max, nat_eq, ⊤}
 use Rattle.std.proofs.lemmas.List.{get_or-take, length-append, length-take-le, take-take, take-append-drop}
 use Rattle.std.specs.Coded.{le_prop}
 use Rattle.lex_semantics.specs.ByteSets.{bit_of}
 use Rattle.lex_semantics.specs.Text.{IsText, AllBelow}
-use Rattle.lex_semantics.specs.Machine.{Machine, walk, rules_of_machine}
+use Rattle.lex_semantics.specs.Machine.{Machine, walk}
 use Rattle.lex_semantics.specs.MachineLaws.{MachineLaws}
 use Rattle.lex_semantics.proofs.Texts.{is_text_take, is_text_drop}
 use Rattle.lexscan_matching.specs.declared.glanced.GlancedMatch.{GlancedMatch}
 use Rattle.lexscan_matching.specs.Glanced.{IsGlancedMatch, written_by}
 use Rattle.lexscan_matching.specs.Descends.{Conditions, matches_of, Takes}
-use Rattle.lexscan_matching.specs.Looks.{Looked}
-use Rattle.lexscan_matching.specs.Picks.{path_of, state_at}
+use Rattle.lexscan_matching.specs.Picks.{path_of}
 use Rattle.lexscan_matching.proofs.Barrens.{true_burst}
-use Rattle.lexscan_window.specs.Memos.{AreTrue, IsTrueMark, Barren}
+use Rattle.lexscan_window.specs.Memos.{AreTrue, Barren}
 use Rattle.lexscan_window.specs.Places.{kept_before}
 use Rattle.lexscan_window.specs.Window.{Held, last_of}
 use Rattle.lexscan_window.specs.declared.error.RunError.{RunError}
-use Rattle.lexscan_window.specs.declared.matched.MatchedRule.{MatchedRule}
 use Rattle.lexscan_window.specs.declared.matched.MatchedRule.TheVariants.{Numbered}
-use Rattle.lexscan_window.specs.declared.memo.Mark.{Mark}
 use Rattle.lexscan_window.specs.declared.state.Reading.{Reading}
 use Rattle.lexscan_window.specs.declared.state.State.{State}
 use Rattle.lexscan_window.specs.declared.state.TextPlace.{TextPlace}
 use Rattle.lexscan.specs.declared.glance.ToldMatch.{ToldMatch}
 use Rattle.lexscan.specs.declared.scan.Scan.{Scan}
 use Rattle.lexscan.specs.declared.turn.Turn.{Turn}
-use Rattle.lexscan.specs.Glances.{IsTold, LeavesTold, showing, OnlyShows, GlancedOver}
+use Rattle.lexscan.specs.Glances.{IsTold, LeavesTold, showing, GlancedOver}
 use Rattle.lexscan.specs.Pulls.{TurnedOver}
 use Rattle.lexscan.specs.Pushes.{AttemptsTo, IsReachable}
 use Rattle.lexscan.specs.Scans.{IsGoing, ScanInvariant}

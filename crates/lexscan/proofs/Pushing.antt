@@ -1,6 +1,6 @@
 -- Scans by pieces.
 use Rattle.std.proofs.Common.{◌≡◌, ℕ, suc, ◌+◌, ◌-◌, ◌<◌, ◌≤◌, inl, inr, Bool, true, false, List, [], ◌++◌, length, take, drop, min, Option, Some, None, Ok, Err, refl, sym, ap, subst, ◌∙◌, append_assoc, append-nil, arith}
-use Rattle.std.specs.Prelude.{IfSome}
+use Rattle.std.specs.Prelude.{IfSome, Result, IfErr, OnErr, IsErrOf}
 use Rattle.std.proofs.lemmas.Bool.{cases_lt, cases_eq, cases_Bool}
 use Rattle.std.proofs.lemmas.List.{length-append, drop-append-le, nil_from_length, take-append-le, length-drop, drop_all}
 use Rattle.std.proofs.Math.Seq.{take-append_seam, drop-append_seam, drop-append-add}
@@ -18,12 +18,12 @@ use Rattle.lex_semantics.proofs.Written.{run_begins}
 use Rattle.lexscan_window.specs.declared.state.State.{State}
 use Rattle.lexscan.specs.declared.turn.Turn.{Turn}
 use Rattle.lexscan_window.specs.declared.error.RunError.{RunError}
-use Rattle.lexscan_window.specs.declared.error.RunError.TheVariants.{TooManyReads}
+use Rattle.lexscan_window.specs.declared.error.RunError.TheVariants.{Read, TooManyReads, Write, OutOfMemory, Stack, Failed}
 use Rattle.lex_semantics.specs.ByteSets.{bit_of}
 use Rattle.lexscan_window.specs.Reads.{end_step}
 use Rattle.lexscan_matching.specs.Descends.{ending_of}
 use Rattle.lexscan.specs.TurnInvariants.{state_of, TurnInvariant, AfterRefusal, NoneAfterEnd}
-use Rattle.lexscan.specs.Pushes.{AsksForMore, IsReachable, MadeTurns, Pauses, Fed, RunsTo, WritesFirst, AfterFeed, AfterFinish, WalkStaysLive, WalksOn, IsAsking}
+use Rattle.lexscan.specs.Pushes.{AsksForMore, IsReachable, MadeTurns, Pauses, Fed, RunsTo, WritesFirst, AfterFeed, AfterFinish, HasFailedBy, HasFailedByPiece, WalkStaysLive, WalksOn, IsAsking}
 use Rattle.lexscan_window.specs.Waits.{GivesWaiting}
 use Rattle.lex_semantics.specs.MachineLaws.{MachineLaws}
 use Rattle.lex_semantics.proofs.MachineLaws.{walk-append}
@@ -68,6 +68,25 @@ drop_over n k xs ys is = elim (cases_lt (length xs) n) [
       let whole : n ≡ length xs + (n - k) = omega (arith, e, more) in
       ap (λ j. drop j (xs ++ ys)) whole ∙ drop-append-add xs ys (n - k) ∙ ap (λ l. l ++ drop (n - k) ys) (sym (drop_all k xs (omega (arith, e)))))
 ]
+
+-- Turns that are refused leave the scan failed, and never for too many bytes.
+pub failed_by : {A : Type 0} (r : Result A RunError) (failed : Bool) → OnErr r (failed ≡ true) → (IsErrOf r TooManyReads → ⊥) → IfErr r (λ e. HasFailedBy e failed)
+failed_by (Ok v) failed is few = tt
+failed_by (Err TooManyReads) failed is few = absurd (few refl)
+failed_by (Err Read) failed is few = is
+failed_by (Err Write) failed is few = is
+failed_by (Err OutOfMemory) failed is few = is
+failed_by (Err Stack) failed is few = is
+failed_by (Err Failed) failed is few = is
+
+pub failed_by_piece : {A : Type 0} (r : Result A RunError) (failed : Bool) → OnErr r (failed ≡ true) → (IsErrOf r TooManyReads → ⊥) → IfErr r (λ e. HasFailedByPiece e failed)
+failed_by_piece (Ok v) failed is few = tt
+failed_by_piece (Err TooManyReads) failed is few = absurd (few refl)
+failed_by_piece (Err Read) failed is few = is
+failed_by_piece (Err Write) failed is few = is
+failed_by_piece (Err OutOfMemory) failed is few = tt
+failed_by_piece (Err Stack) failed is few = is
+failed_by_piece (Err Failed) failed is few = is
 
 -- A turn that asked for more than may be read is given up.
 module _ (M : Machine) (n : ℕ) (given got out out' : List ℕ) (old mid new : State) (h : TurnInvariant M n given out old) (none : NoneAfterEnd old mid got) (refusal : AfterRefusal M n given got out' mid TooManyReads) (more : mid.reading.at_end ≡ false) where

@@ -1,5 +1,5 @@
 -- What a match or the end action makes of a scan, and what a turn makes of that.
-use Rattle.std.proofs.Common.{◌≡◌, ◌<◌, true, Result, Ok, Err, arith}
+use Rattle.std.proofs.Common.{◌≡◌, ◌<◌, true, Result, Ok, Err, refl, arith}
 use Rattle.std.proofs.lemmas.Grind.{common_steps}
 use Rattle.lex_io.specs.declared.source.Source as Source
 use Rattle.lex_io.specs.declared.sink.Sink as Sink
@@ -44,6 +44,7 @@ module _ {S K : Type 0} {of_source : Source.Ghosts S} {of_sink : Sink.Ghosts K} 
     handed_on = h.handed_on;
     goes_on = turn_made M laws of_source.gave of_sink.wrote _ _ _ _ _ _ old.state new.state turn going.working going.going h.turn_step h.left;
     counts = h.counts;
+    failed = tt;
     refused = h.left.refused;
     too_many = λ is. absurd (no is);
     limit = h.limit;
@@ -67,6 +68,7 @@ module _ {S K : Type 0} {of_source : Source.Ghosts S} {of_sink : Sink.Ghosts K} 
     handed_on = h.handed_on;
     goes_on = turn_refused M laws of_source.gave of_sink.wrote _ _ _ _ _ _ old.state new.state error going.going h.turn_step h.left;
     counts = h.counts;
+    failed = refl;
     refused = h.left.refused;
     too_many = grind (arith, common_steps);
     limit = h.limit;
@@ -80,6 +82,7 @@ module _ {S K : Type 0} {of_source : Source.Ghosts S} {of_sink : Sink.Ghosts K} 
     handed_on = h.handed_on;
     goes_on = h.goes_on;
     counts = h.counts;
+    failed = h.failed;
     refused = h.refused;
     too_many = h.too_many;
     limit = known_keeper M _ _ _ _ _ result known h.limit;

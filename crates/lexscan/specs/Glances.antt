@@ -1,5 +1,5 @@
 -- One turn over bytes that are there, where its match is told at a glance.
-use Rattle.std.specs.Prelude.{◌≡◌, ℕ, ◌+◌, ◌-◌, ◌≤◌, Bool, true, false, List, ◌∷◌, ◌++◌, take, drop, nat_eq, get_or, Option, Some, Ok}
+use Rattle.std.specs.Prelude.{◌≡◌, ℕ, ◌+◌, ◌≤◌, Bool, true, false, List, ◌∷◌, ◌++◌, take, drop, Some, Ok}
 use Rattle.lex_semantics.specs.Machine.{Machine, walk}
 use Rattle.lex_machine.specs.declared.glance.Way.{Way}
 use Rattle.lex_machine.specs.declared.glance.Gist.{Gist}

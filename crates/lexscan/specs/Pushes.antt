@@ -13,7 +13,7 @@ use Rattle.lexscan_window.specs.declared.state.State.{State}
 use Rattle.lexscan_window.specs.declared.state.TextPlace.{TextPlace}
 use Rattle.lexscan.specs.declared.turn.Turn.{Turn}
 use Rattle.lexscan_window.specs.declared.error.RunError.{RunError}
-use Rattle.lexscan_window.specs.declared.error.RunError.TheVariants.{Stack}
+use Rattle.lexscan_window.specs.declared.error.RunError.TheVariants.{OutOfMemory, Stack, TooManyReads}
 use Rattle.lexscan.specs.TurnInvariants.{TurnInvariant, AfterRefusal, TurnPreserves, NoneAfterEnd}
 use Rattle.lexscan.specs.Ties.{HandedOn}
 
@@ -134,6 +134,17 @@ AfterFinish R fed out (Ok status) = IsText fed → Run R fed out (Status status)
 AfterFinish R fed out (Err e) =
     IsText fed → ((w : List ℕ) (ending : Ending) → Run R fed w ending → BeginsWith w out)
     × (e ≡ Stack → Run R fed out StackFault)
+
+-- Whether the scan has failed after a call that is refused: not by too many bytes, which is told before a turn. By
+-- anything else it has, so that each later call is refused.
+abbrev pub HasFailedBy : RunError → Bool → Type 0
+HasFailedBy TooManyReads failed = failed ≡ false
+HasFailedBy other failed = failed ≡ true
+
+-- So it is after a piece too. But that may want memory before a turn, and then it has not.
+abbrev pub HasFailedByPiece : RunError → Bool → Type 0
+HasFailedByPiece OutOfMemory failed = ⊤
+HasFailedByPiece e failed = HasFailedBy e failed
 
 -- There is one proof at most of a denial.
 pub IsReachable-prop : (M : Machine) (s : State) → IsProp (IsReachable M s)

@@ -1,5 +1,5 @@
 -- What is known of a scan between two turns, and what each step of it does, over the scan before the step and after it.
-use Rattle.std.specs.Prelude.{◌≡◌, ℕ, ◌+◌, ◌<◌, ◌≤◌, List, [], length, nat_lt, true, false, None, Some, Result, Ok, Err, IfErr, OnOk, IsErrOf}
+use Rattle.std.specs.Prelude.{◌≡◌, ℕ, ◌+◌, ◌<◌, ◌≤◌, List, [], length, nat_lt, true, false, None, Some, Result, Ok, Err, IfErr, OnErr, OnOk, IsErrOf}
 use Rattle.lex_io.specs.declared.source.Source as Source
 use Rattle.lex_io.specs.declared.sink.Sink as Sink
 use Rattle.lex_semantics.specs.Text.{AllBelow}
@@ -70,6 +70,7 @@ module _ {S K : Type 0} {of_source : Source.Ghosts S} {of_sink : Sink.Ghosts K} 
         (sink_of e'.outlet) old.state new.state result
     pub counts : TurnCounts of_source.ends of_source.failures of_sink.failures (source_of e.intake)
         (source_of e'.intake) (sink_of e.outlet) (sink_of e'.outlet) old.state.reading new.state.reading result
+    pub failed : OnErr result (new.state.failed ≡ true)
     pub refused : IsErrOf result Failed → ⊥
     pub too_many : IsErrOf result TooManyReads → (new.state.reading.taken ≡ new.state.reading.max_reads)
         × (new.state.reading.at_end ≡ false)
@@ -86,6 +87,7 @@ module _ {S K : Type 0} {of_source : Source.Ghosts S} {of_sink : Sink.Ghosts K} 
         (source_of e'.intake) (sink_of e.outlet) (sink_of e'.outlet) old.state.reading new.state.reading result
     pub handed_on : old.state.failed ≡ false → old.state.ended ≡ None
         → HandedOn (of_sink.flushed (sink_of e'.outlet)) result
+    pub failed : OnErr result (new.state.failed ≡ true)
     pub after_refusal : old.state.failed ≡ true → (result ≡ Err Failed) × (source_of e'.intake ≡ source_of e.intake)
         × (sink_of e'.outlet ≡ sink_of e.outlet) × (new.state ≡ old.state)
     pub refused : IsErrOf result Failed → old.state.failed ≡ true

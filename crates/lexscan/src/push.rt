@@ -1,6 +1,7 @@
 //! A scan that is fed its input piece by piece.
 ghost use Rattle.std.specs.Prelude.{◌≡◌, ℕ, ◌+◌, ◌-◌, ◌^◌, ◌<◌, ◌≤◌, List, [], ◌++◌, length, drop, vec_len};
-ghost use Rattle.std.specs.Prelude.{vec_capacity, true, false, None, Some, Ok, Err, OnErr, IfSome, IfNone, IsErrOf};
+ghost use Rattle.std.specs.Prelude.{vec_capacity, true, false, None, Some, Ok, Err, IsErrOf};
+ghost use Rattle.std.specs.Prelude.{OnErr, IfErr, IfSome, IfNone};
 ghost use Rattle.std.specs.Coded.{→_prop};
 ghost use Rattle.lex_semantics.specs.Machine.{rules_of_machine};
 ghost use Rattle.lex_semantics.specs.Text.{AllBelow};
@@ -10,6 +11,7 @@ ghost use Rattle.lexscan.specs.Attempts.{IsPaused, SinkCounts, MayBeFed, PieceLe
 ghost use Rattle.lexscan.specs.Stacks.{AllBelow-prop};
 ghost use Rattle.lexscan.specs.Ties.{HandedOn, RunHandedOn};
 ghost use Rattle.lexscan.specs.Pushes.{IsReachable, IsReachable-prop, IsAsking, IsAsking-prop, Fed, AfterFeed, AfterFinish};
+ghost use Rattle.lexscan.specs.Pushes.{HasFailedBy, HasFailedByPiece};
 
 use crate::asking::{walk_all, walk_on};
 use crate::scan::Scan;
@@ -175,7 +177,7 @@ impl<M: Machine> PushScanner<M> {
 
     /// Scans on with a piece more, as far as the bytes fed so far decide it. `Turn::Went` says that the next match
     /// asks for more of them. Where the piece is refused before a turn, for memory or for too many bytes, nothing has
-    /// changed.
+    /// changed. After a turn that is refused each call answers `Failed`.
     pub fn feed<K: Sink>(&mut self, piece: &[u8], sink: &mut K) -> Result<Turn, RunError>
         requires few_writes { K.failures sink.old < 2 ^ 64 - 1 }
         ensures machine { push_machine self.new ≡ push_machine self.old }
@@ -194,6 +196,7 @@ impl<M: Machine> PushScanner<M> {
         ensures kept { (push_state self.new).failed ≡ false
             → OnErr result ((push_state self.new ≡ push_state self.old)
             × (push_waiting self.new ≡ push_waiting self.old) × (sink.new ≡ sink.old)) }
+        ensures failed { IfErr result (λ e. HasFailedByPiece e (push_state self.new).failed) }
         ensures refused { IsErrOf result RunError.Failed → (push_state self.old).failed ≡ true }
         ensures after_refusal { (push_state self.old).failed ≡ true → (result ≡ Err RunError.Failed)
             × (sink.new ≡ sink.old) × (self.new ≡ self.old) }
@@ -239,7 +242,8 @@ impl<M: Machine> PushScanner<M> {
         )
     }
 
-    /// Scans to the end of what was fed.
+    /// Scans to the end of what was fed. Too many bytes are refused before a turn, and then nothing has changed. After
+    /// a turn that is refused each call answers `Failed`.
     pub fn finish<K: Sink>(&mut self, sink: &mut K) -> Result<u8, RunError>
         requires few_writes { K.failures sink.old < 2 ^ 64 - 1 }
         ensures machine { push_machine self.new ≡ push_machine self.old }
@@ -257,6 +261,7 @@ impl<M: Machine> PushScanner<M> {
         ensures kept { (push_state self.new).failed ≡ false
             → OnErr result ((push_state self.new ≡ push_state self.old)
             × (push_waiting self.new ≡ push_waiting self.old) × (sink.new ≡ sink.old)) }
+        ensures failed { IfErr result (λ e. HasFailedBy e (push_state self.new).failed) }
         ensures refused { IsErrOf result RunError.Failed → (push_state self.old).failed ≡ true }
         ensures after_refusal { (push_state self.old).failed ≡ true → (result ≡ Err RunError.Failed)
             × (sink.new ≡ sink.old) × (self.new ≡ self.old) }

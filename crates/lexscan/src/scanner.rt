@@ -1,6 +1,6 @@
 //! A scanner.
 ghost use Rattle.std.specs.Prelude.{◌≡◌, ℕ, ◌+◌, ◌-◌, ◌^◌, ◌<◌, ◌≤◌, List, [], ◌++◌, length, true, false, Some, None};
-ghost use Rattle.std.specs.Prelude.{Ok, Err, IfSome, IsErrOf};
+ghost use Rattle.std.specs.Prelude.{Ok, Err, OnErr, IfSome, IsErrOf};
 ghost use Rattle.std.specs.Coded.{→_prop};
 ghost use Rattle.lex_semantics.specs.Text.{AllBelow};
 ghost use Rattle.lexscan_window.specs.Intakes.{can_read, can_write};
@@ -101,6 +101,7 @@ impl<'a, M: Machine, S: Source, K: Sink> Scanner<'a, M, S, K> {
             K.failures (scanner_sink self.old) + write_fault_count result }
         ensures handed_on { (scanner_state self.old).failed ≡ false → (scanner_state self.old).ended ≡ None
             → HandedOn (K.flushed (scanner_sink self.new)) result }
+        ensures failed { OnErr result ((scanner_state self.new).failed ≡ true) }
         ensures after_refusal { (scanner_state self.old).failed ≡ true → (result ≡ Err RunError.Failed)
             × (scanner_source self.new ≡ scanner_source self.old)
             × (scanner_sink self.new ≡ scanner_sink self.old) × (scanner_state self.new ≡ scanner_state self.old) }

@@ -25,7 +25,7 @@ use Rattle.lexspec.specs.RuleItems.{AreRules}
 use Rattle.lexspec.proofs.ItemRunLaws.{kept_as, all_as, line_back, up_to_on, all_more}
 use Rattle.lexspec.proofs.RuleRunLaws.{rules_first, rules_off, as_passed, same_behind}
 use Rattle.lexspec.specs.Files.{AreSingle}
-use Rattle.lexspec.specs.ItemReads.{names_in, NoneLeft}
+use Rattle.lexspec.specs.ItemReads.{names_in, NoneLeft, SomeWait}
 use Rattle.lexspec.specs.ItemRuns.{Item, ItemsUpTo, EndsRules, skipped, skipped_line, skipped_block, rule, no_trail, at_end, matching, brings_rule}
 use Rattle.lexspec.specs.Items.{unlisted}
 use Rattle.lexspec.specs.Keeping.{Keeps}
@@ -244,16 +244,6 @@ module _ (d : Declarations) (before : List (ℕ × Item)) (s : RulesSoFar) (a : 
       from [] h next = h refl
       from (w ∷ ws) h next = no_true next
 
-  -- where none waits they are rules
-  rules_alone : length s.waiting.items ≡ 0 → In before (done ++ []) (map end_rule_of s.ends.items ++ [])
-  rules_alone none = from s.waiting.items refl none
-    where
-      from : (ws : List RuleKept) → s.waiting.items ≡ ws → length ws ≡ 0 → In before (done ++ []) (map end_rule_of s.ends.items ++ [])
-      from [] e h =
-          let left = a.back [] [] [] (subst (λ z. Left (names_in d) d.options d.stack d.definitions [] (map rule_of z) [] []) (sym e) (left_of [] [] [] (refl, refl))) in
-          subst (λ z. In z (done ++ []) (map end_rule_of s.ends.items ++ [])) (append-nil before) (subst (λ z. In (before ++ []) z (map end_rule_of s.ends.items ++ [])) (sym left.whole) left.are)
-      from (w ∷ ws) e h = absurd (omega arith)
-
   -- the line of the last rule that waits
   waits_at : (n : ℕ) → (length s.waiting.items ≡ 0 → ⊥) → line_of_last n s.waiting.items ≡ last_or n (rule_lines before)
   waits_at n some = from s.waiting.items refl some
@@ -266,8 +256,8 @@ module _ (d : Declarations) (before : List (ℕ × Item)) (s : RulesSoFar) (a : 
 
   -- The fault of an item.
   pub item_fault : (start n : ℕ) (whole_text t : List ℕ) (e : SpecError) → ItemsUpTo start whole_text before n t → Keeps d s → (EndsRules t → ⊥) → NoneLeft d s n t
-      → (e.kind ≢ DanglingBar → e.line ≡ n) → (e.kind ≡ DanglingBar → e.line ≡ line_of_last n s.waiting.items) → IsFirstFault (names_in d) d.options d.stack d.definitions start whole_text e
-  item_fault start n whole_text t e upto keeps goes none other bar = record {
+      → (e.kind ≡ DanglingBar → SomeWait s) → (e.kind ≢ DanglingBar → e.line ≡ n) → (e.kind ≡ DanglingBar → e.line ≡ line_of_last n s.waiting.items) → IsFirstFault (names_in d) d.options d.stack d.definitions start whole_text e
+  item_fault start n whole_text t e upto keeps goes none waits other bar = record {
     items = all_as before;
     place = n;
     rest = t;
@@ -276,7 +266,7 @@ module _ (d : Declarations) (before : List (ℕ × Item)) (s : RulesSoFar) (a : 
     stuck = not_behind n t none;
     ended = (λ R E over are. goes over);
     told = other;
-    bar = (λ is alone. bar is ∙ waits_at n (λ empty. alone (done ++ []) (map end_rule_of s.ends.items ++ []) (to_file before (done ++ []) (map end_rule_of s.ends.items ++ []) (rules_alone empty))) ∙ ap (last_or n) (sym (same_lines before)));
+    bar = (λ is. (λ R E are. no_rules_alone (waits is) R E (of_file before R E are), bar is ∙ waits_at n (waits is) ∙ ap (last_or n) (sym (same_lines before))));
   }
 
   -- The fault of the end.
@@ -291,7 +281,7 @@ module _ (d : Declarations) (before : List (ℕ × Item)) (s : RulesSoFar) (a : 
     stuck = (λ j next line m. let (i, same, item) = line_back t j next line in no_item_at_end t i next over item);
     ended = (λ R E over are. no_rules_alone some R E (of_file before R E are));
     told = (λ other. absurd (other (ap (λ (x : SpecError). x.kind) is)));
-    bar = (λ same alone. ap (λ (x : SpecError). x.line) is ∙ waits_at n some ∙ ap (last_or n) (sym (same_lines before)));
+    bar = (λ same. (λ R E are. no_rules_alone some R E (of_file before R E are), ap (λ (x : SpecError). x.line) is ∙ waits_at n some ∙ ap (last_or n) (sym (same_lines before))));
   }
 
   -- No fault is told before the first line.

@@ -16,6 +16,7 @@ pub mod ItemRunLaws
 pub mod FileSections
 pub mod RuleRunLaws
 pub mod StepLaws
+pub mod BarLaws
 pub mod FaultLineLaws
 pub mod RestLaws
 pub mod AwaitingLaws

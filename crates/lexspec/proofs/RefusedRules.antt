@@ -25,8 +25,10 @@ use Rattle.lexspec_lines.specs.Lines.{line_in, newlines, without_returns}
 use Rattle.lexspec.proofs.CutLaws.{not_fixed_is}
 use Rattle.lexspec.proofs.TestLaws.{tree_is_sound}
 use Rattle.lexspec.proofs.FileSections.{sections_of}
+use Rattle.lexspec.specs.FaultExamples.{NoBarWaits}
+use Rattle.lexspec.specs.FaultLines.{AreUpTo}
 use Rattle.lexspec.specs.Files.{SpellsSpec}
-use Rattle.lexspec.specs.Items.{Conditions, unlisted, Subject, at_end, matching, Item, skipped, rule, IsSides, IsSubject, AreItems, conditions_at, starts_rule, action_at, action_end, after_piece, action_of}
+use Rattle.lexspec.specs.Items.{Conditions, unlisted, Subject, at_end, matching, Item, skipped, rule, IsSides, IsSubject, IsLine, AreItems, conditions_at, starts_rule, action_at, action_end, after_piece, action_of}
 use Rattle.lexspec.specs.RuleItems.{AreRules, EndRule, known}
 use Rattle.lexspec.specs.SpecExamples as Example
 use Rattle.lexspec.specs.Tests.{any_below}
@@ -147,17 +149,41 @@ slash_and_dollar =
     no_subject (codes "%%\na/b$ ;\n") t refl refl (λ e. cc) refl refl refl
     (no_sides t 4 (Some 1) false true refl refl cut (λ e. no_true (sym (two_of false true false false e).1)) (λ e. some_no_none 1 false false e))
 
+-- no subject begins with `^` before `<<EOF>>`, and so no item does
+abbrev caret_at_end : List ℕ
+caret_at_end = codes "^<<EOF>> ;\n"
+
+none_at_line : (subject : Subject) (v : List ℕ) → IsSubject caret_at_end subject v → ⊥
+none_at_line at_end v (e, rest, ends) = no_true e
+none_at_line (matching true head trail) v (e, not_end, sides) = no_true (sym not_end)
+none_at_line (matching false head trail) v (e, not_end, sides) = no_true (sym e)
+
 end_at_line : Example.IsNoSpec (codes "%%\n^<<EOF>> ;\n")
 unfolding definition_at conditions_at take_up_to is_blank
-end_at_line = no_subject (codes "%%\n^<<EOF>> ;\n") t refl refl (λ e. cc) refl refl refl none
-  where
-    t : List ℕ
-    t = codes "^<<EOF>> ;\n"
+end_at_line = no_subject (codes "%%\n^<<EOF>> ;\n") caret_at_end refl refl (λ e. cc) refl refl refl none_at_line
 
-    none : (subject : Subject) (v : List ℕ) → IsSubject (codes "^<<EOF>> ;\n") subject v → ⊥
-    none at_end v (e, rest, ends) = no_true e
-    none (matching true head trail) v (e, not_end, sides) = no_true (sym not_end)
-    none (matching false head trail) v (e, not_end, sides) = no_true (sym e)
+begins_rule : starts_rule caret_at_end ≡ true
+unfolding take_up_to is_blank
+begins_rule = refl
+
+without_list : ◌≡◌ {A = Option (Conditions × List ℕ)} (conditions_at caret_at_end) (Some (unlisted, caret_at_end))
+unfolding conditions_at take_up_to is_blank
+without_list = refl
+
+no_item_at_line : (i : Item) (next : List ℕ) → IsLine caret_at_end i next → ⊥
+no_item_at_line (skipped d) next (stops, line) = no_true (sym stops ∙ begins_rule)
+no_item_at_line (rule asked subject action) next (so, u, v, text, listed, begins_so, acts, action_is) =
+    let same = some_pair unlisted asked caret_at_end u (sym without_list ∙ listed) in
+    none_at_line subject v (subst (λ z. IsSubject z subject v) (sym same.1) begins_so)
+
+-- so the items before it are none, and these are rules
+pub no_bar_waits : NoBarWaits
+no_bar_waits names stack defined e h is = none_waits h.items h.read (h.bar is).0
+  where
+    none_waits : (items : List (ℕ × Item)) → AreUpTo 2 caret_at_end items h.place h.rest
+        → ((rules : List Rule) (ends : List EndRule) → AreRules names plain stack defined items rules ends false → ⊥) → ⊥
+    none_waits [] up_to none = none [] [] tt
+    none_waits (i ∷ items) (next, here, item, more) none = no_item_at_line i.1 next item
 
 bar_of_end : Example.IsNoSpec (codes "%%\n<<EOF>> |\na ;\n")
 unfolding definition_at conditions_at take_up_to is_blank action_at action_end after_piece

@@ -13,7 +13,7 @@ use Rattle.lexspec.specs.RuleItems.{EndRule}
 use Rattle.lexspec.specs.WaitingRules.{Left, acting, first_statements, may_wait, RulesFrom}
 use Rattle.lexspec.specs.RuleViews.{rule_of}
 use Rattle.lexspec.specs.EndRules.{end_rule_of}
-use Rattle.lexspec.specs.ItemReads.{names_in, NoneLeft}
+use Rattle.lexspec.specs.ItemReads.{names_in, NoneLeft, SomeWait}
 use Rattle.lexspec.specs.Agreeing.{Agrees, Passes}
 use Rattle.lexspec.specs.Files.{AreSingle}
 use Rattle.lexspec.specs.Keeping.{Keeps}
@@ -177,11 +177,11 @@ module _ (d : Declarations) where
 
   -- the fault of an item, and of the end
   pub item_refused : (start n : ℕ) (whole t : List ℕ) (s : RulesSoFar) (e : SpecError) → IsReadTo start whole s n t → Keeps d s → (EndsRules t → ⊥) → UnlessMemory e.kind (NoneLeft d s n t)
-      → (e.kind ≢ DanglingBar → e.line ≡ n) → (e.kind ≡ DanglingBar → e.line ≡ line_of_last n s.waiting.items) → UnlessMemory e.kind (IsRefused d start whole e)
-  item_refused start n whole t s e a keeps goes none other bar =
+      → (e.kind ≡ DanglingBar → SomeWait s) → (e.kind ≢ DanglingBar → e.line ≡ n) → (e.kind ≡ DanglingBar → e.line ≡ line_of_last n s.waiting.items) → UnlessMemory e.kind (IsRefused d start whole e)
+  item_refused start n whole t s e a keeps goes none waits other bar =
       unless_memory e.kind (NoneLeft d s n t) (IsRefused d start whole e) (λ h. record {
         none = section_refused start n whole t a.before s a.up_to a.agrees goes h;
-        first = item_fault d a.before s a.agrees start n whole t e a.up_to keeps goes h other bar;
+        first = item_fault d a.before s a.agrees start n whole t e a.up_to keeps goes h waits other bar;
         from_first = fault_line d a.before s a.agrees start n whole t e a.up_to other bar;
       }) none
 

@@ -54,8 +54,8 @@ module _ (names : List (List ℕ)) (how : ReadOptions) (stack : Bool) (defined :
     pub few : length (rule_lines items) ≤ max_rules
 
   -- The text, whose first line is n, begins with items that may begin a rules section. With the item that follows they
-  -- may not, whatever is behind that, and at the end they are no rules. That line is told, but for a `|` without a rule
-  -- behind it that of the last rule.
+  -- may not, whatever is behind that, and at the end they are no rules. That line is told. A `|` without a rule behind
+  -- it is told only where the items before are no rules, since the last one waits, and then at the line of that rule.
   pub record IsFirstFault (n : ℕ) (text : List ℕ) (e : SpecError) : Type 0 where
     pub items : List (ℕ × Item)
     pub place : ℕ
@@ -68,7 +68,7 @@ module _ (names : List (List ℕ)) (how : ReadOptions) (stack : Bool) (defined :
     pub told : e.kind ≢ DanglingBar → e.line ≡ place
     pub bar : e.kind ≡ DanglingBar
         → ((rules : List Rule) (ends : List EndRule) → AreRules names how stack defined items rules ends false → ⊥)
-        → e.line ≡ last_or place (rule_lines items)
+        × (e.line ≡ last_or place (rule_lines items))
 
 -- No condition is declared twice, and there are not too many; no name is defined twice; and options are known.
 abbrev pub MayDeclare : List DefinitionLine → Type 0

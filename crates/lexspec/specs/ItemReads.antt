@@ -13,6 +13,9 @@ use Rattle.lexspec.specs.RuleViews.{rule_of}
 use Rattle.lexspec.specs.EndRules.{end_rule_of}
 use Rattle.lexspec.specs.Files.{AreSingle}
 use Rattle.lex_semantics.specs.Limits.{max_rules}
+use Rattle.lexre_bytes.specs.declared.refusals.SpecErrorKind.{SpecErrorKind}
+use Rattle.lexre_bytes.specs.declared.refusals.SpecErrorKind.TheVariants.{DanglingBar}
+use Rattle.lexspec_lines.specs.Outcome.{UnlessMemory}
 use Rattle.lexspec_lines.specs.declared.declarations.Declarations.{Declarations}
 use Rattle.lexspec.specs.declared.rule_text.Front.{Front}
 use Rattle.lexspec.specs.declared.rule_text.Front.TheVariants as F
@@ -68,6 +71,14 @@ NoneLeft d s n t = (i : Item) (next : List ℕ) (is : List (ℕ × Item)) (R : L
     → IsLine t i next
     → Left (names_in d) d.options d.stack d.definitions ((n, i) ∷ is) (map rule_of s.waiting.items) R E
     → MayFollow d s i E → ⊥
+
+-- rules wait for the action of the next one
+abbrev pub SomeWait : RulesSoFar → Type 0
+SomeWait s = length s.waiting.items ≡ 0 → ⊥
+
+-- The item that begins the text may not follow, unless memory ran out. It is told as a `|` only where rules wait.
+abbrev pub RefusesItem : Declarations → RulesSoFar → ℕ → List ℕ → SpecErrorKind → Type 0
+RefusesItem d s n t e = UnlessMemory e (NoneLeft d s n t) × (e ≡ DanglingBar → SomeWait s)
 
 -- so for a rule with this front and this action
 abbrev pub NoRulesAfter : Declarations → RulesSoFar → Front → List ℕ → Type 0

@@ -24,6 +24,7 @@ pub mod EndRules
 pub mod Keeping
 pub mod KeptNames
 pub mod Readings
+pub mod FaultExamples
 pub mod RuleExamples
 pub mod SpecExamples
 pub mod Refusals

@@ -1,5 +1,5 @@
 //! The numbers of the conditions that a rule lists. (POSIX, lex, Rules in lex; flex, Start Conditions.)
-ghost use Rattle.std.specs.Prelude.{◌≡◌, ◌≤◌, ◌<◌, ℕ, List, Bool, true, false, Option, Some, None};
+ghost use Rattle.std.specs.Prelude.{◌≡◌, ◌≢◌, ◌≤◌, ◌<◌, ℕ, List, Bool, true, false, Option, Some, None};
 ghost use Rattle.std.specs.Prelude.{option_map, filter_map, length, slice_index_or, IfOk, IfErr, IfSome, IfNone};
 ghost use Rattle.lex_semantics.specs.Active.{contains};
 ghost use Rattle.lexspec_actions.specs.Names.{number_from, names_of};
@@ -7,6 +7,7 @@ ghost use Rattle.lexspec.specs.RuleItems.{numbers_of};
 ghost use Rattle.std.specs.List.{filter, range_with_len};
 ghost use Rattle.lexspec.specs.SubjectViews.{all_numbered, conditions_of, parts};
 ghost use Rattle.lexspec_lines.specs.Outcome.{UnlessMemory};
+ghost use Rattle.lexre_bytes.specs.declared.refusals.SpecErrorKind.TheVariants.{DanglingBar};
 ghost use Rattle.lex_semantics.specs.Limits.{max_conditions};
 
 use crate::subject::Conditions;
@@ -69,6 +70,7 @@ pub(crate) fn condition_numbers(
         (◌≡◌ {A = Option (Option (List ℕ))}
         (numbers_of (number_from 0 (names_of conditions.now)) (length conditions.now)
         (conditions_of asked.entry)) None)) }
+    ensures no_bar { IfErr result (λ e. e ≢ DanglingBar) }
 {
     let count = conditions.len() as u8;
     match asked {

@@ -11,6 +11,7 @@ ghost use Rattle.lexspec.specs.Files.{SpellsSpec};
 ghost use Rattle.lexspec.specs.Endings.{conditions_with};
 ghost use Rattle.lexre.specs.declared.options.ReadOptions.{ReadOptions};
 ghost use Rattle.lexspec.specs.Tests.{is_sound, sound_tree};
+ghost use Rattle.lexspec.specs.FaultExamples.{NoBarWaits};
 ghost use Rattle.lexspec.specs.RuleExamples.{ConditionLists, Actions, Sides};
 ghost use Rattle.lexspec.specs.SpecExamples.{WholeFile, WholeSkips, ShortFile, KeyFile, NoFiles, NoRules};
 ghost use Rattle.lex_semantics.specs.Limits.{max_conditions, max_rules};
@@ -57,7 +58,9 @@ pub fn examples_of_specs()
     ensures none { NoFiles }
 {}
 
-/// Worked examples of lines that are no rules, in files that so spell no specification.
+/// Worked examples of lines that are no rules, in files that so spell no specification, and of one for which no `|` is
+/// told.
 pub fn examples_of_refused_rules()
-    ensures { NoRules }
+    ensures rules { NoRules }
+    ensures bar { NoBarWaits }
 {}

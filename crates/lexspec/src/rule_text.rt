@@ -1,5 +1,5 @@
 //! The reader of a rule up to its action: conditions, trees and cut. (POSIX, lex, Rules in lex; flex, Patterns.)
-ghost use Rattle.std.specs.Prelude.{◌≡◌, ℕ, ◌≤◌, true, List, length, Option, Some, None};
+ghost use Rattle.std.specs.Prelude.{◌≡◌, ◌≢◌, ℕ, ◌≤◌, true, List, length, Option, Some, None};
 ghost use Rattle.std.specs.Prelude.{option_map, IfOk, IfErr, IfSome, OnErr, OnOk};
 ghost use Rattle.lex_semantics.specs.Tree.{Tree};
 ghost use Rattle.lex_semantics.specs.Shapes.{IsSoundTree};
@@ -16,7 +16,7 @@ ghost use Rattle.lexspec.specs.KeptNames.{AreKept};
 ghost use Rattle.lexspec.specs.SoundSides.{HasSoundFront};
 ghost use Rattle.lex_semantics.specs.Sound.{AreSoundSides};
 ghost use Rattle.lexspec_lines.specs.Outcome.{UnlessMemory};
-ghost use Rattle.lexre_bytes.specs.declared.refusals.SpecErrorKind.TheVariants.{Unclosed};
+ghost use Rattle.lexre_bytes.specs.declared.refusals.SpecErrorKind.TheVariants.{DanglingBar, Unclosed};
 ghost use Rattle.lex_semantics.specs.Limits.{max_conditions};
 
 use crate::action_text::split_action;
@@ -67,6 +67,7 @@ fn read_side(
     ensures known { OnOk result (AreKept declarations.now names.new) }
     ensures none { IfErr result (λ e. UnlessMemory e ((t : Tree)
         → Spells declarations.now.options declarations.now.definitions text.now t → ⊥)) }
+    ensures no_bar { IfErr result (λ e. e ≢ DanglingBar) }
 {
     let Declarations {
         options,
@@ -97,6 +98,7 @@ fn read_trail(
     ensures known { OnOk result (AreKept declarations.now names.new) }
     ensures none { IfErr result (λ e. UnlessMemory e ((t : Option Tree)
         → IsTrail declarations.now.options declarations.now.definitions (trailing_of trail.entry) t → ⊥)) }
+    ensures no_bar { IfErr result (λ e. e ≢ DanglingBar) }
 {
     match trail {
         Trailing::None => Ok(None),
@@ -127,6 +129,7 @@ fn read_sides(
     ensures sound { IfOk result (λ s. AreSoundSides (tree_of s.head) (option_map tree_of s.trail)) }
     ensures known { OnOk result (AreKept declarations.now names.new) }
     ensures none { IfErr result (λ e. UnlessMemory e (NoSides declarations.now head.now (trailing_of trail.entry))) }
+    ensures no_bar { IfErr result (λ e. e ≢ DanglingBar) }
 {
     let after = at.saturating_add(head.len()).saturating_add(1);
     let head = match read_side(alloc, declarations, names, head, at) {
@@ -160,6 +163,7 @@ pub(crate) fn read_rule_text<'a>(
     ensures sound { IfOk result (λ x. HasSoundFront x.front) }
     ensures known { OnOk result (AreKept declarations.now names.new) }
     ensures none { IfErr result (λ e. UnlessMemory e (NoRules declarations.now text.now)) }
+    ensures no_bar { IfErr result (λ e. e ≢ DanglingBar) }
 {
     let Some((asked, after_list)) = conditions_at(text) else {
         return Err(SpecErrorKind::UnknownCondition);

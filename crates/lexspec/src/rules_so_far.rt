@@ -1,9 +1,9 @@
 //! The rules that are read so far, and the same after one item more. (POSIX, lex, Actions in lex; flex, End-of-File.)
-ghost use Rattle.std.specs.Prelude.{◌≡◌, ◌+◌, ◌<◌, ◌≤◌, ◌^◌, [], false};
+ghost use Rattle.std.specs.Prelude.{◌≡◌, ◌≢◌, ◌+◌, ◌<◌, ◌≤◌, ◌^◌, [], false};
 ghost use Rattle.std.specs.Prelude.{length, codes, IfOk, IfErr, OnOk};
 ghost use Rattle.lex_semantics.specs.Reading.{begins};
 ghost use Rattle.lexspec.specs.ItemRuns.{code_of_item};
-ghost use Rattle.lexspec.specs.ItemReads.{NoneLeft, NoRulesAfter};
+ghost use Rattle.lexspec.specs.ItemReads.{NoRulesAfter, RefusesItem, SomeWait};
 ghost use Rattle.lexspec.specs.Agreeing.{GoesOn, IsTaken};
 ghost use Rattle.lexspec.specs.Keeping.{HasRoom, Keeps};
 ghost use Rattle.lexspec.specs.KeptNames.{AreKept};
@@ -11,6 +11,7 @@ ghost use Rattle.lexspec.specs.SkipViews.{item_of};
 ghost use Rattle.lexspec.specs.EndOpenings.{begins_end};
 ghost use Rattle.lexspec.specs.SectionReads.{line_of_last};
 ghost use Rattle.lexspec_lines.specs.Outcome.{UnlessMemory};
+ghost use Rattle.lexre_bytes.specs.declared.refusals.SpecErrorKind.TheVariants.{DanglingBar};
 ghost use Rattle.lexspec_lines.specs.Skips.{AddsCode};
 ghost use Rattle.lexspec.specs.SoundSides.{HasSoundFront};
 ghost use Rattle.lexspec.specs.declared.rule_text.Front.TheVariants.{Matching, AtEnd};
@@ -88,6 +89,7 @@ impl RulesSoFar {
             → Keeps declarations.now self → Keeps declarations.now s) }
         ensures none { IfErr result (λ e. UnlessMemory e
             (NoRulesAfter declarations.now self (Matching rule) action.now)) }
+        ensures no_bar { IfErr result (λ e. e ≢ DanglingBar) }
     {
         let RulesSoFar {
             rules,
@@ -130,6 +132,7 @@ impl RulesSoFar {
         ensures keeps { IfOk result (λ s. Keeps declarations.now self → Keeps declarations.now s) }
         ensures none { IfErr result (λ e. UnlessMemory e
             (NoRulesAfter declarations.now self (AtEnd conditions) action.now)) }
+        ensures bar { IfErr result (λ e. e ≡ DanglingBar → SomeWait self) }
     {
         if !self.waiting.is_empty() {
             return Err(SpecErrorKind::DanglingBar);
@@ -164,6 +167,7 @@ impl RulesSoFar {
             → Keeps declarations.now self → Keeps declarations.now s) }
         ensures none { IfErr result (λ e. UnlessMemory e
             (NoRulesAfter declarations.now self text.entry.front text.entry.action.now)) }
+        ensures bar { IfErr result (λ e. e ≡ DanglingBar → SomeWait self) }
     {
         let RuleText {
             front,
@@ -195,7 +199,7 @@ impl RulesSoFar {
         requires room { length self.rules.items + length self.waiting.items ≤ max_rules }
         ensures taken { IfOk result (λ x. IsTaken declarations.now line text.now x.1.now self x.0 skipped.old skipped.new) }
         ensures known { OnOk result (AreKept declarations.now names.new) }
-        ensures none { IfErr result (λ e. UnlessMemory e (NoneLeft declarations.now self line text.now)) }
+        ensures refused { IfErr result (RefusesItem declarations.now self line text.now) }
     {
         let plain = match skip_at(text) {
             Ok(found) => found,

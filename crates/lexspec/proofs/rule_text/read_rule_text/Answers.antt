@@ -1,5 +1,6 @@
 use Rattle.std.proofs.Common.{ap, refl}
 use Rattle.lexspec.specs.SubjectViews.{conditions_of, subject_of, trailing_of}
+use Rattle.lexspec.proofs.BarLaws.{open_no_bar, subject_no_bar}
 use Rattle.lexspec.proofs.ItemLaws.{refused_list, refused_numbers, refused_subject, refused_sides, refused_left_open, reads_end, reads_rule}
 use Rattle.lexspec.proofs.rule_text.read_rule_text.Goals as goal
 
@@ -42,3 +43,12 @@ pub returns-in-Err-read_sides-clause-none : goal.returns-in-Err-read_sides-claus
 returns-in-Err-read_sides-clause-none c =
     refused_sides c.args.declarations.now c.args.text.now c.requires.starts c.in-Err-read_sides.kind c.in-Some.after_list.now _ (conditions_of c.in-Some.asked) _
     c.in-Matching.anchored c.in-Matching.head.now (trailing_of c.in-Matching.trail) c.in-Some.ensures c.in-Ok-subject_at.ensures.found (ap subject_of c.in-Matching.is) c.in-Err-read_sides.ensures.none
+
+pub returns-in-Err-subject_at-clause-no_bar : goal.returns-in-Err-subject_at-clause-no_bar
+returns-in-Err-subject_at-clause-no_bar c = subject_no_bar c.in-Err-subject_at.kind c.in-Err-subject_at.ensures.fault
+
+pub returns-in-AtEnd-clause-no_bar : goal.returns-in-AtEnd-clause-no_bar
+returns-in-AtEnd-clause-no_bar c = open_no_bar c.with_action.result c.with_action.ensures.fault
+
+pub returns-in-Ok-read_sides-clause-no_bar : goal.returns-in-Ok-read_sides-clause-no_bar
+returns-in-Ok-read_sides-clause-no_bar c = open_no_bar c.with_action-in-Ok-read_sides.result c.with_action-in-Ok-read_sides.ensures.fault

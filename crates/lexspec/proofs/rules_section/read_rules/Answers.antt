@@ -29,7 +29,7 @@ with_item-requires-clause-room c = c.items.invariant.keeps.few
 pub returns-in-Err-clause-refused : goal.returns-in-Err-clause-refused
 returns-in-Err-clause-refused c =
     item_refused c.args.declarations.now c.args.first c.items.line c.args.text.now c.items.rest.now c.items.progress _ c.items.invariant.read c.items.invariant.keeps
-    (goes_on c.items.rest.now (search rules) (search rules)) c.in-Err.ensures.none
+    (goes_on c.items.rest.now (search rules) (search rules)) c.in-Err.ensures.refused.0 c.in-Err.ensures.refused.1
     (elim c.match-kind.branch [
       | in-DanglingBar w ↦ λ other. absurd (other w.in-DanglingBar.is)
       | in_default w ↦ λ other. w.line-is

@@ -59,3 +59,6 @@ invariant_of-self-in-Some-walk_on-clause-asking_more g c =
     let s = c.args.self.now in
     let now = c.in-Some-walk_on.ensures in
     Push.asking_on (g.M.Machine.machine s.machine) (g.M.Machine.states s.machine) s.scan.state s.waiting.items c.args.piece.now c.extend_from_slice.new.self.items s.asking c.in-Some-walk_on.last s.inside c.in-Ok.ensures.items s.asking_more now.known now.walked
+
+pub returns-clause-failed : goal.returns-clause-failed
+returns-clause-failed g c = Push.failed_by_piece c.scan_waiting.result _ c.scan_waiting.ensures.left.next.failed c.scan_waiting.ensures.sink.too_many

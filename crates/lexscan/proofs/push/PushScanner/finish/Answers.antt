@@ -29,3 +29,6 @@ returns-clause-finished g c =
     let s = c.args.self.now in
     let M = g.M.Machine.machine s.machine in
     let k = c.scan_to_end.ensures.finished in (k.0, k.1, λ fed out h. k.2 fed out (subst (Fed M fed out _) (sym c.deref.ensures.value) (Push.fed_limit M fed out s.scan.state s.waiting.items _ _ h)))
+
+pub returns-clause-failed : goal.returns-clause-failed
+returns-clause-failed g c = Push.failed_by c.scan_to_end.result _ c.scan_to_end.ensures.left.failed c.scan_to_end.ensures.sink.too_many

@@ -16,6 +16,7 @@ returns-then-self g c = record {
   );
   counts = grind (arith, common_steps);
   handed_on = grind (arith, common_steps);
+  failed = grind (arith, common_steps);
   after_refusal = grind (arith, common_steps);
   refused = grind (arith, common_steps);
   after_end = grind (arith, common_steps);
@@ -43,6 +44,7 @@ returns-in-Some g c = record {
   );
   counts = grind (arith, common_steps);
   handed_on = grind (arith, common_steps);
+  failed = grind (arith, common_steps);
   after_refusal = grind (arith, common_steps);
   refused = grind (arith, common_steps);
   after_end = grind (arith, common_steps);

@@ -10,6 +10,7 @@ returns-then-rejects g c =
       handed_on = h.handed_on;
       goes_on = h.goes_on;
       counts = h.counts;
+      failed = h.failed;
       refused = h.refused;
       too_many = h.too_many;
       limit = known_keeper (g.M.Machine.machine c.args.machine.now) _ _ _ _ _ _ (λ _. c.rejects.ensures.yes c.if-rejects.true) h.limit;

@@ -1,4 +1,5 @@
 use Rattle.std.proofs.Common.{rules, refl, ◌≡◌, length}
+use Rattle.lexspec.proofs.BarLaws.{action_no_bar, end_action_no_bar, second_end_no_bar}
 use Rattle.lexspec.proofs.KeepLaws.{keeps_end}
 use Rattle.lexspec.proofs.SoFarLaws.{action_bar, action_spelled, end_taken, end_refused, end_bar_refused, end_awaited, end_twice}
 use Rattle.lexspec.proofs.rules_so_far.RulesSoFar.with_end.Goals as goal
@@ -33,3 +34,17 @@ pub returns-in-Err-clause-none : goal.returns-in-Err-clause-none
 returns-in-Err-clause-none c =
     end_refused c.args.declarations.now c.args.conditions c.args.action.now c.in-Err.kind c.deref.result.now c.args.self
     (action_spelled c.args.action.now _ c.is_bar.ensures c.if-is_bar.false) c.deref.ensures.value c.in-Err.ensures.none
+
+pub returns-then-not-is_empty-clause-bar : goal.returns-then-not-is_empty-clause-bar
+returns-then-not-is_empty-clause-bar c =
+    let some : length c.args.self.waiting.items ≡ 0 → ⊥ = search rules in
+    λ is. some
+
+pub returns-then-is_bar-clause-bar : goal.returns-then-is_bar-clause-bar
+returns-then-is_bar-clause-bar c = λ is. absurd (end_action_no_bar is)
+
+pub returns-then-not-may_join-clause-bar : goal.returns-then-not-may_join-clause-bar
+returns-then-not-may_join-clause-bar c = λ is. absurd (second_end_no_bar is)
+
+pub returns-in-Err-clause-bar : goal.returns-in-Err-clause-bar
+returns-in-Err-clause-bar c = λ is. absurd (action_no_bar c.in-Err.kind c.in-Err.ensures.fault is)

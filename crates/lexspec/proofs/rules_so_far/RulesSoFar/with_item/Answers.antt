@@ -1,8 +1,10 @@
 use Rattle.std.proofs.Common.{rules, sym, ◌∙◌, ◌≡◌, ◌+◌, ◌<◌, false, length}
+use Rattle.std.proofs.lemmas.Result.{err_from_is_err_and}
 use Rattle.lexspec.specs.EndOpenings.{begins_end}
 use Rattle.lexspec_lines.proofs.OneSection.{no_true}
 use Rattle.lexspec.specs.SkipViews.{item_of}
 use Rattle.lexspec_lines.proofs.SectionLaws.{newlines_front}
+use Rattle.lexspec.proofs.BarLaws.{many_rules_no_bar, memory_no_bar, unclosed_no_bar}
 use Rattle.lexspec.proofs.EndLaws.{item_ends}
 use Rattle.lexspec.proofs.AwaitingLaws.{end_refused, full_refused, has_room}
 use Rattle.lexspec.proofs.StepLaws.{reads_shorter, reads_counts, reads_code, plain_agrees, plain_refused, text_refused, rule_refused}
@@ -10,26 +12,42 @@ use Rattle.lexspec.proofs.rules_so_far.RulesSoFar.with_item.Goals.{then-begins_e
 use Rattle.lexspec.proofs.rules_so_far.RulesSoFar.with_item.Goals as goal
 use Rattle.lex_semantics.specs.Limits.{max_rules}
 
-pub returns-in-Err-clause-none : goal.returns-in-Err-clause-none
-returns-in-Err-clause-none c = plain_refused c.args.declarations.now c.args.self c.args.line c.args.text.now c.in-Err.kind c.in-Err.ensures.none
+pub returns-in-Err-clause-refused : goal.returns-in-Err-clause-refused
+returns-in-Err-clause-refused c = (
+  plain_refused c.args.declarations.now c.args.self c.args.line c.args.text.now c.in-Err.kind c.in-Err.ensures.none,
+  λ is. absurd (unclosed_no_bar c.in-Err.kind c.in-Err.ensures.fault is),
+)
 
-pub returns-in-Err-read_rule_text-clause-none : goal.returns-in-Err-read_rule_text-clause-none
-returns-in-Err-read_rule_text-clause-none c =
-    text_refused c.args.declarations.now c.args.self c.args.line c.args.text.now c.in-Err-read_rule_text.kind c.in-Err-read_rule_text.ensures.none
+pub returns-in-Err-read_rule_text-clause-refused : goal.returns-in-Err-read_rule_text-clause-refused
+returns-in-Err-read_rule_text-clause-refused c = (
+  text_refused c.args.declarations.now c.args.self c.args.line c.args.text.now c.in-Err-read_rule_text.kind c.in-Err-read_rule_text.ensures.none,
+  λ is. absurd (c.in-Err-read_rule_text.ensures.no_bar is),
+)
 
-pub returns-in-Err-with_rule-clause-none : goal.returns-in-Err-with_rule-clause-none
-returns-in-Err-with_rule-clause-none c =
-    rule_refused c.args.declarations.now c.args.self c.args.line c.args.text.now c.in-Ok-read_rule_text.found c.in-Err-with_rule.kind c.in-Ok-read_rule_text.ensures.found c.in-Err-with_rule.ensures.none
+pub returns-in-Err-with_rule-clause-refused : goal.returns-in-Err-with_rule-clause-refused
+returns-in-Err-with_rule-clause-refused c = (
+  rule_refused c.args.declarations.now c.args.self c.args.line c.args.text.now c.in-Ok-read_rule_text.found c.in-Err-with_rule.kind c.in-Ok-read_rule_text.ensures.found c.in-Err-with_rule.ensures.none,
+  c.in-Err-with_rule.ensures.bar,
+)
 
-pub returns-then-not-is_empty-clause-none : goal.returns-then-not-is_empty-clause-none
-returns-then-not-is_empty-clause-none c =
-    let some : length c.args.self.waiting.items ≡ 0 → ⊥ = search rules in
-    end_refused c.args.declarations.now c.args.self c.args.line c.args.text.now (rw c.in_default.is at c.in-Ok.ensures.rule) (sym c.begins_end.ensures ∙ c.if-begins_end.true) some
+pub returns-then-not-is_empty-clause-refused : goal.returns-then-not-is_empty-clause-refused
+returns-then-not-is_empty-clause-refused c =
+    let some : length c.args.self.waiting.items ≡ 0 → ⊥ = search rules in (
+      end_refused c.args.declarations.now c.args.self c.args.line c.args.text.now (rw c.in_default.is at c.in-Ok.ensures.rule) (sym c.begins_end.ensures ∙ c.if-begins_end.true) some,
+      λ is. some,
+    )
 
-pub returns-then-len-ge-MAX_RULES-clause-none : goal.returns-then-len-ge-MAX_RULES-clause-none
-returns-then-len-ge-MAX_RULES-clause-none c =
-    full_refused c.args.declarations.now c.args.self c.args.line c.args.text.now (rw c.in_default.is at c.in-Ok.ensures.rule) (sym c.begins_end.ensures ∙ c.if-begins_end.false)
-    (search rules)
+pub returns-then-len-ge-MAX_RULES-clause-refused : goal.returns-then-len-ge-MAX_RULES-clause-refused
+returns-then-len-ge-MAX_RULES-clause-refused c = (
+  full_refused c.args.declarations.now c.args.self c.args.line c.args.text.now (rw c.in_default.is at c.in-Ok.ensures.rule) (sym c.begins_end.ensures ∙ c.if-begins_end.false)
+      (search rules),
+  λ is. absurd (many_rules_no_bar is),
+)
+
+pub returns-in_err-add_skip-clause-refused : goal.returns-in_err-add_skip-clause-refused
+returns-in_err-add_skip-clause-refused c =
+    let p = err_from_is_err_and c.from_residual.result c.from_residual.ensures.1 in
+    rw (p.1, p.2) (tt, λ is. absurd (memory_no_bar is))
 
 has_place : (c : goal.In-Ok-with_rule) → begins_end c.args.text.now ≡ false → length c.args.self.rules.items + length c.args.self.waiting.items < max_rules
 has_place c = elim c.if-begins_end.branch [

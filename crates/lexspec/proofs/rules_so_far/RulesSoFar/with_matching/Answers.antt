@@ -1,6 +1,7 @@
 use Rattle.std.proofs.Common.{refl}
 use Rattle.std.specs.Prelude.{map}
 use Rattle.lexspec_actions.specs.Views.{statement_of}
+use Rattle.lexspec.proofs.BarLaws.{action_no_bar}
 use Rattle.lexspec.proofs.KeepLaws.{keeps_bar, keeps_rule}
 use Rattle.lexspec.proofs.SoFarLaws.{action_bar, action_spelled, bar_taken, rule_taken, rule_refused}
 use Rattle.lexspec.proofs.rules_so_far.RulesSoFar.with_matching.Goals as goal
@@ -25,3 +26,6 @@ pub returns-in-Err-clause-none : goal.returns-in-Err-clause-none
 returns-in-Err-clause-none c =
     rule_refused c.args.declarations.now c.args.rule c.args.action.now c.in-Err.kind c.deref.result.now c.args.self
     (action_spelled c.args.action.now _ c.is_bar.ensures c.if-is_bar.false) c.deref.ensures.value c.in-Err.ensures.none
+
+pub returns-in-Err-clause-no_bar : goal.returns-in-Err-clause-no_bar
+returns-in-Err-clause-no_bar c = action_no_bar c.in-Err.kind c.in-Err.ensures.fault
