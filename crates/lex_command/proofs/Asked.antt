@@ -47,10 +47,10 @@ asked_by words a m (Letters sets) is plain matches fault h = (
   ap (λ (b : App). fault_of b words) (sym is) ∙ fault,
   subst (λ (r : Option (Text × List Row)). IsLookOf r (Letters sets)) (rows_are words a m is matches) h,
 )
-asked_by words a m (Check files json patterns) is plain matches fault h = (
+asked_by words a m (Check files strict json patterns) is plain matches fault h = (
   plain,
   ap (λ (b : App). fault_of b words) (sym is) ∙ fault,
-  subst (λ (r : Option (Text × List Row)). IsLookOf r (Check files json patterns)) (rows_are words a m is matches) h,
+  subst (λ (r : Option (Text × List Row)). IsLookOf r (Check files strict json patterns)) (rows_are words a m is matches) h,
 )
 asked_by words a m (Header file rust patterns) is plain matches fault h = (
   plain,
@@ -68,8 +68,8 @@ asks_by words a m (Same left right patterns) is plain matches h =
     subst (λ (r : Option (Text × List Row)). IsLookOf r (Same left right patterns)) (sym (rows_are words a m is matches)) h.2
 asks_by words a m (Letters sets) is plain matches h =
     subst (λ (r : Option (Text × List Row)). IsLookOf r (Letters sets)) (sym (rows_are words a m is matches)) h.2
-asks_by words a m (Check files json patterns) is plain matches h =
-    subst (λ (r : Option (Text × List Row)). IsLookOf r (Check files json patterns)) (sym (rows_are words a m is matches)) h.2
+asks_by words a m (Check files strict json patterns) is plain matches h =
+    subst (λ (r : Option (Text × List Row)). IsLookOf r (Check files strict json patterns)) (sym (rows_are words a m is matches)) h.2
 asks_by words a m (Header file rust patterns) is plain matches h =
     subst (λ (r : Option (Text × List Row)). IsLookOf r (Header file rust patterns)) (sym (rows_are words a m is matches)) h.2
 
@@ -78,7 +78,7 @@ none_fault words a (OfItself what) is plain h = absurd (clash (about_of words) w
 none_fault words a (One what file patterns) is plain h = ap (λ (b : App). fault_of b words) is ∙ h.1
 none_fault words a (Same left right patterns) is plain h = ap (λ (b : App). fault_of b words) is ∙ h.1
 none_fault words a (Letters sets) is plain h = ap (λ (b : App). fault_of b words) is ∙ h.1
-none_fault words a (Check files json patterns) is plain h = ap (λ (b : App). fault_of b words) is ∙ h.1
+none_fault words a (Check files strict json patterns) is plain h = ap (λ (b : App). fault_of b words) is ∙ h.1
 none_fault words a (Header file rust patterns) is plain h = ap (λ (b : App). fault_of b words) is ∙ h.1
 
 -- words that are refused as no line of the program's ask for nothing

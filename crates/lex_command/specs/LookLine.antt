@@ -5,7 +5,7 @@ use Rattle.clap.specs.Words.{App, Row, Rule, Text, all_of, fault_of, first_of, n
 use Rattle.clap.specs.Simple.{on_top}
 use Rattle.clap.specs.declared.builder.action.ArgAction.TheVariants.{Count, Set}
 use Rattle.lex_command.specs.CommandLine.{files_of, words_rule}
-use Rattle.lex_command.specs.Flags.{has_flag, is_separator, pattern_rules, patterns_of}
+use Rattle.lex_command.specs.Flags.{flag_rule, has_flag, is_separator, pattern_rules, patterns_of}
 use Rattle.lex_command.specs.declared.look.args.About.{About}
 use Rattle.lex_command.specs.declared.look.args.About.TheVariants.{Help, UnicodeVersion, Version}
 use Rattle.lex_command.specs.declared.look.args.Look.{Look}
@@ -45,9 +45,9 @@ needed_words_rule name = record (words_rule name) { required = true }
 abbrev pub long_rule : Text → Rule
 long_rule word = record (new_rule word) { long = Some word; action = Some Count }
 
--- how the faults are told, and the files of `check`
+-- `-s` (115), how the faults are told, and the files of `check`
 abbrev pub check_words : List Rule
-check_words = long_rule (codes "json") ∷ needed_words_rule (codes "file") ∷ []
+check_words = flag_rule (codes "strict") 115 ∷ long_rule (codes "json") ∷ needed_words_rule (codes "file") ∷ []
 
 -- for which language the constants are, and the file of `header`
 abbrev pub header_words : List Rule
@@ -111,8 +111,9 @@ IsLookOf (Some p) (Same left right patterns) = (p.0 ≡ codes "same")
     × (patterns ≡ patterns_of p.1)
 IsLookOf (Some p) (Letters sets) =
     (p.0 ≡ codes "utf8") × (Some (map string_bytes sets.items) ≡ all_of (codes "set") p.1)
-IsLookOf (Some p) (Check files json patterns) = (p.0 ≡ codes "check")
+IsLookOf (Some p) (Check files strict json patterns) = (p.0 ≡ codes "check")
     × (map string_bytes files.items ≡ files_of p.1)
+    × (strict ≡ has_flag (codes "strict") p.1)
     × (json ≡ has_flag (codes "json") p.1)
     × (patterns ≡ patterns_of p.1)
 IsLookOf (Some p) (Header file rust patterns) = (p.0 ≡ codes "header")

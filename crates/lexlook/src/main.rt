@@ -77,7 +77,7 @@ enum Told<'a> {
     Words(&'a [u8]),
     Lines(&'a [u8]),
     Same(Given<'a>, Given<'a>),
-    Check(&'a [SourceFile<'a>], Form),
+    Check(&'a [SourceFile<'a>], Form, bool),
     Header(&'a [u8], Language),
 }
 
@@ -99,7 +99,9 @@ fn tell<K: Sink>(
         Told::Header(text, language) => tell_header(alloc, text, options, language, sink)?,
         Told::Lines(bytes) => return Ok(tell_lines(alloc, bytes, options, sink)?),
         Told::Same(left, right) => return Ok(tell_same(alloc, left, right, options, sink)?),
-        Told::Check(files, form) => return Ok(tell_check(alloc, files, options, form, sink)?),
+        Told::Check(files, form, strict) => {
+            return Ok(tell_check(alloc, files, options, form, strict, sink)?);
+        }
     }
     Ok(true)
 }
@@ -187,6 +189,7 @@ fn show_letters(rt: &HostRuntime, sets: &[String]) -> Result<ExitCode, Failure> 
 fn show_check(
     rt: &HostRuntime,
     files: &[ReadFile],
+    strict: bool,
     json: bool,
     options: Options,
 ) -> Result<ExitCode, Failure>
@@ -195,7 +198,7 @@ fn show_check(
 {
     let files = source_files(rt.alloc(), files)?;
     let form = if json { Form::Json } else { Form::Lines };
-    show(rt, Told::Check(files.as_slice(), form), options)
+    show(rt, Told::Check(files.as_slice(), form, strict), options)
 }
 
 /// The bytes that are read of a file at most: one more than it may have.
@@ -257,11 +260,13 @@ fn run(rt: &HostRuntime) -> Result<ExitCode, LookFailure> {
         Look::Letters { sets } => Ok(show_letters(rt, sets.as_slice())?),
         Look::Check {
             files,
+            strict,
             json,
             patterns,
         } => {
             let read = read_files(rt, files)?;
-            Ok(show_check(rt, read.as_slice(), json, options_of(patterns))?)
+            let files = read.as_slice();
+            Ok(show_check(rt, files, strict, json, options_of(patterns))?)
         }
         Look::Header {
             file,

@@ -4,4 +4,5 @@ pub mod Reading
 pub mod Parts
 pub mod OrderLaws
 pub mod ConditionLaws
+pub mod CopyLaws
 pub mod TakingLaws

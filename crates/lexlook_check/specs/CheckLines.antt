@@ -16,9 +16,9 @@ use Rattle.lexlook_check.specs.Weights.{limit_told}
 use Rattle.lexlook_check.specs.Words.{front_words}
 use Rattle.lexlook_check.specs.declared.findings.Finding.{Finding}
 use Rattle.lexlook_check.specs.declared.findings.What.{What}
-use Rattle.lexlook_check.specs.declared.findings.What.TheVariants.{Fault, Limit, Noticed, Warned}
+use Rattle.lexlook_check.specs.declared.findings.What.TheVariants.{Copied, Fault, Limit, Noticed, Warned}
 use Rattle.lexlook_check.specs.declared.notices.NoticeKind.{NoticeKind}
-use Rattle.lexlook_check.specs.declared.notices.NoticeKind.TheVariants.{LettersAsBytes, LetterAlone, Backspace, LineWalk, FlexTrail, UnusedDefinition, NeverEntered, NeverLeft, DefaultRule}
+use Rattle.lexlook_check.specs.declared.notices.NoticeKind.TheVariants.{LettersAsBytes, LetterAlone, Backspace, CaseRange, LineWalk, FlexTrail, BarTrail, EndAgain, UnusedDefinition, NeverEntered, NeverLeft, DefaultRule}
 use Rattle.lexlook_check.specs.declared.places.SourceFile.{SourceFile}
 
 -- the column of a place, from 1, where one is told
@@ -26,10 +26,11 @@ abbrev pub column_words : Option ℕ → List ℕ
 column_words None = []
 column_words (Some at) = codes ":" ++ decimal (at + 1)
 
--- a fault or a limit is an error
+-- a fault or a limit is an error, and so is a byte that is copied where none is to be
 abbrev pub severity_words : What → List ℕ
 severity_words (Fault kind) = codes "error"
 severity_words (Limit e weights) = codes "error"
+severity_words (Copied byte) = codes "error"
 severity_words (Warned code) = codes "warning"
 severity_words (Noticed kind) = codes "warning"
 
@@ -38,17 +39,21 @@ abbrev pub notice_words : NoticeKind → List ℕ
 notice_words LettersAsBytes = codes "letters of a class as bytes"
 notice_words LetterAlone = codes "letter behind a backslash"
 notice_words Backspace = codes "backspace by its escape"
+notice_words CaseRange = codes "range from an upper to a lower case letter"
 notice_words LineWalk = codes "line walked at each byte"
 notice_words FlexTrail = codes "trailing context that flex takes otherwise"
+notice_words BarTrail = codes "trailing context behind a rule with a bar"
+notice_words EndAgain = codes "end rule that does not end the scan"
 notice_words UnusedDefinition = codes "definition that no pattern uses"
 notice_words NeverEntered = codes "condition that no action enters"
 notice_words NeverLeft = codes "condition that no action leaves"
 notice_words (DefaultRule byte) = codes "default rule in an exclusive condition"
 
--- what it is called: a fault as by lex, without its place
+-- what it is called: a fault as by lex, without its place (that the default rule can be matched flex says with -s)
 abbrev pub what_words : What → List ℕ
 what_words (Fault kind) = kind_name kind
 what_words (Limit e weights) = build_words e
+what_words (Copied byte) = codes "default rule can be matched"
 what_words (Warned code) = warning_words code
 what_words (Noticed kind) = notice_words kind
 
@@ -56,6 +61,7 @@ what_words (Noticed kind) = notice_words kind
 abbrev pub hint_of : What → Option (List ℕ)
 hint_of (Fault kind) = Some (definition_hint kind)
 hint_of (Limit e weights) = Some (limit_hint e)
+hint_of (Copied byte) = Some (notice_hint (DefaultRule byte))
 hint_of (Warned code) = None
 hint_of (Noticed kind) = Some (notice_hint kind)
 

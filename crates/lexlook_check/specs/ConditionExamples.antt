@@ -1,8 +1,9 @@
 -- Conditions that no action enters, or leaves, worked by hand.
-use Rattle.std.specs.Prelude.{◌≡◌, ℕ, Bool, true, false, List, [], ◌∷◌, Option, Some, None, codes}
+use Rattle.std.specs.Prelude.{◌≡◌, ℕ, Bool, true, false, List, [], ◌∷◌, Option, Some, None, codes, map}
 use Rattle.lex_semantics.specs.Spec.{Spec, Rule, Condition, Statement, Begin, Push, Pop, End, Whole}
 use Rattle.lex_semantics.specs.Tree.{Empty}
 use Rattle.lexlook_check.specs.Conditions.{condition_notice, condition_notices, copied_notice}
+use Rattle.lexlook_check.specs.Copies.{copies_in}
 use Rattle.lexlook_check.specs.declared.notices.NoticeKind.{NoticeKind}
 use Rattle.lexlook_check.specs.declared.notices.NoticeKind.TheVariants.{DefaultRule, NeverEntered, NeverLeft}
 
@@ -39,6 +40,11 @@ Warns rules of_s of_x =
 abbrev pub IsWarnedFor : List Rule → ℕ → Option NoticeKind → Type 0
 IsWarnedFor rules n kind = copied_notice (spec_with rules) (None ∷ Some 1 ∷ Some 7 ∷ []) n ≡ kind
 
+-- the lines and places at which is told that bytes are copied, where each of the three copies this first
+abbrev pub CopiesAt : List (Option ℕ) → List Rule → List (ℕ × Option ℕ) → Type 0
+CopiesAt copied rules found =
+    map (λ f. (f.line, f.at)) (copies_in (spec_with rules) copied (codes "%x X\n%s  S\n%%\n")) ≡ found
+
 pub record ConditionExamples : Type 0 where
   -- no action enters them
   pub none : Warns [] (Some NeverEntered) (Some NeverEntered)
@@ -62,3 +68,8 @@ pub record ConditionExamples : Type 0 where
   pub exclusive : IsWarnedFor (rule_with None (Begin 2 ∷ Begin 1 ∷ []) ∷ []) 2 (Some (DefaultRule 7))
   pub inclusive : IsWarnedFor (rule_with None (Begin 2 ∷ Begin 1 ∷ []) ∷ []) 1 None
   pub outside : IsWarnedFor [] 2 None
+  -- by -s of INITIAL too, and of those that some action enters; not of those that keep all
+  pub each : CopiesAt (Some 1 ∷ Some 2 ∷ Some 3 ∷ []) (rule_with None (Begin 2 ∷ Begin 1 ∷ []) ∷ [])
+      ((0, None) ∷ (2, Some 4) ∷ (1, Some 3) ∷ [])
+  pub initial : CopiesAt (Some 1 ∷ Some 2 ∷ Some 3 ∷ []) [] ((0, None) ∷ [])
+  pub kept : CopiesAt (None ∷ Some 2 ∷ None ∷ []) (rule_with None (Begin 2 ∷ Begin 1 ∷ []) ∷ []) ((2, Some 4) ∷ [])

@@ -69,8 +69,8 @@ notice_finding n = record { line = n.line; at = Some n.at; size = n.size; what =
 -- all that was found of a text with these lines, as it was found
 abbrev pub findings_of : List (ℕ × List ℕ) → Checked → List Finding
 findings_of lines c =
-    map (fault_finding lines) c.faults.items ++ limit_findings c.limit c.weights ++ map warning_finding c.warnings.items
-    ++ map notice_finding c.notices.items
+    map (fault_finding lines) c.faults.items ++ limit_findings c.limit c.weights ++ c.copies.items
+    ++ map warning_finding c.warnings.items ++ map notice_finding c.notices.items
 
 -- it has an earlier line, or the same and no later place; where no place is told it is the first of the line
 abbrev pub IsNotBehind : Finding → Finding → Type 0

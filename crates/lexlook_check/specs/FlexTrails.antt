@@ -8,6 +8,7 @@ use Rattle.lex_semantics.specs.Reading.{starts_name}
 use Rattle.lexlook_text.specs.Pieces.{pieces_from}
 use Rattle.lexlook_check.specs.LineWalks.{behind_list}
 use Rattle.lexlook_check.specs.declared.notices.Notice.{Notice}
+use Rattle.lexlook_check.specs.declared.notices.NoticeKind.{NoticeKind}
 use Rattle.lexlook_check.specs.declared.notices.NoticeKind.TheVariants.{FlexTrail}
 
 -- a piece by which flex takes the length to vary: a sign, or an interval, which a `{` (123) opens if no name follows it
@@ -29,13 +30,13 @@ slash_varies varies [] = None
 slash_varies varies (p ∷ ps) =
     if same_bytes p.1 (codes "/") then slash_if varies ps p.0 else slash_varies (varies || varies_piece p.1) ps
 
--- the slash of the rule that begins a line at this place
-abbrev pub slash_notices : ℕ → Option ℕ → List Notice
-slash_notices line None = []
-slash_notices line (Some at) = record { line = line; at = at; size = 1; kind = FlexTrail } ∷ []
+-- the sign of a line at this place, if there is one, for which this is warned of
+abbrev pub sign_notices : ℕ → NoticeKind → Option ℕ → List Notice
+sign_notices line kind None = []
+sign_notices line kind (Some at) = record { line = line; at = at; size = 1; kind = kind } ∷ []
 
 -- the slash of the rule that begins a line, where flex takes both of its sides to vary
 abbrev pub trail_notices : ℕ × List ℕ → List Notice
 trail_notices l =
     let text = behind_list l.1 in
-    slash_notices l.0 (slash_varies false (pieces_from (length l.1 - length text) 0 text))
+    sign_notices l.0 FlexTrail (slash_varies false (pieces_from (length l.1 - length text) 0 text))

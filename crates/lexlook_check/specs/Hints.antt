@@ -9,7 +9,7 @@ use Rattle.lexauto.specs.declared.error.BuildError.{BuildError}
 use Rattle.lexauto.specs.declared.error.BuildError.TheVariants as builds
 use Rattle.lexlook_check.specs.SourceLines.{under}
 use Rattle.lexlook_check.specs.declared.notices.NoticeKind.{NoticeKind}
-use Rattle.lexlook_check.specs.declared.notices.NoticeKind.TheVariants.{LettersAsBytes, LetterAlone, Backspace, LineWalk, FlexTrail, UnusedDefinition, NeverEntered, NeverLeft, DefaultRule}
+use Rattle.lexlook_check.specs.declared.notices.NoticeKind.TheVariants.{LettersAsBytes, LetterAlone, Backspace, CaseRange, LineWalk, FlexTrail, BarTrail, EndAgain, UnusedDefinition, NeverEntered, NeverLeft}
 
 -- of a pattern
 abbrev pub pattern_hint : PatternErrorKind → List ℕ
@@ -85,6 +85,19 @@ limit_hint builds.TooManyStates =
     "there is a state for each set of positions that some input may have read last, so what a counted repetition has to remember may double with each count"
 limit_hint builds.OutOfMemory = codes "memory ran out"
 
+-- of what is warned of outside of patterns
+abbrev pub outside_hint : NoticeKind → List ℕ
+outside_hint EndAgain =
+    codes
+    "the end of the input ends the scan, whatever the action; in flex an action without yyterminate and exit meets the end again, for ever"
+outside_hint UnusedDefinition =
+    codes "a definition stands for its pattern where its name is in braces, as `{DIGIT}`"
+outside_hint NeverEntered = codes "no BEGIN and no yy_push_state of a rule names it, so no match is made in it"
+outside_hint NeverLeft =
+    codes
+    "no rule that is active in it has BEGIN or yy_push_state of another, yy_pop_state, exit or yyterminate, so it lasts to the end of the input"
+outside_hint other = codes "a last rule `.|\\n` of it takes each byte that the others leave"
+
 -- of what is warned of
 abbrev pub notice_hint : NoticeKind → List ℕ
 notice_hint LettersAsBytes =
@@ -93,19 +106,18 @@ notice_hint LetterAlone =
     codes "`\\d`, `\\s` and `\\w` are the letters themselves, and so are `\\D`, `\\S` and `\\W`: [0-9], [ \\t\\n] and [A-Za-z0-9_] are classes"
 notice_hint Backspace =
     codes "`\\b` is a backspace, the byte 8: no sign stands for the end of a word, and the longest text is taken anyway"
+notice_hint CaseRange =
+    codes "such a range has the bytes between `Z` and `a` too, and with -i flex adds no other case to it: write `[A-Za-z]`"
 notice_hint LineWalk =
     codes
     "where it does not match it is walked to the end of the line, and again from the next byte, so a line of 1000 bytes may take some 500000 steps: with `^` it is walked once"
 notice_hint FlexTrail =
     codes
     "one side has texts of one length, and so many bytes are left or taken; flex takes a side with `*`, `+`, `?`, `|` or an interval to vary, and may take more of what follows"
-notice_hint UnusedDefinition =
-    codes "a definition stands for its pattern where its name is in braces, as `{DIGIT}`"
-notice_hint NeverEntered = codes "no BEGIN and no yy_push_state of a rule names it, so no match is made in it"
-notice_hint NeverLeft =
+notice_hint BarTrail =
     codes
-    "no rule that is active in it has BEGIN or yy_push_state of another, yy_pop_state, exit or yyterminate, so it lasts to the end of the input"
-notice_hint (DefaultRule byte) = codes "a last rule `.|\\n` of it takes each byte that the others leave"
+    "behind a rule whose action is `|` flex takes a trailing context to vary in length, and may take more of what follows; behind a `$` there the next match is at the start of a line: write the action in place of the `|`"
+notice_hint other = outside_hint other
 
 -- the line of it, below a line with this number
 abbrev pub hint_words : ℕ → List ℕ → List ℕ

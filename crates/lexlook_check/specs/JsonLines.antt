@@ -11,8 +11,8 @@ use Rattle.lexlook_check.specs.SourceLines.{end_of_span, place_in}
 use Rattle.lexlook_check.specs.Takings.{TakenTexts}
 use Rattle.lexlook_check.specs.declared.findings.Finding.{Finding}
 use Rattle.lexlook_check.specs.declared.findings.What.{What}
-use Rattle.lexlook_check.specs.declared.findings.What.TheVariants.{Fault, Limit, Noticed, Warned}
-use Rattle.lexlook_check.specs.declared.notices.NoticeKind.TheVariants.{LettersAsBytes, LetterAlone, Backspace, LineWalk, FlexTrail, UnusedDefinition, NeverEntered, NeverLeft, DefaultRule}
+use Rattle.lexlook_check.specs.declared.findings.What.TheVariants.{Copied, Fault, Limit, Noticed, Warned}
+use Rattle.lexlook_check.specs.declared.notices.NoticeKind.TheVariants.{LettersAsBytes, LetterAlone, Backspace, CaseRange, LineWalk, FlexTrail, BarTrail, EndAgain, UnusedDefinition, NeverEntered, NeverLeft, DefaultRule}
 use Rattle.lexlook_check.specs.declared.places.SourceFile.{SourceFile}
 
 -- the code point of this number below 256, as an escape
@@ -45,13 +45,17 @@ number_field front (Some n) = front ++ decimal n
 abbrev pub what_name : What → List ℕ
 what_name (Fault kind) = kind_name kind
 what_name (Limit e weights) = build_words e
+what_name (Copied byte) = codes "DefaultRule"
 what_name (Warned true) = codes "SkippedCode"
 what_name (Warned false) = codes "UselessRule"
 what_name (Noticed LettersAsBytes) = codes "LettersAsBytes"
 what_name (Noticed LetterAlone) = codes "LetterAlone"
 what_name (Noticed Backspace) = codes "Backspace"
+what_name (Noticed CaseRange) = codes "CaseRange"
 what_name (Noticed LineWalk) = codes "LineWalk"
 what_name (Noticed FlexTrail) = codes "FlexTrail"
+what_name (Noticed BarTrail) = codes "BarTrail"
+what_name (Noticed EndAgain) = codes "EndAgain"
 what_name (Noticed UnusedDefinition) = codes "UnusedDefinition"
 what_name (Noticed NeverEntered) = codes "NeverEntered"
 what_name (Noticed NeverLeft) = codes "NeverLeft"

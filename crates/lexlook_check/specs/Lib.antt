@@ -3,10 +3,14 @@ pub mod LeavingExamples
 pub mod Finding
 pub mod Unused
 pub mod LineWalks
+pub mod CaseRanges
 pub mod FlexTrails
+pub mod BarTrails
+pub mod EndRules
 pub mod Homes
 pub mod Findings
 pub mod Conditions
+pub mod Copies
 pub mod ConditionExamples
 pub mod Notices
 pub mod NoticeExamples

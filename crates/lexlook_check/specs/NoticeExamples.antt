@@ -2,7 +2,7 @@
 use Rattle.std.specs.Prelude.{◌≡◌, ◌∷◌, ◌++◌, Some, None, true, false, codes}
 use Rattle.lexlook_check.specs.Notices.{notice_of}
 use Rattle.lexlook_check.specs.Unused.{stands_in}
-use Rattle.lexlook_check.specs.declared.notices.NoticeKind.TheVariants.{LettersAsBytes, LetterAlone, Backspace}
+use Rattle.lexlook_check.specs.declared.notices.NoticeKind.TheVariants.{LettersAsBytes, LetterAlone, Backspace, CaseRange}
 
 pub record NoticeExamples : Type 0 where
   -- a class with α, one with half of it, and α in quotes
@@ -17,6 +17,14 @@ pub record NoticeExamples : Type 0 where
   pub backspace : notice_of (codes "\\b") ≡ Some Backspace
   pub in_class : notice_of (codes "[\\b]") ≡ None
   pub in_quotes : notice_of (codes "\"\\b\"") ≡ None
+  -- a range to a lower case letter, also behind other elements; one of each case, and one that another ends
+  pub range : notice_of (codes "[A-z]") ≡ Some CaseRange
+  pub negated : notice_of (codes "[^-_0-9Z-b]") ≡ Some CaseRange
+  pub cases : notice_of (codes "[A-Za-z]") ≡ None
+  pub ended : notice_of (codes "[+-Z-b]") ≡ None
+  -- one behind a backslash, and one that is no class
+  pub behind : notice_of (codes "[\\\\A-z]") ≡ Some CaseRange
+  pub no_class : notice_of (codes "\"A-z\"") ≡ None
   -- a name behind a brace, and none that goes on, or stands alone
   pub used : stands_in (codes "D") (codes "D [0-9]\n%%\n{D}+ ;\n") ≡ true
   pub longer : stands_in (codes "D") (codes "%%\n{D2} ;\n") ≡ false

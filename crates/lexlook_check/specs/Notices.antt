@@ -8,13 +8,16 @@ use Rattle.lex_semantics.specs.Spec.{Spec}
 use Rattle.lexkit.specs.Generated.{lines_of}
 use Rattle.lexlook_text.specs.DefinitionLines.{definition_lines, lines_from}
 use Rattle.lexlook_text.specs.Pieces.{pieces_from}
+use Rattle.lexlook_check.specs.BarTrails.{bar_trails}
+use Rattle.lexlook_check.specs.CaseRanges.{is_case_class}
 use Rattle.lexlook_check.specs.Conditions.{faultless_notices}
+use Rattle.lexlook_check.specs.EndRules.{end_notices}
 use Rattle.lexlook_check.specs.FlexTrails.{trail_notices}
 use Rattle.lexlook_check.specs.LineWalks.{walk_notices}
 use Rattle.lexlook_check.specs.Unused.{max_looked_for, unused_notices}
 use Rattle.lexlook_check.specs.declared.notices.Notice.{Notice}
 use Rattle.lexlook_check.specs.declared.notices.NoticeKind.{NoticeKind}
-use Rattle.lexlook_check.specs.declared.notices.NoticeKind.TheVariants.{LettersAsBytes, LetterAlone, Backspace}
+use Rattle.lexlook_check.specs.declared.notices.NoticeKind.TheVariants.{LettersAsBytes, LetterAlone, Backspace, CaseRange}
 
 -- so many are told of a text at most
 abbrev pub max_notices : ℕ
@@ -36,6 +39,7 @@ notice_of piece =
     if has_letters piece then Some LettersAsBytes
     else if escapes_letter false piece then Some LetterAlone
     else if begins (codes "\\b") piece then Some Backspace
+    else if is_case_class piece then Some CaseRange
     else None
 
 -- of a piece at its place in a line
@@ -67,11 +71,13 @@ line_notices (Some l) = rule_line_notices l
 abbrev pub rule_notices : List (ℕ × List ℕ) → ℕ → List Notice
 rule_notices lines n = line_notices (slice_get lines (n - 1))
 
--- of the definitions of a text, and then of its rules, which stand at these lines; then the definitions from the line
--- `own` on that nothing in the whole text uses
+-- of the definitions of a text, and then of its rules, which stand at these lines: of each alone, and then of those
+-- behind a `|`; then of `<<EOF>>` rules, and the definitions from the line `own` on that nothing in the whole text uses
 abbrev pub text_notices : ℕ → List ℕ → List ℕ → List ℕ → List Notice
 text_notices own whole rules text =
-    flat_map definition_notices (definition_lines text) ++ flat_map (rule_notices (lines_from 1 true text)) rules
+    let lines = lines_from 1 true text in
+    flat_map definition_notices (definition_lines text) ++ flat_map (rule_notices lines) rules
+    ++ bar_trails lines false rules ++ flat_map end_notices lines
     ++ flat_map (unused_notices own whole) (take max_looked_for (definition_lines text))
 
 -- of a text that spells this specification: these, and then those of its conditions

@@ -26,9 +26,9 @@ told_bytes Lines files text ts findings = flat_map (finding_lines files text ts)
 told_bytes Json files text ts findings = flat_map (finding_json files text ts) findings
 
 -- of files these bytes are to be written: all that was found, in order of place
-pub record IsTellingOf (options : Options) (form : Form) (files : List SourceFile) (bytes : List ℕ)
+pub record IsTellingOf (options : Options) (form : Form) (strict : Bool) (files : List SourceFile) (bytes : List ℕ)
     (checked : Checked) : Type 0 where
-  pub is_checked : IsChecked options (own_line files) (joined_text files) checked
+  pub is_checked : IsChecked options (own_line files) strict (joined_text files) checked
   pub told : List Finding
   pub in_order : AreInOrder (findings_of (known_lines (without_returns (joined_text files))) checked) told
   pub bytes_are : bytes
@@ -36,19 +36,19 @@ pub record IsTellingOf (options : Options) (form : Form) (files : List SourceFil
 
 -- what was found was written: all of it at `Ok`, a front of it at `Err`
 pub record CheckTold {K : Type 0} (wrote : K → List ℕ → K → Type 0) (options : Options) (form : Form)
-    (files : List SourceFile) (s t : K) (answer : Result Bool CheckError) : Type 0 where
+    (strict : Bool) (files : List SourceFile) (s t : K) (answer : Result Bool CheckError) : Type 0 where
   pub checked : Checked
   pub bytes : List ℕ
-  pub telling : IsTellingOf options form files bytes checked
+  pub telling : IsTellingOf options form strict files bytes checked
   pub written : Appended (λ xs. wrote s xs t) bytes answer
 
 -- What was told of files: the answer says whether nothing is wrong. Where memory runs out the sink is as it was.
-abbrev pub TellsCheck : {K : Type 0} → (K → List ℕ → K → Type 0) → Options → Form → List SourceFile → K → K
+abbrev pub TellsCheck : {K : Type 0} → (K → List ℕ → K → Type 0) → Options → Form → Bool → List SourceFile → K → K
     → Result Bool CheckError → Type 0
-TellsCheck wrote options form files s t (Ok well) =
-    (x : CheckTold wrote options form files s t (Ok well)) × (well ≡ is_well x.checked)
-TellsCheck wrote options form files s t (Err Write) = CheckTold wrote options form files s t (Err Write)
-TellsCheck wrote options form files s t (Err OutOfMemory) = t ≡ s
+TellsCheck wrote options form strict files s t (Ok well) =
+    (x : CheckTold wrote options form strict files s t (Ok well)) × (well ≡ is_well x.checked)
+TellsCheck wrote options form strict files s t (Err Write) = CheckTold wrote options form strict files s t (Err Write)
+TellsCheck wrote options form strict files s t (Err OutOfMemory) = t ≡ s
 
 -- 1 where the answer is a write fault
 abbrev pub check_fault_count : Result Bool CheckError → ℕ

@@ -12,7 +12,7 @@ use Rattle.lexlook_text.specs.Known.{action_names, class_words, condition_names,
 use Rattle.lexlook_text.specs.Names.{nearest}
 use Rattle.lexlook_text.specs.declared.definitions.LineKind.TheVariants.{Declaration, Definition}
 use Rattle.lexlook_check.specs.declared.findings.What.{What}
-use Rattle.lexlook_check.specs.declared.findings.What.TheVariants.{Fault, Noticed}
+use Rattle.lexlook_check.specs.declared.findings.What.TheVariants.{Copied, Fault, Noticed}
 use Rattle.lexlook_check.specs.declared.notices.NoticeKind.{NoticeKind}
 use Rattle.lexlook_check.specs.declared.notices.NoticeKind.TheVariants.{DefaultRule, NeverEntered, NeverLeft}
 
@@ -66,8 +66,14 @@ subject_words NeverLeft rest = named_words rest
 subject_words (DefaultRule byte) rest = named_words rest ++ copied_words byte
 subject_words other rest = []
 
+-- the name of a condition at this place of the line; no line declares INITIAL
+abbrev pub named_there : Option ℕ → List ℕ → List ℕ
+named_there None line = codes "INITIAL"
+named_there (Some at) line = drop at line
+
 -- what is said of the word at this place of the line, where one is told
 abbrev pub front_words : List (ℕ × List ℕ) → What → Option ℕ → List ℕ → List ℕ
 front_words lines (Fault kind) (Some at) line = words_by (vocabulary lines kind) (drop at line)
 front_words lines (Noticed kind) (Some at) line = subject_words kind (drop at line)
+front_words lines (Copied byte) at line = subject_words (DefaultRule byte) (named_there at line)
 front_words lines what at line = []

@@ -82,7 +82,7 @@ fn serves(rule: &Rule, number: u8, condition: &Condition) -> bool
 }
 
 /// Whether the action of one of these rules enters the condition.
-fn is_entered(rules: &[Rule], number: u8) -> bool
+pub(crate) fn is_entered(rules: &[Rule], number: u8) -> bool
     ensures { result ≡ is_entered (map rule_of rules.now) number }
 {
     for rule in rules {
@@ -143,7 +143,7 @@ fn copy_if(exclusive: bool, entered: bool, byte: Option<u8>) -> Option<NoticeKin
 }
 
 /// The byte of this number, if there is one.
-fn byte_of(bytes: &[Option<u8>], number: u8) -> Option<u8>
+pub(crate) fn byte_of(bytes: &[Option<u8>], number: u8) -> Option<u8>
     ensures { result ≡ unwrap_or (slice_get bytes.now number) None }
 {
     match bytes.get(number as usize) {

@@ -18,11 +18,13 @@ use std::alloc::{AllocError, Global};
 
 /// What was found.
 #[derive(Clone, Copy)]
-pub(crate) enum What {
+pub enum What {
     /// A fault, as lex calls it.
     Fault(SpecErrorKind),
     /// A limit that the automaton passes, and how many positions there are.
     Limit(BuildError, Option<Weights>),
+    /// Where none is to be copied, the first byte that the default rule copies in a condition.
+    Copied(u8),
     /// A warning of lex: of skipped code, or of a rule that cannot be matched.
     Warned(bool),
     /// What is warned of beside these.
@@ -31,15 +33,15 @@ pub(crate) enum What {
 
 /// What was found, and where.
 #[derive(Clone, Copy)]
-pub(crate) struct Finding {
+pub struct Finding {
     /// The line, from 1, or 0 for the whole.
-    pub(crate) line: u32,
+    pub line: u32,
     /// How many bytes of the line stand before it, where a place is told.
-    pub(crate) at: Option<usize>,
+    pub at: Option<usize>,
     /// How many bytes it has there.
-    pub(crate) size: usize,
+    pub size: usize,
     /// What was found.
-    pub(crate) what: What,
+    pub what: What,
 }
 
 /// The place of a fault in its line, where lex tells one.
@@ -171,6 +173,16 @@ fn add_limit(
     Ok(())
 }
 
+/// Appends where the default rule copies, though none is to be copied.
+fn add_copies(findings: &mut Vec<Finding>, copies: &[Finding]) -> Result<(), AllocError>
+    ensures { OnOk result (findings.new.items ≡ findings.old.items ++ copies.now) }
+{
+    for copy in copies {
+        findings.push(*copy)?;
+    }
+    Ok(())
+}
+
 /// Appends warnings of lex.
 fn add_warnings(findings: &mut Vec<Finding>, warnings: &[Warning]) -> Result<(), AllocError>
     ensures { OnOk result (findings.new.items ≡ findings.old.items ++ map warning_finding warnings.now) }
@@ -220,6 +232,7 @@ fn findings_of(
         checked.faults.as_slice(),
     )?;
     add_limit(&mut findings, checked.limit, checked.weights)?;
+    add_copies(&mut findings, checked.copies.as_slice())?;
     add_warnings(&mut findings, checked.warnings.as_slice())?;
     add_notices(&mut findings, checked.notices.as_slice())?;
     Ok(findings)

@@ -2,7 +2,7 @@
 ghost use Rattle.std.specs.Prelude.{◌≡◌, ◌||◌, ◌++◌, false, OnOk, map};
 ghost use Rattle.lexlook_text.specs.LineViews.{line_of};
 ghost use Rattle.lexlook_text.specs.PieceViews.{piece_of};
-ghost use Rattle.lexlook_check.specs.FlexTrails.{any_varies, slash_if, slash_notices, slash_varies, trail_notices, varies_piece};
+ghost use Rattle.lexlook_check.specs.FlexTrails.{any_varies, sign_notices, slash_if, slash_varies, trail_notices, varies_piece};
 
 use crate::line_walks::behind_list;
 use crate::notices::{Notice, NoticeKind};
@@ -68,16 +68,21 @@ fn slash_varies(pieces: &[Piece<'_>]) -> Option<usize>
     None
 }
 
-/// Appends the slash of a rule at this place, if there is one.
-fn add_slash(notices: &mut Vec<Notice>, line: u32, place: Option<usize>) -> Result<(), AllocError>
-    ensures { OnOk result (notices.new.items ≡ notices.old.items ++ slash_notices line place) }
+/// Appends the sign of a line at this place, if there is one, for which this is warned of.
+pub(crate) fn add_sign(
+    notices: &mut Vec<Notice>,
+    line: u32,
+    kind: NoticeKind,
+    place: Option<usize>,
+) -> Result<(), AllocError>
+    ensures { OnOk result (notices.new.items ≡ notices.old.items ++ sign_notices line kind place) }
 {
     if let Some(at) = place {
         notices.push(Notice {
             line,
             at,
             size: 1,
-            kind: NoticeKind::FlexTrail,
+            kind,
         })?;
     }
     Ok(())
@@ -94,5 +99,6 @@ pub(crate) fn add_trail(
     let text = behind_list(line.text);
     let before = line.text.len().saturating_sub(text.len());
     let pieces = pieces_of(alloc, before, text)?;
-    add_slash(notices, line.number, slash_varies(pieces.as_slice()))
+    let place = slash_varies(pieces.as_slice());
+    add_sign(notices, line.number, NoticeKind::FlexTrail, place)
 }

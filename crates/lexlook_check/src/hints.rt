@@ -1,6 +1,6 @@
 //! What is expected where a fault is.
 ghost use Rattle.std.specs.Prelude.{◌≡◌, ◌++◌, OnOk};
-ghost use Rattle.lexlook_check.specs.Hints.{action_hint, definition_hint, hint_words, limit_hint, notice_hint, pattern_hint, rule_hint};
+ghost use Rattle.lexlook_check.specs.Hints.{action_hint, definition_hint, hint_words, limit_hint, notice_hint, outside_hint, pattern_hint, rule_hint};
 
 use crate::notices::NoticeKind;
 use crate::source::add_under;
@@ -136,6 +136,27 @@ pub(crate) fn limit_hint(limit: BuildError) -> &'static str
     }
 }
 
+/// What is to be known where this is warned of outside of patterns.
+fn outside_hint(kind: NoticeKind) -> &'static str
+    ensures { result.now ≡ outside_hint kind }
+{
+    match kind {
+        NoticeKind::EndAgain => {
+            "the end of the input ends the scan, whatever the action; in flex an action without yyterminate and exit meets the end again, for ever"
+        }
+        NoticeKind::UnusedDefinition => {
+            "a definition stands for its pattern where its name is in braces, as `{DIGIT}`"
+        }
+        NoticeKind::NeverEntered => {
+            "no BEGIN and no yy_push_state of a rule names it, so no match is made in it"
+        }
+        NoticeKind::NeverLeft => {
+            "no rule that is active in it has BEGIN or yy_push_state of another, yy_pop_state, exit or yyterminate, so it lasts to the end of the input"
+        }
+        _ => { "a last rule `.|\\n` of it takes each byte that the others leave" }
+    }
+}
+
 /// What is to be known where this is warned of.
 pub(crate) fn notice_hint(kind: NoticeKind) -> &'static str
     ensures { result.now ≡ notice_hint kind }
@@ -150,24 +171,19 @@ pub(crate) fn notice_hint(kind: NoticeKind) -> &'static str
         NoticeKind::Backspace => {
             "`\\b` is a backspace, the byte 8: no sign stands for the end of a word, and the longest text is taken anyway"
         }
+        NoticeKind::CaseRange => {
+            "such a range has the bytes between `Z` and `a` too, and with -i flex adds no other case to it: write `[A-Za-z]`"
+        }
         NoticeKind::LineWalk => {
             "where it does not match it is walked to the end of the line, and again from the next byte, so a line of 1000 bytes may take some 500000 steps: with `^` it is walked once"
         }
         NoticeKind::FlexTrail => {
             "one side has texts of one length, and so many bytes are left or taken; flex takes a side with `*`, `+`, `?`, `|` or an interval to vary, and may take more of what follows"
         }
-        NoticeKind::UnusedDefinition => {
-            "a definition stands for its pattern where its name is in braces, as `{DIGIT}`"
+        NoticeKind::BarTrail => {
+            "behind a rule whose action is `|` flex takes a trailing context to vary in length, and may take more of what follows; behind a `$` there the next match is at the start of a line: write the action in place of the `|`"
         }
-        NoticeKind::NeverEntered => {
-            "no BEGIN and no yy_push_state of a rule names it, so no match is made in it"
-        }
-        NoticeKind::NeverLeft => {
-            "no rule that is active in it has BEGIN or yy_push_state of another, yy_pop_state, exit or yyterminate, so it lasts to the end of the input"
-        }
-        NoticeKind::DefaultRule(_) => {
-            "a last rule `.|\\n` of it takes each byte that the others leave"
-        }
+        _ => outside_hint(kind),
     }
 }
 

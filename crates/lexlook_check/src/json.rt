@@ -74,13 +74,17 @@ fn what_name(what: What) -> &'static str
     ensures { result.now ≡ what_name what }
 {
     match what {
+        What::Copied(_) => "DefaultRule",
         What::Warned(true) => "SkippedCode",
         What::Warned(false) => "UselessRule",
         What::Noticed(NoticeKind::LettersAsBytes) => "LettersAsBytes",
         What::Noticed(NoticeKind::LetterAlone) => "LetterAlone",
         What::Noticed(NoticeKind::Backspace) => "Backspace",
+        What::Noticed(NoticeKind::CaseRange) => "CaseRange",
         What::Noticed(NoticeKind::LineWalk) => "LineWalk",
         What::Noticed(NoticeKind::FlexTrail) => "FlexTrail",
+        What::Noticed(NoticeKind::BarTrail) => "BarTrail",
+        What::Noticed(NoticeKind::EndAgain) => "EndAgain",
         What::Noticed(NoticeKind::UnusedDefinition) => "UnusedDefinition",
         What::Noticed(NoticeKind::NeverEntered) => "NeverEntered",
         What::Noticed(NoticeKind::NeverLeft) => "NeverLeft",

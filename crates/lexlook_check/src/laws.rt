@@ -3,12 +3,13 @@ ghost use Rattle.lexlook_check.specs.Checks.{NothingToldJustOf};
 ghost use Rattle.lexlook_check.specs.ConditionExamples.{ConditionExamples};
 ghost use Rattle.lexlook_check.specs.LeavingExamples.{LeavingExamples};
 ghost use Rattle.lexlook_check.specs.NoticeExamples.{NoticeExamples};
-ghost use Rattle.lexlook_check.specs.WarnedRules.{WarnedRules};
+ghost use Rattle.lexlook_check.specs.WarnedRules.{FlexRules, WarnedRules};
 ghost use Rattle.lexlook_check.specs.WordExamples.{WordExamples};
 
 use lexspec::one_specification;
 
-/// Neither a fault nor a limit is found just of a text that spells a specification within the limits.
+/// Nothing is found just of a text that spells a specification within the limits, in which nothing is copied that is not to
+/// be.
 pub fn nothing_told()
     ensures { NothingToldJustOf }
 {
@@ -28,6 +29,11 @@ pub fn examples_of_notices()
 /// Rules that walk each line, and those that flex takes otherwise, worked by hand.
 pub fn examples_of_warned_rules()
     ensures { WarnedRules }
+{}
+
+/// Trailing context behind a rule with a bar, and rules at the end that do not end a scan of flex, worked by hand.
+pub fn examples_of_flex_rules()
+    ensures { FlexRules }
 {}
 
 /// Conditions that no action enters, or leaves, worked by hand.

@@ -6,8 +6,11 @@
 //! - `finding`: the faults that a reader answers of a text, each behind that of the text without the rules before.
 //! - `unused`: definitions that no pattern uses.
 //! - `line_walks`: rules that walk a line at each of its bytes.
+//! - `case_ranges`: ranges from an upper to a lower case letter.
 //! - `flex_trails`: trailing context that flex takes otherwise.
-//! - `copies`: what the default rule copies in each condition.
+//! - `bar_trails`: trailing context behind a rule whose action is `|`, which it takes otherwise too.
+//! - `end_rules`: `<<EOF>>` rules whose action does not end the scan.
+//! - `copies`: what the default rule copies in each condition, and where it is not to.
 //! - `conditions`: conditions that no action enters, or leaves, and exclusive ones in which the default rule copies.
 //! - `notices`: what is warned of in patterns and definitions, beside what lex warns of.
 //! - `takings`: by which rules the texts of one are taken that cannot be matched.
@@ -23,7 +26,8 @@
 //! - `lines`: the lines of what was found.
 //! - `json`: the same as objects of JSON.
 //! - `telling`: what is written of files, `tell_check`.
-//! - `laws`: nothing is told just of a specification within the limits; worked examples.
+//! - `laws`: nothing is told just of a specification within the limits, in which nothing is copied that is not to be;
+//!   worked examples.
 //!
 //! It promises that the first fault is the reader's own, kind and line, and that each other one is the reader's of what the
 //! definitions of `specs/Leaving` leave of the text. What a fault is, at which line and where in it, lexspec says. Words of
@@ -43,12 +47,17 @@
 //!   are rules the reader says.
 //! - **What is left out may be missed elsewhere.** Without the line of a definition each rule that uses the name is at fault.
 //!   Of conditions nothing is told where a rule was left out: it may be the one that enters or leaves them.
+//! - **Where no byte is to be copied, conditions are told by their numbers**, and each is looked for in the text. So that nothing is
+//!   told means that nothing is copied, whatever lines declare.
 //! - **A condition is warned of at its name**, where it is declared. Its number is that of the condition with this name.
 #![tactic(auto)]
 
+mod bar_trails;
+mod case_ranges;
 mod checking;
 mod conditions;
 mod copies;
+mod end_rules;
 mod error;
 mod finding;
 mod findings;
@@ -75,8 +84,8 @@ pub use checking::{Checked, check};
 pub use error::CheckError;
 pub use finding::MAX_FAULTS;
 pub use laws::{
-    examples_of_conditions, examples_of_leaving, examples_of_notices, examples_of_warned_rules,
-    examples_of_words, nothing_told,
+    examples_of_conditions, examples_of_flex_rules, examples_of_leaving, examples_of_notices,
+    examples_of_warned_rules, examples_of_words, nothing_told,
 };
 pub use notices::{Notice, NoticeKind};
 pub use places::SourceFile;

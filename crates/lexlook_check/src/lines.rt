@@ -87,8 +87,11 @@ fn notice_text(kind: NoticeKind) -> &'static str
         NoticeKind::LettersAsBytes => "letters of a class as bytes",
         NoticeKind::LetterAlone => "letter behind a backslash",
         NoticeKind::Backspace => "backspace by its escape",
+        NoticeKind::CaseRange => "range from an upper to a lower case letter",
         NoticeKind::LineWalk => "line walked at each byte",
         NoticeKind::FlexTrail => "trailing context that flex takes otherwise",
+        NoticeKind::BarTrail => "trailing context behind a rule with a bar",
+        NoticeKind::EndAgain => "end rule that does not end the scan",
         NoticeKind::UnusedDefinition => "definition that no pattern uses",
         NoticeKind::NeverEntered => "condition that no action enters",
         NoticeKind::NeverLeft => "condition that no action leaves",
@@ -101,7 +104,7 @@ pub(crate) fn severity_text(what: What) -> &'static str
     ensures { result.now ≡ severity_words what }
 {
     match what {
-        What::Fault(_) | What::Limit(_, _) => "error",
+        What::Fault(_) | What::Limit(_, _) | What::Copied(_) => "error",
         What::Warned(_) | What::Noticed(_) => "warning",
     }
 }
@@ -113,6 +116,7 @@ pub(crate) fn what_text(what: What) -> &'static str
     match what {
         What::Fault(kind) => kind.name(),
         What::Limit(limit, _) => limit_text(limit),
+        What::Copied(_) => "default rule can be matched",
         What::Warned(code) => warning_text(code),
         What::Noticed(kind) => notice_text(kind),
     }
@@ -125,6 +129,7 @@ fn hint_of(what: What) -> Option<&'static str>
     match what {
         What::Fault(kind) => Some(definition_hint(kind)),
         What::Limit(limit, _) => Some(limit_hint(limit)),
+        What::Copied(byte) => Some(notice_hint(NoticeKind::DefaultRule(byte))),
         What::Warned(_) => None,
         What::Noticed(kind) => Some(notice_hint(kind)),
     }

@@ -8,7 +8,10 @@ ghost use Rattle.lexlook_text.specs.LineViews.{line_of};
 ghost use Rattle.lexlook_text.specs.PieceViews.{piece_of};
 ghost use Rattle.lexlook_check.specs.Notices.{definition_notices, escapes_letter, has_letters, max_notices, notice_of, notices_of, pattern_notices, piece_notices, rule_line_notices, rule_notices, text_notices};
 
+use crate::bar_trails::add_bar_trails;
+use crate::case_ranges::is_case_class;
 use crate::conditions::add_conditions;
+use crate::end_rules::add_ends;
 use crate::flex_trails::add_trail;
 use crate::line_walks::add_walk;
 use crate::unused::add_unused;
@@ -28,10 +31,16 @@ pub enum NoticeKind {
     LetterAlone,
     /// `\b` outside of classes and quotes: a backspace.
     Backspace,
+    /// A class with a range from an upper to a lower case letter.
+    CaseRange,
     /// A rule that begins with `.*` or the like and goes on, so that it walks to the end of the line at each byte.
     LineWalk,
     /// A trailing context whose sides flex takes to vary in length, though one does not.
     FlexTrail,
+    /// A trailing context behind a rule whose action is `|`.
+    BarTrail,
+    /// An `<<EOF>>` rule whose action does not end the scan.
+    EndAgain,
     /// A definition whose name stands in braces nowhere.
     UnusedDefinition,
     /// A condition that no action enters.
@@ -105,6 +114,8 @@ fn notice_of(piece: &[u8]) -> Option<NoticeKind>
         Some(NoticeKind::LetterAlone)
     } else if piece.starts_with(b"\\b") {
         Some(NoticeKind::Backspace)
+    } else if is_case_class(piece) {
+        Some(NoticeKind::CaseRange)
     } else {
         None
     }
@@ -225,8 +236,9 @@ const MAX_NOTICES: usize = 100;
 /// The most definitions whose names are looked for.
 const MAX_LOOKED_FOR: usize = 1000;
 
-/// What is warned of in the definitions of a text, and then in its rules, which stand at these lines. Then those of its
-/// definitions from the line `own` on that nothing in `whole` uses.
+/// What is warned of in the definitions of a text, and then in its rules, which stand at these lines: in each alone, and
+/// then behind one with `|`. Then in its `<<EOF>>` rules, and those of its definitions from the line `own` on that nothing
+/// in `whole` uses.
 fn text_notices(
     alloc: Global,
     own: usize,
@@ -242,6 +254,8 @@ fn text_notices(
     let mut notices = Vec::new(alloc);
     add_all_definition_notices(alloc, &mut notices, definitions.as_slice())?;
     add_all_rule_notices(alloc, &mut notices, lines.as_slice(), rules)?;
+    add_bar_trails(alloc, &mut notices, lines.as_slice(), rules)?;
+    add_ends(&mut notices, lines.as_slice())?;
     definitions.truncate(MAX_LOOKED_FOR);
     add_unused(&mut notices, own, whole, definitions.as_slice())?;
     Ok(notices)

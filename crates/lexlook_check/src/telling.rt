@@ -62,14 +62,15 @@ fn telling_of(
     files: &[SourceFile<'_>],
     options: Options,
     form: Form,
+    strict: bool,
 ) -> Result<Telling, AllocError>
     requires few_positions { options.limits.positions ≤ max_positions }
     requires few_states { options.limits.states ≤ max_states }
-    ensures { IfOk result (λ t. IsTellingOf options form files.now t.bytes.items t.checked) }
+    ensures { IfOk result (λ t. IsTellingOf options form strict files.now t.bytes.items t.checked) }
 {
     let text = joined_text(alloc, files)?;
     let own = own_line(files, text.as_slice());
-    let checked = check(alloc, own, text.as_slice(), options)?;
+    let checked = check(alloc, own, strict, text.as_slice(), options)?;
     let whole = without_returns(alloc, text.as_slice())?;
     let lines = known_lines(alloc, whole.as_slice())?;
     let names = names_of(alloc, lines.as_slice())?;
@@ -88,21 +89,23 @@ fn telling_of(
 
 /// Writes every fault of the specification that the files are together, up to 100, and what is warned of, in order of
 /// place. Each is told with its file and the line there, the column where one is told, the line as it stands, and what is
-/// expected. It answers whether no fault was found. Want of memory leaves the sink as it was.
+/// expected. Where `strict` it is a fault too that the default rule copies a byte. It answers whether no fault was found. Want
+/// of memory leaves the sink as it was.
 pub fn tell_check<K: Sink>(
     alloc: Global,
     files: &[SourceFile<'_>],
     options: Options,
     form: Form,
+    strict: bool,
     sink: &mut K,
 ) -> Result<bool, CheckError>
     requires few_positions { options.limits.positions ≤ max_positions }
     requires few_states { options.limits.states ≤ max_states }
     requires few { K.failures sink.old < 2 ^ 64 - 1 }
-    ensures told { TellsCheck K.wrote options form files.now sink.old sink.new result }
+    ensures told { TellsCheck K.wrote options form strict files.now sink.old sink.new result }
     ensures failures { K.failures sink.new ≡ K.failures sink.old + check_fault_count result }
 {
-    let telling = match telling_of(alloc, files, options, form) {
+    let telling = match telling_of(alloc, files, options, form, strict) {
         Err(_) => return Err(CheckError::OutOfMemory),
         Ok(telling) => telling,
     };

@@ -2,7 +2,7 @@
 ghost use Rattle.std.specs.Prelude.{◌≡◌, ◌++◌, ℕ, List, OnOk, option_map};
 ghost use Rattle.lexlook_text.specs.Known.{AreNamesOf};
 ghost use Rattle.lexlook_check.specs.WordViews.{vocabulary_of};
-ghost use Rattle.lexlook_check.specs.Words.{copied_words, front_words, named_words, near_words, pattern_vocabulary, subject_words, vocabulary, word_words, words_by};
+ghost use Rattle.lexlook_check.specs.Words.{named_there, copied_words, front_words, named_words, near_words, pattern_vocabulary, subject_words, vocabulary, word_words, words_by};
 
 use crate::findings::What;
 use crate::notices::NoticeKind;
@@ -145,6 +145,16 @@ fn add_subject(text: &mut Vec<u8>, kind: NoticeKind, rest: &[u8]) -> Result<(), 
     }
 }
 
+/// The name of a condition at this place of the line. No line declares INITIAL.
+fn named_there(at: Option<usize>, line: &[u8]) -> &[u8]
+    ensures { result.now ≡ named_there at line.now }
+{
+    match at {
+        None => b"INITIAL",
+        Some(at) => line.get(at..).unwrap_or(b""),
+    }
+}
+
 /// Appends what is said of the word at this place of the line, where one is told.
 pub(crate) fn add_front(
     text: &mut Vec<u8>,
@@ -168,6 +178,9 @@ pub(crate) fn add_front(
             None => add(text, b""),
             Some(at) => add_subject(text, kind, line.get(at..).unwrap_or(b"")),
         },
+        What::Copied(byte) => {
+            add_subject(text, NoticeKind::DefaultRule(byte), named_there(at, line))
+        }
         _ => add(text, b""),
     }
 }

@@ -1,6 +1,6 @@
 -- Where in a line the word is that has no meaning there. (POSIX, lex, Rules in lex; flex, Start Conditions, Scanner
 -- Options.)
-use Rattle.std.specs.Prelude.{ℕ, ◌+◌, ◌-◌, ◌==◌, ◌&&◌, ◌||◌, nat_lt, not, if◌then◌else◌, List, [], length, drop, Option, Some, None, unwrap_or, codes}
+use Rattle.std.specs.Prelude.{ℕ, ◌+◌, ◌-◌, ◌==◌, ◌&&◌, ◌||◌, nat_lt, Bool, not, if◌then◌else◌, List, [], length, drop, Option, Some, None, is_none, unwrap_or, codes}
 use Rattle.std.specs.Option.{option_or}
 use Rattle.lex_semantics.specs.Limits.{max_file_bytes}
 use Rattle.lex_semantics.specs.Reading.{after_blanks, begins}
@@ -68,6 +68,12 @@ statement_spot (Some sound) n arguments l = option_or (action_spot (sound, argum
 abbrev pub condition_spot : List ℕ → List ℕ → ℕ × List ℕ → Option Spot
 condition_spot conditions arguments l =
     option_or (listed_spot conditions l) (action_spot (statement_words, arguments) 0 l)
+
+-- the action that begins the text has no name but those that print, so that it does not end a scan
+abbrev pub prints_alone : List ℕ → Bool
+prints_alone text =
+    not (nat_lt max_file_bytes (length text))
+    && is_none (unknown_from (codes "printf fputs puts yytext yyout", []) 0 (start_at 1 0) text)
 
 -- the name that begins the line
 abbrev pub front_spot : ℕ × List ℕ → Spot

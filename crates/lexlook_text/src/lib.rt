@@ -37,5 +37,5 @@ pub use known::{CLASSES, KnownNames, OPTIONS, STATEMENTS, names_of};
 pub use laws::{examples_of_names, examples_of_pieces, examples_of_spots};
 pub use names::{has_word, nearest, split_word};
 pub use naming::{DeclaredName, declared_again, declared_conditions, defined_names, first_named};
-pub use pieces::{Piece, pieces_of};
-pub use spots::{Spot, spot_of};
+pub use pieces::{Piece, behind_pattern, pieces_of};
+pub use spots::{Spot, prints_alone, spot_of};

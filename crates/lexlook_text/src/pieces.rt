@@ -74,7 +74,7 @@ pub fn pieces_of(alloc: Global, before: usize, text: &[u8]) -> Result<Vec<Piece<
 }
 
 /// What follows the pattern that begins the text.
-pub(crate) fn behind_pattern(text: &[u8]) -> &[u8]
+pub fn behind_pattern(text: &[u8]) -> &[u8]
     ensures after { result.now ≡ behind_pattern 0 text.now }
     ensures shorter { length result.now ≤ length text.now }
 {

@@ -2,7 +2,7 @@
 ghost use Rattle.std.specs.Prelude.{◌≡◌, ◌≤◌, ◌+◌, length, option_map};
 ghost use Rattle.lex_semantics.specs.Limits.{max_file_bytes};
 ghost use Rattle.lexlook_text.specs.LineViews.{line_of};
-ghost use Rattle.lexlook_text.specs.Spots.{action_spot, condition_spot, first_spot, front_spot, kind_spot, listed_spot, option_spot, other_spot, others_before, slash_spot, sound_words, spot_behind, spot_of, statement_spot};
+ghost use Rattle.lexlook_text.specs.Spots.{action_spot, condition_spot, first_spot, front_spot, kind_spot, listed_spot, option_spot, other_spot, others_before, prints_alone, slash_spot, sound_words, spot_behind, spot_of, statement_spot};
 ghost use Rattle.lexlook_text.specs.WordViews.{words_of};
 
 use crate::definitions::Line;
@@ -107,6 +107,9 @@ const WITHOUT_LAST: &[u8] = b"ECHO BEGIN printf fputs puts yymore yyless yytext 
 /// Those of an end action.
 const PRINTING: &[u8] = b"printf fputs puts yyterminate exit yytext yyout";
 
+/// Those that print.
+const PRINTS: &[u8] = b"printf fputs puts yytext yyout";
+
 /// No words.
 const NOTHING: &[u8] = b"";
 
@@ -172,6 +175,20 @@ fn condition_spot(conditions: &[u8], arguments: &[u8], line: Line<'_>) -> Option
         Some(spot) => Some(spot),
         None => action_spot(known, 0, line),
     }
+}
+
+/// Whether the action that begins the text has no name but those that print, so that it does not end a scan.
+pub fn prints_alone(text: &[u8]) -> bool
+    ensures { result ≡ prints_alone text.now }
+{
+    if text.len() > MAX_FILE_BYTES {
+        return false;
+    }
+    let known = Words {
+        some: PRINTS,
+        others: NOTHING,
+    };
+    unknown_behind(known, 0, Cursor::start_at(1, 0), text).is_none()
 }
 
 /// The name that begins a line.

@@ -142,7 +142,14 @@ fn checked(alloc: Global, text: &[u8], mut sink: MemorySink) -> (Result<bool, Ch
         name: "a.l",
         bytes: text,
     };
-    let answer = tell_check(alloc, &[file], Options::new(), Form::Lines, &mut sink);
+    let answer = tell_check(
+        alloc,
+        &[file],
+        Options::new(),
+        Form::Lines,
+        false,
+        &mut sink,
+    );
     (answer, sink.into_bytes())
 }
 
@@ -172,7 +179,7 @@ fn rules_of(alloc: Global, rule: &[u8], count: usize) -> Option<Vec<u8>> {
 /// How many faults are found in so many rules at fault.
 fn faults_of(alloc: Global, rules: usize) -> Option<usize> {
     let text = rules_of(alloc, b"a b();\n", rules)?;
-    let found = check(alloc, 1, text.as_slice(), Options::new()).ok()?;
+    let found = check(alloc, 1, false, text.as_slice(), Options::new()).ok()?;
     Some(found.faults.len())
 }
 

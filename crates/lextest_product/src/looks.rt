@@ -118,12 +118,14 @@ pub(crate) fn check(alloc: Global, row: &Row<'_>) -> Result<Answer, AllocError> 
     ];
     let count = if row.value("again").is_empty() { 1 } else { 2 };
     let mut sink = MemorySink::new(alloc);
-    let form = if row.has_flag("--json") {
+    let strict = row.has_flag("-s") || row.has_flag("-s --json");
+    let form = if row.has_flag("--json") || row.has_flag("-s --json") {
         Form::Json
     } else {
         Form::Lines
     };
-    let told = match tell_check(alloc, &files[..count], options_of(row), form, &mut sink) {
+    let options = options_of(row);
+    let told = match tell_check(alloc, &files[..count], options, form, strict, &mut sink) {
         Ok(true) => String::from_str(alloc, "")?,
         Ok(false) => String::from_str(alloc, "status 1\n")?,
         Err(error) => format!(in alloc; "{error}\n")?,

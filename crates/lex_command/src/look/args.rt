@@ -63,6 +63,8 @@ pub enum Look {
     /// Every fault of the specification that these files are together.
     Check {
         files: Vec<String>,
+        /// Whether it is one that the default rule copies a byte: `-s`. (flex, Scanner Options: -s.)
+        strict: bool,
         /// Whether they are told as JSON.
         json: bool,
         /// How patterns are read.
@@ -79,8 +81,8 @@ pub enum Look {
 }
 
 /// Reads the words after the program's name: `picture FILE`, `same FILE FILE`, `lines FILE`, `words FILE`, `trace FILE`,
-/// `check FILE..` or `header FILE`, with `-i` or `-X` or without, and `check` with `--json` too, `header` with `--rust`,
-/// `utf8 SET..`, or any words with `--help`, `-h` or `--version`. Behind `utf8` the version is that of Unicode. Flags may
+/// `check FILE..` or `header FILE`, with `-i` or `-X` or without, and `check` with `-s` and `--json` too, `header` with
+/// `--rust`, `utf8 SET..`, or any words with `--help`, `-h` or `--version`. Behind `utf8` the version is that of Unicode. Flags may
 /// be repeated. Words that it refuses by `Usage` ask for nothing.
 pub fn read_args(alloc: Global, words: &[String]) -> Result<Look, ArgsError>
     ensures asked { IfOk result (AsksToShow (map string_bytes words.now)) }
@@ -247,11 +249,11 @@ fn long_flag<'a>(alloc: Global, word: &'a str) -> Arg<'a>
     Arg::new(alloc, word).long(word).action(ArgAction::Count)
 }
 
-/// The words of `check`: how patterns are read, whether faults are told as JSON, and its files.
+/// The words of `check`: how patterns are read, whether a byte may be copied, whether faults are told as JSON, and its files.
 fn check_command<'a>(alloc: Global) -> Result<Command<'a>, AllocError>
     ensures { IfOk result (λ c. app_of c ≡ file_app (codes "check") check_words) }
 {
-    let flags = &[("fold", 'i'), ("posix", 'X')];
+    let flags = &[("fold", 'i'), ("posix", 'X'), ("strict", 's')];
     let command = Command::new(alloc, "check").disable_help_flag(true);
     let command = with_flags(alloc, command, flags)?;
     let command = command.arg(long_flag(alloc, "json"))?;
@@ -409,6 +411,7 @@ fn check_look(alloc: Global, found: &ArgMatches<'_>) -> Result<Look, ArgsError>
 {
     Ok(Look::Check {
         files: files_of(alloc, found)?,
+        strict: has(found, "strict"),
         json: has(found, "json"),
         patterns: patterns_of(found),
     })

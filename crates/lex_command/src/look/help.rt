@@ -18,9 +18,9 @@ const HELP: &str = "lexlook shows what a specification of lex does.\n\n\
     a line for each match of a scan of standard input by a specification, and the scan's status\n\
     lexlook utf8 SET..\n    \
     a definition of the code points of these sets, over the bytes of their UTF-8\n\
-    lexlook check FILE.. [-i] [-X] [--json]\n    \
+    lexlook check FILE.. [-i] [-X] [-s] [--json]\n    \
     every fault of the specification that the files are together, by lines or as JSON, with status 1\n    \
-    where there is one\n\
+    where there is one; with -s it is one that the default rule copies a byte\n\
     lexlook header FILE [-i] [-X] [--rust]\n    \
     the names and numbers of its rules for a program in C, as an enum, or in Rust, as constants\n\n\
     FILE may be - for standard input. With -i letters stand for both cases. With -X an interval\n\

@@ -15,6 +15,6 @@ returns-in-None c =
     record {
       left = None;
       faults = subst (λ (o : Option (List ℕ)). AreFaultsOf (ReadsSpec (reading c.args.options)) max_faults c.args.text.now c.in_ok-faults.field-0.faults.items o) left c.in_ok-faults.ensures;
-      found = (refl, c.new.ensures.items, c.new-in-None-2.ensures.items);
+      found = (refl, c.new.ensures.items, c.new-in-None-2.ensures.items, c.new-in-None-3.ensures.items);
       weights = refl;
     }

@@ -14,7 +14,7 @@ returns-in_ok-notices-in-Ok c =
         c.in-Ok.ensures,
         refl,
         subst (λ (b : Bool). AreTakingsOf c.args.options c.args.left.now b (map taking_of c.in_ok-takings-in-Ok.takings.items)) (c.has_useless.ensures ∙ ap has_useless c.as_slice-in-Ok.ensures.value) c.in_ok-takings-in-Ok.ensures,
-        subst (λ (b : Bool). AreNoticesOf c.args.options c.args.own b c.args.text.now c.args.left.now c.in_ok-notices-in-Ok.notices.items) (c.are_none-faultless.ensures ∙ ap (λ (fs : List SpecError). length fs == 0) c.as_slice.ensures.value) c.in_ok-notices-in-Ok.ensures,
+        subst (λ (b : Bool). AreNoticesOf c.args.options c.args.own c.args.strict b c.args.text.now c.args.left.now c.in_ok-notices-in-Ok.field-0.notices.items c.in_ok-notices-in-Ok.field-0.copies.items) (c.are_none-faultless.ensures ∙ ap (λ (fs : List SpecError). length fs == 0) c.as_slice.ensures.value) c.in_ok-notices-in-Ok.ensures,
       );
       weights = refl;
     }

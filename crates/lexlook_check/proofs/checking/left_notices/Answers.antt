@@ -18,4 +18,4 @@ returns c =
     let same : known.0 ≡ S = c.one_specification.ensures (reading c.args.options) left known.0 S known.1 spells in
     subst (λ (bytes : List (Option ℕ)). AreCopied (matches_of S) bytes) (sym c.as_slice.ensures.value) (subst (λ (T : Spec). AreCopied (matches_of T) c.in_ok-copied.copied.items) same known.2)
     ) in
-    IfOk-weaker c.notices_of.result _ _ (λ notices h. (S, spells, c.as_slice.result.now, copied, h)) c.notices_of.ensures
+    IfOk-weaker c.noted_of.result _ _ (λ noted h. (S, spells, c.as_slice.result.now, copied, h)) c.noted_of.ensures

@@ -15,4 +15,7 @@ returns c = record {
   exclusive = refl;
   inclusive = refl;
   outside = refl;
+  each = refl;
+  initial = refl;
+  kept = refl;
 }

@@ -31,8 +31,8 @@ returns c =
     let lines : map line_of c.as_slice-6.result.now ≡ known_lines shown =
     ap (map line_of) c.as_slice-6.ensures.value ∙ c.in_ok-lines.ensures ∙ ap known_lines (c.as_slice-4.ensures.value ∙ kept) in
     record {
-      is_checked = subst (λ (n : ℕ). IsChecked c.args.options n (joined_text files) c.in_ok-checked.checked) c.own_line-own.ensures
-          (subst (λ (t : List ℕ). IsChecked c.args.options c.own_line-own.result t c.in_ok-checked.checked) text c.in_ok-checked.ensures);
+      is_checked = subst (λ (n : ℕ). IsChecked c.args.options n c.args.strict (joined_text files) c.in_ok-checked.checked) c.own_line-own.ensures
+          (subst (λ (t : List ℕ). IsChecked c.args.options c.own_line-own.result c.args.strict t c.in_ok-checked.checked) text c.in_ok-checked.ensures);
       told = c.in_ok-findings.findings.items;
       in_order = subst (λ (ls : List (ℕ × List ℕ)). AreInOrder (findings_of ls c.in_ok-checked.checked) c.in_ok-findings.findings.items) lines c.in_ok-findings.ensures;
       bytes_are = c.in_ok-bytes.ensures

@@ -1,7 +1,7 @@
 use Rattle.std.proofs.Common.{◌≡◌, ◌∙◌, ap, codes, fold, rules}
 use Rattle.std.proofs.lemmas.Result.{IfOk-weaker}
 use Rattle.clap.specs.Words.{App, app_of, new_app, with_rule}
-use Rattle.lex_command.specs.Flags.{pattern_rules}
+use Rattle.lex_command.specs.Flags.{flag_rule, pattern_rules}
 use Rattle.lex_command.specs.LookLine.{without_help}
 use Rattle.lex_command.proofs.CommandLine.{adds_rule}
 use Rattle.lex_command.proofs.look.args.check_command.Goals as goal
@@ -9,6 +9,6 @@ use Rattle.lex_command.proofs.look.args.check_command.Goals as goal
 pub returns : goal.returns
 returns c =
     let none : app_of c.disable_help_flag-command.result ≡ without_help (new_app (codes "check")) = search rules in
-    let flags = c.in_ok-command.ensures ∙ ap (λ (a : App). fold with_rule a pattern_rules) none in
+    let flags = c.in_ok-command.ensures ∙ ap (λ (a : App). with_rule (fold with_rule a pattern_rules) (flag_rule (codes "strict") 115)) none in
     let json = adds_rule _ _ _ _ _ c.in_ok-command-2.ensures c.long_flag.ensures.global flags c.long_flag.ensures.rule in
     IfOk-weaker c.arg-2.result _ _ (λ new h. adds_rule _ _ _ _ _ h c.needed_words.ensures.global json c.needed_words.ensures.rule) c.arg-2.ensures
