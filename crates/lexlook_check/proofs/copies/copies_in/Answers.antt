@@ -32,7 +32,7 @@ returns c =
     let places : map declared_name_of c.as_slice-3.result.now ≡ declared_conditions (map line_of c.as_slice-2.result.now) =
     ap (map declared_name_of) c.as_slice-3.ensures.value ∙ c.in_ok-places.ensures in
     let step : (v : Vec Finding Global) → v.items ≡ copies_from (map rule_of c.rules.result.now) copied (map declared_name_of c.as_slice-3.result.now) 0 (map condition_of c.conditions.result.now)
-        → v.items ≡ copies_in spec copied c.args.text.now =
+    → v.items ≡ copies_in spec copied c.args.text.now =
     λ v h. told_in spec copied c.args.text.now v.items (map rule_of c.rules.result.now) (map condition_of c.conditions.result.now) (map line_of c.as_slice-2.result.now) (map declared_name_of c.as_slice-3.result.now)
     c.rules.ensures.rules c.conditions.ensures.conditions lines places h in
     IfOk-weaker c.copies_from.result _ _ step c.copies_from.ensures
