@@ -1,6 +1,7 @@
 #!/usr/bin/env python3
 """Tells whether docs/EDITS.md is the page of the wrong bodies that stand in the crates, with a status of 1 where it is not. The first
-line of each wrong body says what it guards: `# TEXT`. A second one says by what it is refused, where `wrong-bodies.py --write` wrote it.
+line of each wrong body says what it guards: `# TEXT`. A second one says by what it is refused, where `wrong-bodies.py --write` wrote it. For
+those of must-fail/ the file refused-by.md there does.
 
 usage: edits.py [--write]
   --write   writes the page
@@ -23,8 +24,12 @@ def guards(path):
 
 
 def refused_by(path):
-    """By what a wrong body is refused, where its second line says so."""
-    said = re.match(r".*\n# refused by: (.*)", path.read_text())
+    """By what a wrong body is refused, where that is written."""
+    beside = path.parent / "refused-by.md"
+    if path.parent.name == "must-fail" and beside.exists():
+        said = re.search(rf"(?m)^`{re.escape(path.stem)}`: (.*)", beside.read_text())
+    else:
+        said = re.match(r".*\n# refused by: (.*)", path.read_text())
     return said[1] if said else ""
 
 

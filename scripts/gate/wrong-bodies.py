@@ -5,7 +5,7 @@ whether the prover refuses it in its own function, and by which clause.
     scripts/gate/wrong-bodies.py [CRATE..]        those of these crates, or of all
         --changed REV     of the crates whose src/ or specs/ differ from REV, and of those above whose inherited contracts do
         --jobs N          N checks side by side (as many as processors)
-        --write           writes into each file of wrong-bodies/ that is tried by what it is refused, as its second line
+        --write           writes by what each is refused: as the second line of a file of wrong-bodies/, and in must-fail/refused-by.md
         --itself          two bodies of lex_machine that are right, which must be told as proved, and one that is wrong
 
 The bodies stand in two folders of a crate, each a file with lines 'file:', 'old:' and 'new:' as `rt help` has them:
@@ -57,6 +57,8 @@ TOLD = re.compile(r"^(?:note: )?(?:\./)?((?:src|specs|proofs)/[^:\s]+):(\d+):\d+
 GOAL = re.compile(r"`([\w+-]+)`")
 # How the line of a wrong body begins that says by what it is refused.
 REFUSED_BY = "# refused by:"
+# The file of must-fail/ that says it of each of these.
+BESIDE = "refused-by.md"
 # What the words of the prover say that a goal is of, the most telling first.
 KINDS = (
     ("returned", re.compile(r"what the function ensures")),
@@ -466,22 +468,34 @@ WORDS = {
     "loop": "the invariant of its loop",
     "end": "a loop that must end",
     "call": "what a call asks for",
+    "other": "no place is told",
 }
 
 
-def record(edit, why):
-    """Writes into a wrong body by what it is refused."""
+def refusal(why):
+    """By what a wrong body is refused, in words."""
     _, kind, goal = why.split(": ", 2)
     if kind == "clause":
-        named = f"clause `{goal.removeprefix('clause ')}`"
-    elif kind == "answer":
-        named = f"{WORDS[named_kind(goal)]}; its written proof fits no more"
-    else:
-        named = WORDS.get(kind, kind)
-    path = ROOT / "crates" / edit.crate / edit.folder / f"{edit.name}.edit"
+        return f"clause `{goal.removeprefix('clause ')}`"
+    if kind == "answer":
+        return f"{WORDS[named_kind(goal)]}; its written proof fits no more"
+    return WORDS.get(kind, kind)
+
+
+def record(edit, why):
+    """Writes into a wrong body by what it is refused. For those that the gate tries it stands in a file beside them, since the gate tries
+    all of a crate anew where one of them changes."""
+    folder = ROOT / "crates" / edit.crate / edit.folder
+    if edit.folder == "must-fail":
+        beside = folder / BESIDE
+        lines = {line.split("`")[1]: line for line in beside.read_text().splitlines()} if beside.exists() else {}
+        lines[edit.name] = f"`{edit.name}`: {refusal(why)}"
+        beside.write_text("".join(f"{lines[name]}\n" for name in sorted(lines) if (folder / f"{name}.edit").exists()))
+        return
+    path = folder / f"{edit.name}.edit"
     head, *rest = path.read_text().split("\n")
     rest = [line for line in rest if not line.startswith(REFUSED_BY)]
-    path.write_text("\n".join([head, f"{REFUSED_BY} {named}", *rest]))
+    path.write_text("\n".join([head, f"{REFUSED_BY} {refusal(why)}", *rest]))
 
 
 class Report:
@@ -520,14 +534,15 @@ def batches_of(chosen, rtlib, report):
 
 def try_all(chosen, rtlib, jobs, writes):
     """Tries the wrong bodies of some crates, writes by what each is refused where it is asked to, and returns whether each is."""
-    report = Report()
+    report, lock = Report(), threading.Lock()
     batches = batches_of(chosen, rtlib, report)
 
     def work(crate, batch):
         for edit, told in tries(crate, batch).items():
             report.tell(edit, *told)
-            if writes and told[0] == "refused" and edit.folder == "wrong-bodies":
-                record(edit, told[1])
+            if writes and told[0] == "refused":
+                with lock:
+                    record(edit, told[1])
 
     with ThreadPoolExecutor(jobs) as pool:
         for done in [pool.submit(work, *it) for it in batches]:
