@@ -6,7 +6,7 @@ _lexlook() {
         mapfile -t COMPREPLY < <(compgen -W 'picture same lines words trace utf8 check header --help --version' -- "$2")
     elif [[ $2 == -* && ${COMP_WORDS[1]} != utf8 ]]; then
         local flags='-i -X'
-        [[ ${COMP_WORDS[1]} == check ]] && flags+=' --json'
+        [[ ${COMP_WORDS[1]} == check ]] && flags+=' -s --json'
         [[ ${COMP_WORDS[1]} == header ]] && flags+=' --rust'
         mapfile -t COMPREPLY < <(compgen -W "$flags" -- "$2")
     fi

@@ -12,6 +12,7 @@ complete -c lexlook -n $first -f -a check -d 'Write every fault of a specificati
 complete -c lexlook -n $first -f -a header -d 'Write the names and numbers of rules for a program'
 complete -c lexlook -n $first -f -l help -d 'Write the subcommands'
 complete -c lexlook -n $first -f -l version -d 'Write the version'
+complete -c lexlook -n '__fish_seen_subcommand_from check' -s s -d 'A byte that the default rule copies is a fault'
 complete -c lexlook -n '__fish_seen_subcommand_from check' -l json -d 'Write each fault as JSON'
 complete -c lexlook -n '__fish_seen_subcommand_from header' -l rust -d 'Write constants for Rust'
 complete -c lexlook -n "not $first" -s i -d 'Letters in patterns stand for both cases'
