@@ -483,8 +483,8 @@ def refusal(why):
 
 
 def record(edit, why):
-    """Writes into a wrong body by what it is refused. For those that the gate tries it stands in a file beside them, since the gate tries
-    all of a crate anew where one of them changes."""
+    """Writes into a wrong body by what it is refused. For those that the gate tries it stands in a file beside them, so that
+    what the gate tries stays as it is."""
     folder = ROOT / "crates" / edit.crate / edit.folder
     if edit.folder == "must-fail":
         beside = folder / BESIDE
