@@ -5,7 +5,7 @@
 
 LEXLOOK is the program, as crates/lexlook/out/lexlook. For each specification of examples/ flex is run with -s. The rules that it warns of
 as ones that cannot be matched must be those for which no text is shown, by their lines, and it must warn that the default rule can be
-matched where a byte of that rule is shown. A line is printed for each specification; the status is 1 where something differs. It wants
+matched where a byte of that rule is shown in some condition. A line is printed for each specification; the status is 1 where something differs. It wants
 flex 2.6.4, and is no part of the gate."""
 import os
 import re
@@ -26,7 +26,7 @@ def of_flex(spec):
 def of_lexlook(lexlook, spec):
     """The lines of the rules for which no text is shown, and whether a byte of the default rule is."""
     shown = subprocess.run([lexlook, "words", spec], capture_output=True, text=True, check=True).stdout
-    return SHOWN_USELESS.findall(shown), "\ndefault rule cannot be matched\n" not in shown
+    return SHOWN_USELESS.findall(shown), "\ndefault rule: " in shown
 
 
 def main():

@@ -82,6 +82,8 @@ def failures():
     yield Run(f"words {300 * 'n'}", status=66, told=b"lexlook: " + 300 * b"n" + b": File name too long\n")
     for words in ("picture bad.l", "words bad.l", "lines bad.l", "trace bad.l", "header bad.l", "same bad.l small.l", "same small.l bad.l"):
         yield Run(words, status=65, told=refused)
+    for words in ("picture small", "words small", "trace small", "header small"):
+        yield Run(words, status=65, told=b"lexlook: small: a table file, and no specification\n")
     yield Run("words -", b"foo\n%%\n", 65, told=b"lexlook: -: line 1: BadDefinitionLine\n")
     yield Run("same bad.l cut", status=65, told=refused)
     yield Run("same cut bad.l", status=65, told=bad)

@@ -1,13 +1,13 @@
 -- The line in which lexlook reports a failure. (This project's. The reasons are those of POSIX, Error Numbers, with the
 -- numbers and the words that Linux has for them.)
-use Rattle.std.specs.Prelude.{ℕ, ◌==◌, Bool, true, false, if◌then◌else◌, List, [], ◌∷◌, ◌++◌, codes, string_bytes}
+use Rattle.std.specs.Prelude.{ℕ, ◌==◌, Bool, false, if◌then◌else◌, List, [], ◌∷◌, ◌++◌, codes, string_bytes}
 use Rattle.std.specs.List.{concat}
 use Rattle.lexkit.specs.Faults.{with_newline, scan_status, scan_words, status_of}
 use Rattle.lexkit.specs.declared.failure.Failure.{Failure}
 use Rattle.lexkit.specs.declared.failure.Failure.TheVariants.{Usage, Scan, File, Output}
 use Rattle.lexkit.specs.declared.faults.Fault.TheVariants as faults
 use Rattle.lexlook.specs.declared.failure.LookFailure.{LookFailure}
-use Rattle.lexlook.specs.declared.failure.LookFailure.TheVariants.{Plain, Refused, Unread}
+use Rattle.lexlook.specs.declared.failure.LookFailure.TheVariants.{Plain, Refused, Table, Unread}
 
 -- why a file cannot be read, by the system's number
 abbrev pub reason_words : ℕ → List ℕ
@@ -37,11 +37,13 @@ is_refusal failure = false
 abbrev pub failure_front : LookFailure → List ℕ
 failure_front (Plain failure) = codes "lexlook: "
 failure_front (Refused file failure) = concat (codes "lexlook: " ∷ string_bytes file ∷ codes ": " ∷ [])
+failure_front (Table file) = concat (codes "lexlook: " ∷ string_bytes file ∷ codes ": " ∷ [])
 failure_front (Unread file reason) = concat (codes "lexlook: " ∷ string_bytes file ∷ codes ": " ∷ [])
 
 abbrev pub failure_words : LookFailure → List ℕ
 failure_words (Plain failure) = told_words failure
 failure_words (Refused file failure) = told_words failure
+failure_words (Table file) = codes "a table file, and no specification"
 failure_words (Unread file reason) = reason_words reason
 
 abbrev pub failure_line : LookFailure → List ℕ
@@ -54,8 +56,10 @@ told_status (Scan e) = status_of (faults.Scan e)
 told_status (File name) = 66
 told_status Output = status_of faults.Output
 
--- The program ends with the same, and with 66 where a file cannot be read, for whatever reason. (BSD's sysexits.)
+-- The program ends with the same, with 65 at a table file in the place of a specification, and with 66 where a file
+-- cannot be read, for whatever reason. (BSD's sysexits.)
 abbrev pub failure_status : LookFailure → ℕ
 failure_status (Plain failure) = told_status failure
 failure_status (Refused file failure) = told_status failure
+failure_status (Table file) = 65
 failure_status (Unread file reason) = 66

@@ -21,6 +21,8 @@ pub enum LookFailure {
     Plain(Failure),
     /// This file is refused so.
     Refused { file: String, failure: Failure },
+    /// This file is a table file, where a specification is asked for.
+    Table { file: String },
     /// This file cannot be read, for the reason that has this number. It is 0 where the system gives none.
     Unread { file: String, reason: u32 },
 }
@@ -51,13 +53,15 @@ impl LookFailure {
         }
     }
 
-    /// The exit status: that of lex, and 66 for a file that cannot be read.
+    /// The exit status: that of lex, 65 for a table file in the place of a specification, and 66 for a file that cannot be
+    /// read.
     fn status(&self) -> u8
         ensures { result ≡ failure_status self.now }
     {
         match self {
             LookFailure::Plain(failure) => failure.fault().status(),
             LookFailure::Refused { failure, .. } => failure.fault().status(),
+            LookFailure::Table { .. } => 65,
             LookFailure::Unread { .. } => 66,
         }
     }
@@ -99,6 +103,7 @@ fn put_front<K: Sink>(failure: &LookFailure, sink: &mut K) -> Result<(), WriteFa
     match failure {
         LookFailure::Plain(_) => put_all(sink, &["lexlook: "]),
         LookFailure::Refused { file, .. } => put_all(sink, &["lexlook: ", file.as_str(), ": "]),
+        LookFailure::Table { file } => put_all(sink, &["lexlook: ", file.as_str(), ": "]),
         LookFailure::Unread { file, .. } => put_all(sink, &["lexlook: ", file.as_str(), ": "]),
     }
 }
@@ -112,6 +117,7 @@ fn put_words<K: Sink>(failure: &LookFailure, sink: &mut K) -> Result<(), WriteFa
     match failure {
         LookFailure::Plain(failure) => write_words(failure.fault(), sink),
         LookFailure::Refused { failure, .. } => write_words(failure.fault(), sink),
+        LookFailure::Table { .. } => put_all(sink, &["a table file, and no specification", "\n"]),
         LookFailure::Unread { reason, .. } => put_all(sink, &[reason_words(*reason), "\n"]),
     }
 }

@@ -21,13 +21,13 @@ mod failure;
 mod reading;
 
 use crate::failure::{LookFailure, report};
-use crate::reading::{ReadFile, read_file, read_files, source_files};
+use crate::reading::{ReadFile, read_file, read_files, read_spec_file, source_files};
 use lex_command::{
     About, ArgsError, Look, PatternFlags, Subcommand, read_look_args, write_help, write_version,
 };
 use lexkit::{
     ByteReader, ByteWriter, Failure, FromBytes, MAX_POSITIONS, MAX_STATES, MAX_TABLE_BYTES,
-    MemorySink, Options, SPEC_READ_BYTES, Sink, ToBytes, ToWrite, command_words,
+    MemorySink, Options, Sink, ToBytes, ToWrite, command_words,
 };
 use lexlook_calls::{
     Given, Language, LookError, draw, tell_header, tell_lines, tell_same, tell_words, trace,
@@ -201,11 +201,11 @@ fn show_check(
     show(rt, Told::Check(files.as_slice(), form, strict), options)
 }
 
-/// The bytes that are read of a file at most: one more than it may have.
-fn room_of(what: Subcommand) -> u64 {
+/// Reads the file of which this is shown, one byte more than it may have at most.
+fn read_one(rt: &HostRuntime, what: Subcommand, file: String) -> Result<ReadFile, LookFailure> {
     match what {
-        Subcommand::Lines => MAX_TABLE_BYTES + 1,
-        Subcommand::Picture | Subcommand::Words | Subcommand::Trace => SPEC_READ_BYTES,
+        Subcommand::Lines => read_file(rt, file, MAX_TABLE_BYTES + 1),
+        Subcommand::Picture | Subcommand::Words | Subcommand::Trace => read_spec_file(rt, file),
     }
 }
 
@@ -244,7 +244,7 @@ fn run(rt: &HostRuntime) -> Result<ExitCode, LookFailure> {
             file,
             patterns,
         } => {
-            let read = read_file(rt, file, room_of(what))?;
+            let read = read_one(rt, what, file)?;
             let shown = show_one(rt, what, read.bytes.as_slice(), options_of(patterns));
             shown_of(shown, read.name)
         }
@@ -273,7 +273,7 @@ fn run(rt: &HostRuntime) -> Result<ExitCode, LookFailure> {
             rust,
             patterns,
         } => {
-            let read = read_file(rt, file, SPEC_READ_BYTES)?;
+            let read = read_spec_file(rt, file)?;
             let language = if rust { Language::Rust } else { Language::C };
             let header = Told::Header(read.bytes.as_slice(), language);
             let shown = show(rt, header, options_of(patterns));

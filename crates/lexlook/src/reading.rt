@@ -1,10 +1,12 @@
 //! The files that the program reads: one of a subcommand, two that are compared, or those that are a specification together.
-ghost use Rattle.std.specs.Prelude.{◌≡◌, ◌⊎◌, ℕ, IfErr};
+ghost use Rattle.std.specs.Prelude.{◌≡◌, ◌⊎◌, ℕ, false, IfErr, IfOk};
 ghost use Rattle.lexkit.specs.Failures.{out_of_memory};
+ghost use Rattle.lexlook_calls.specs.Sides.{is_table_file};
 ghost use Rattle.lexlook.specs.declared.failure.LookFailure.{LookFailure};
 
 use crate::failure::LookFailure;
 use lexkit::{Failure, SPEC_READ_BYTES, read_more};
+use lexlook_calls::is_table_file;
 use lexlook_check::SourceFile;
 use std::alloc::{AllocError, Global};
 
@@ -28,6 +30,18 @@ pub fn read_file(rt: &HostRuntime, name: String, most: u64) -> Result<ReadFile, 
             Err(LookFailure::unread(error.kind(), reason, name))
         }
     }
+}
+
+/// The bytes of a file that is to be a specification: one more than it may have at most. A table file is refused. `-` is
+/// standard input.
+pub fn read_spec_file(rt: &HostRuntime, name: String) -> Result<ReadFile, LookFailure>
+    ensures { IfOk result (λ file. is_table_file file.bytes.items ≡ false) }
+{
+    let file = read_file(rt, name, SPEC_READ_BYTES)?;
+    if is_table_file(file.bytes.as_slice()) {
+        return Err(LookFailure::Table { file: file.name });
+    }
+    Ok(file)
 }
 
 /// The files that are a specification together. Of a longer one than a specification may be it is one byte more, and what

@@ -27,14 +27,14 @@ module _ (a : Side) (laws : MachineLaws a.machine) where
   below : (c d : ℕ) → d ≡ c → c < a.machine.conditions → d < a.machine.conditions
   below c d e lt = omega (arith, e, lt)
 
-  can_tell : IsLabelled a → (o : Obstacle) (k : List ℕ) → Hinders a.machine o k → CanTell a.given o
-  can_tell l (Unsteady i) k h = has_rule a.given l i h.1.0
+  can_tell : IsLabelled a → (o : Obstacle) (k : List ℕ) → Hinders a.machine o k → CanTell a.machine a.given o
+  can_tell l (Unsteady i) k h = (h.1.0, has_rule a.given l i h.1.0)
   can_tell l (Crosses d i) k h = (has_condition a.given l d (below h.0 d h.3.4.0 h.1), has_rule a.given l i (laws.in_range _ i h.3.4.2.3))
-  can_tell l (Strays d i) k h = (has_condition a.given l d (below h.0 d h.3.4.0 h.1), has_rule a.given l i (laws.in_range _ i h.3.4.2.0))
+  can_tell l (Strays d i) k h = (laws.in_range _ i h.3.4.2.0, has_condition a.given l d (below h.0 d h.3.4.0 h.1), has_rule a.given l i (laws.in_range _ i h.3.4.2.0))
   can_tell l (Copies d) k h = has_condition a.given l d (below h.0 d h.3.0 h.1)
   can_tell l Writes k h = tt
 
-  pub can_tell_some : IsLabelled a → (o : Option Obstacle) → FirstOf (Hinders a.machine) o → IfSome o (CanTell a.given)
+  pub can_tell_some : IsLabelled a → (o : Option Obstacle) → FirstOf (Hinders a.machine) o → IfSome o (CanTell a.machine a.given)
   can_tell_some l None h = tt
   can_tell_some l (Some o) h = can_tell l o h.0 h.1
 

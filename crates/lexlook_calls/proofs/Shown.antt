@@ -23,7 +23,7 @@ use Rattle.lexlook_specs.specs.declared.words.finding.Word.TheVariants.{Taken, N
 use Rattle.lexlook_specs.specs.declared.words.finding.Words.{Words}
 use Rattle.lex_semantics.specs.Spec.{has_reject, statements_at}
 use Rattle.lexlook_calls.specs.Looks.{names_of}
-use Rattle.lexlook_calls.specs.Words.{AreLabelled, AreWordsOf, HasLabels, word_lines}
+use Rattle.lexlook_calls.specs.Words.{AreLabelled, AreWordsOf, HasLabel, HasLabels, word_lines}
 use Rattle.lexlook_specs.proofs.FitsAlike.{automaton_alike, positions_same, subsets_from, subsets_to}
 use Rattle.lexlook_specs.proofs.MatchesAlike.{words_alike}
 
@@ -36,7 +36,8 @@ pub labelled : (S : Spec) (v : Words) → AreWords (matches_of S) v → AreLabel
 labelled S v a = record {
   each = a.each ∙ sym (length-map S.rules (λ (r : Rule). r.line));
   rules = λ i x e. label i x (a.rules i x e);
-  default = λ p e. of_default v.default p e a.default;
+  in_each = a.in_each ∙ sym n;
+  defaults = λ c o e. of_default c o (a.defaults c o e);
 }
   where
     n : length (names_of S.conditions) ≡ length S.conditions
@@ -49,9 +50,9 @@ labelled S v a = record {
     label i (Taken q) t = (let low = t.input.condition in omega (arith, low, n))
     label i (Never js) t = λ j b. (let r = (t.takers j).0 b in let low = known_rule S.rules j (r.5.0.1).rule (r.5.0.1).at in omega (arith, low, m))
 
-    of_default : (o : Option ShownText) (p : ShownText) → o ≡ Some p → TellsDefault (matches_of S) o → p.condition < length (names_of S.conditions)
-    of_default None p e t = absurd cc
-    of_default (Some q) p e t = (let same : q ≡ p = cc in let low = t.0.input.condition in let lt : q.condition < length (names_of S.conditions) = omega (arith, low, n) in subst (λ (k : ShownText). k.condition < length (names_of S.conditions)) same lt)
+    of_default : (c : ℕ) (o : Option ShownText) → TellsDefault (matches_of S) c o → HasLabel (names_of S.conditions) o
+    of_default c None t = tt
+    of_default c (Some q) t = (let low = t.0.input.condition in omega (arith, low, n))
 
 -- the names and lines stay as they were
 pub names_same : (S T : Spec) → T ≡ rejecting S → names_of T.conditions ≡ names_of S.conditions

@@ -3,6 +3,7 @@ pub mod Looks
 pub mod Sides
 pub mod Naming
 pub mod Lines
+pub mod Reasons
 pub mod Compared
 pub mod Cuts
 pub mod SameFiles

@@ -1,6 +1,6 @@
 -- What is told of the texts that rules take. (flex tells of a rule that cannot be matched, and by -s of a default rule
 -- that can be.)
-use Rattle.std.specs.Prelude.{◌≡◌, ℕ, ◌<◌, List, [], ◌∷◌, ◌++◌, length, Option, Some, None, Result, Ok, Err, codes, decimal, slice_get, slice_index, slice_index_or}
+use Rattle.std.specs.Prelude.{◌≡◌, ℕ, ◌<◌, ⊤, List, [], ◌∷◌, ◌++◌, length, Option, Some, None, Result, Ok, Err, codes, decimal, slice_get, slice_index, slice_index_or}
 use Rattle.std.specs.List.{concat, flat_map, range_with_len}
 use Rattle.lex_io.specs.Sink.{Appended}
 use Rattle.lex_semantics.specs.Spec.{Spec}
@@ -48,16 +48,26 @@ abbrev pub word_line : List (List ℕ) → List ℕ → ℕ → Option Word → 
 word_line names lines i None = []
 word_line names lines i (Some x) = concat (codes "at" ∷ line_words lines i ∷ told_words names lines x ∷ [])
 
--- the line of the default rule
-abbrev pub default_line : List (List ℕ) → Option ShownText → List ℕ
-default_line names None = codes "default rule cannot be matched\n"
-default_line names (Some p) = codes "default rule" ++ shown_place names p
+-- the line of the default rule in a condition
+abbrev pub default_line : List (List ℕ) → ℕ → Option (Option ShownText) → List ℕ
+default_line names c None = []
+default_line names c (Some None) =
+    concat (codes "default rule cannot be matched in " ∷ slice_index_or names c [] ∷ codes "\n" ∷ [])
+default_line names c (Some (Some p)) = codes "default rule" ++ shown_place names p
 
--- a line for each rule, in the order of the file, and that of the default rule
+-- a line for each rule, in the order of the file
+abbrev pub lines_of_rules : List (List ℕ) → List ℕ → List Word → List ℕ
+lines_of_rules names lines ws =
+    flat_map (λ i. word_line names lines i (slice_get ws i)) (range_with_len 0 (length ws))
+
+-- a line of the default rule for each condition
+abbrev pub lines_of_default : List (List ℕ) → List (Option ShownText) → List ℕ
+lines_of_default names ps =
+    flat_map (λ c. default_line names c (slice_get ps c)) (range_with_len 0 (length ps))
+
+-- all of them
 abbrev pub word_lines : List (List ℕ) → List ℕ → Words → List ℕ
-word_lines names lines v =
-    flat_map (λ i. word_line names lines i (slice_get v.rules.items i)) (range_with_len 0 (length v.rules.items))
-    ++ default_line names v.default
+word_lines names lines v = lines_of_rules names lines v.rules.items ++ lines_of_default names v.defaults.items
 
 -- the texts that the rules of a specification take, whose automaton is within the limits
 pub record AreWordsOf (limits : Limits) (S : Spec) (v : Words) : Type 0 where
@@ -87,7 +97,12 @@ abbrev pub HasLabels : List (List ℕ) → List ℕ → Word → Type 0
 HasLabels names lines (Taken p) = p.condition < length names
 HasLabels names lines (Never js) = (j : ℕ) → Among js.items j → j < length lines
 
+abbrev pub HasLabel : List (List ℕ) → Option ShownText → Type 0
+HasLabel names None = ⊤
+HasLabel names (Some p) = p.condition < length names
+
 pub record AreLabelled (names : List (List ℕ)) (lines : List ℕ) (v : Words) : Type 0 where
   pub each : length v.rules.items ≡ length lines
   pub rules : (i : ℕ) (x : Word) → slice_get v.rules.items i ≡ Some x → HasLabels names lines x
-  pub default : (p : ShownText) → v.default ≡ Some p → p.condition < length names
+  pub in_each : length v.defaults.items ≡ length names
+  pub defaults : (c : ℕ) (o : Option ShownText) → slice_get v.defaults.items c ≡ Some o → HasLabel names o

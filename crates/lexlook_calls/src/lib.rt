@@ -6,7 +6,8 @@
 //! - `sides`: what a file stands for that is compared or cut, a specification or a table file.
 //! - `picture`: the picture of the least automaton, `draw`.
 //! - `same`: whether two files do the same, `tell_same`. `naming` pairs their conditions, and `telling` makes the line.
-//! - `lines`: what stands against cuts of an input at its newlines, `tell_lines`.
+//! - `lines`: what stands against cuts of an input at its newlines, `tell_lines`. `reasons` has by which of its statements a
+//!   rule does.
 //! - `words`: the texts that rules take, `tell_words`.
 //! - `header`: the rules as constants of a program, `tell_header`.
 //! - `tracing`: the lines of the matches of a scan, `trace`.
@@ -35,6 +36,7 @@ mod labels;
 mod laws;
 mod lines;
 mod picture;
+mod reasons;
 mod same;
 mod sides;
 mod tracing;
@@ -46,5 +48,6 @@ pub use laws::{equal_are_same, examples_of_headers, one_picture, same_scan_alike
 pub use lines::tell_lines;
 pub use picture::draw;
 pub use same::{Given, tell_same};
+pub use sides::is_table_file;
 pub use tracing::trace;
 pub use words::tell_words;

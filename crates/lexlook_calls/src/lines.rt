@@ -1,8 +1,10 @@
 //! Whether an input may be cut after any newline, and its pieces scanned apart.
-ghost use Rattle.std.specs.Prelude.{◌≡◌, ◌≤◌, ◌<◌, ◌+◌, ◌-◌, ◌^◌, ◌++◌, List, ℕ, IfOk, IfSome, OnOk};
+ghost use Rattle.std.specs.Prelude.{◌≡◌, ◌≤◌, ◌<◌, ◌+◌, ◌-◌, ◌^◌, ◌++◌, List, ℕ, map, IfOk, IfSome, OnOk};
 ghost use Rattle.lex_semantics.specs.Limits.{max_positions, max_states};
 ghost use Rattle.lextab_packed.specs.Machines.{table_machine};
-ghost use Rattle.lexlook_calls.specs.Cuts.{rule_place, obstacle_line, cut_line, HasCondition, HasRule, CanTell};
+ghost use Rattle.lex_machine.specs.Views.{statement_of};
+ghost use Rattle.lexlook_calls.specs.Cuts.{rule_place, unsteady_line, straying_line, copying_line, obstacle_line, cut_line};
+ghost use Rattle.lexlook_calls.specs.Cuts.{HasCondition, HasRule, CanTell};
 ghost use Rattle.lexlook_calls.specs.Cuts.{is_nothing, CutsOf, TellsCuts};
 ghost use Rattle.lexlook_calls.specs.Errors.{look_fault_count};
 ghost use Rattle.lexlook_calls.specs.Lines.{IsLabelled, side_as};
@@ -10,7 +12,9 @@ ghost use Rattle.lexlook_calls.specs.Sides.{read_as};
 
 use crate::error::LookError;
 use crate::labels::{add_condition, add_rule};
+use crate::reasons::{straying_words, unsteady_words};
 use crate::sides::{Side, side_of};
+use lex_machine::{Machine, Statement};
 use lexkit::{Options, Sink};
 use lexlook_specs::add;
 use lexlook_tables::{Obstacle, find_obstacle_in};
@@ -34,25 +38,47 @@ fn add_rule_place(
     add_rule(text, given, rule)
 }
 
-/// Appends the line of a rule that may not stand there.
-fn add_unsteady(text: &mut Vec<u8>, given: &Option<Spec>, rule: u32) -> Result<(), AllocError>
+/// Appends the line of a rule with these statements that may not stand there.
+fn add_unsteady(
+    text: &mut Vec<u8>,
+    given: &Option<Spec>,
+    statements: &[Statement],
+    rule: u32,
+) -> Result<(), AllocError>
     requires { HasRule (read_as given.now) rule }
     ensures { OnOk result (text.new.items ≡ text.old.items
-        ++ obstacle_line (read_as given.now) (Obstacle.Unsteady rule)) }
+        ++ unsteady_line (read_as given.now) (map statement_of statements.now) rule) }
 {
     add(text, b"at")?;
     add_rule(text, given, rule)?;
-    add(
-        text,
-        b": it ends the scan, uses the stack of conditions, or has BEGIN and REJECT\n",
-    )
+    add(text, b": ")?;
+    add(text, unsteady_words(statements).as_bytes())?;
+    add(text, b"\n")
+}
+
+/// Appends the line of a rule with these statements that may not take a newline.
+fn add_straying(
+    text: &mut Vec<u8>,
+    given: &Option<Spec>,
+    statements: &[Statement],
+    condition: u8,
+    rule: u32,
+) -> Result<(), AllocError>
+    requires condition { HasCondition (read_as given.now) condition }
+    requires rule { HasRule (read_as given.now) rule }
+    ensures { OnOk result (text.new.items ≡ text.old.items
+        ++ straying_line (read_as given.now) (map statement_of statements.now) condition rule) }
+{
+    add_rule_place(text, given, condition, rule)?;
+    add(text, b": after a newline ")?;
+    add(text, straying_words(statements).as_bytes())?;
+    add(text, b"\n")
 }
 
 /// Appends the line of a condition in which newlines are copied.
 fn add_copies(text: &mut Vec<u8>, given: &Option<Spec>, condition: u8) -> Result<(), AllocError>
     requires { HasCondition (read_as given.now) condition }
-    ensures { OnOk result (text.new.items ≡ text.old.items
-        ++ obstacle_line (read_as given.now) (Obstacle.Copies condition)) }
+    ensures { OnOk result (text.new.items ≡ text.old.items ++ copying_line (read_as given.now) condition) }
 {
     add(text, b"in ")?;
     add_condition(text, given, condition)?;
@@ -60,26 +86,24 @@ fn add_copies(text: &mut Vec<u8>, given: &Option<Spec>, condition: u8) -> Result
 }
 
 /// Appends the line of what stands against cuts.
-fn add_obstacle(
-    text: &mut Vec<u8>,
-    given: &Option<Spec>,
-    obstacle: Obstacle,
-) -> Result<(), AllocError>
-    requires { CanTell (read_as given.now) obstacle }
-    ensures { OnOk result (text.new.items ≡ text.old.items ++ obstacle_line (read_as given.now) obstacle) }
+fn add_obstacle(text: &mut Vec<u8>, side: &Side, obstacle: Obstacle) -> Result<(), AllocError>
+    requires { CanTell (table_machine side.now.tables) (read_as side.now.spec) obstacle }
+    ensures { OnOk result (text.new.items
+        ≡ text.old.items ++ obstacle_line (table_machine side.now.tables) (read_as side.now.spec) obstacle) }
 {
+    let given = &side.spec;
     match obstacle {
-        Obstacle::Unsteady { rule } => add_unsteady(text, given, rule),
+        Obstacle::Unsteady { rule } => {
+            let (_, statements) = side.tables.rule(rule);
+            add_unsteady(text, given, statements, rule)
+        }
         Obstacle::Crosses { condition, rule } => {
             add_rule_place(text, given, condition, rule)?;
             add(text, b": a match may go on after a newline\n")
         }
         Obstacle::Strays { condition, rule } => {
-            add_rule_place(text, given, condition, rule)?;
-            add(
-                text,
-                b": after a newline the scan is not in INITIAL, or the text is kept\n",
-            )
+            let (_, statements) = side.tables.rule(rule);
+            add_straying(text, given, statements, condition, rule)
         }
         Obstacle::Copies { condition } => add_copies(text, given, condition),
         Obstacle::Writes => add(text, b"at the end of the input something is written\n"),
@@ -87,17 +111,14 @@ fn add_obstacle(
 }
 
 /// The line of what stands against cuts, and no byte where nothing does.
-fn cut_line(
-    alloc: Global,
-    given: &Option<Spec>,
-    found: Option<Obstacle>,
-) -> Result<Vec<u8>, AllocError>
-    requires { IfSome found (CanTell (read_as given.now)) }
-    ensures { IfOk result (λ line. line.items ≡ cut_line (read_as given.now) found) }
+fn cut_line(alloc: Global, side: &Side, found: Option<Obstacle>) -> Result<Vec<u8>, AllocError>
+    requires { IfSome found (CanTell (table_machine side.now.tables) (read_as side.now.spec)) }
+    ensures { IfOk result (λ line. line.items
+        ≡ cut_line (table_machine side.now.tables) (read_as side.now.spec) found) }
 {
     let mut text = Vec::new(alloc);
     if let Some(obstacle) = found {
-        add_obstacle(&mut text, given, obstacle)?;
+        add_obstacle(&mut text, side, obstacle)?;
     }
     Ok(text)
 }
@@ -123,7 +144,7 @@ fn tell_cuts<K: Sink>(alloc: Global, side: &Side, sink: &mut K) -> Result<bool, 
         Err(_) => return Err(LookError::OutOfMemory),
         Ok(found) => found,
     };
-    let line = match cut_line(alloc, &side.spec, found) {
+    let line = match cut_line(alloc, side, found) {
         Err(_) => return Err(LookError::OutOfMemory),
         Ok(line) => line,
     };

@@ -19,8 +19,8 @@ pub(crate) struct Side {
     pub spec: Option<Spec>,
 }
 
-/// Whether the bytes are taken for those of a table file.
-fn is_table_file(bytes: &[u8]) -> bool
+/// Whether the bytes are taken for those of a table file: they begin with `LEXTAB` and a byte that is 0.
+pub fn is_table_file(bytes: &[u8]) -> bool
     ensures { result ≡ is_table_file bytes.now }
 {
     bytes.starts_with(b"LEXTAB\0")

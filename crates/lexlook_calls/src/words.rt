@@ -11,8 +11,8 @@ ghost use Rattle.lexkit.specs.Generated.{SpecRefusal, lines_of};
 ghost use Rattle.lexlook_specs.specs.Rejecting.{rejecting};
 ghost use Rattle.lexlook_calls.specs.Errors.{look_fault_count};
 ghost use Rattle.lexlook_calls.specs.Looks.{names_of};
-ghost use Rattle.lexlook_calls.specs.Words.{AreLabelled, AreWordsOf, HasLabels, TellsWords};
-ghost use Rattle.lexlook_calls.specs.Words.{default_line, line_words, never_words, shown_place, word_line, word_lines};
+ghost use Rattle.lexlook_calls.specs.Words.{AreLabelled, AreWordsOf, HasLabel, HasLabels, TellsWords};
+ghost use Rattle.lexlook_calls.specs.Words.{default_line, lines_of_default, line_words, never_words, lines_of_rules, shown_place, word_line, word_lines};
 
 use crate::error::LookError;
 use crate::labels::{add_start, add_string, names_of};
@@ -96,22 +96,58 @@ fn add_word(
     }
 }
 
-/// Appends the line of the default rule.
+/// Appends the line of the default rule in a condition.
 fn add_default(
     text: &mut Vec<u8>,
     names: &[&[u8]],
+    condition: usize,
     place: &Option<ShownText>,
 ) -> Result<(), AllocError>
-    requires { (p : ShownText) → place.now ≡ Some p → p.condition < length names.now }
-    ensures { OnOk result (text.new.items ≡ text.old.items ++ default_line (map (λ n. n.now) names.now) place.now) }
+    requires condition { condition < length names.now }
+    requires label { HasLabel (map (λ n. n.now) names.now) place.now }
+    ensures { OnOk result (text.new.items
+        ≡ text.old.items ++ default_line (map (λ n. n.now) names.now) condition (Some place.now)) }
 {
     match place {
-        None => add(text, b"default rule cannot be matched\n"),
+        None => {
+            add(text, b"default rule cannot be matched in ")?;
+            add(text, names[condition])?;
+            add(text, b"\n")
+        }
         Some(place) => {
             add(text, b"default rule")?;
             add_place(text, names, place)
         }
     }
+}
+
+/// Appends a line for each rule.
+fn add_rules(
+    text: &mut Vec<u8>,
+    names: &[&[u8]],
+    lines: &[u32],
+    words: &Words,
+) -> Result<(), AllocError>
+    requires { AreLabelled (map (λ n. n.now) names.now) lines.now words.now }
+    ensures { OnOk result (text.new.items
+        ≡ text.old.items ++ lines_of_rules (map (λ n. n.now) names.now) lines.now words.now.rules.items) }
+{
+    for rule in 0..words.rules.len() {
+        add_word(text, names, lines, rule, &words.rules[rule])?;
+    }
+    Ok(())
+}
+
+/// Appends a line of the default rule for each condition.
+fn add_defaults(text: &mut Vec<u8>, names: &[&[u8]], words: &Words) -> Result<(), AllocError>
+    requires { (lines : List ℕ) × AreLabelled (map (λ n. n.now) names.now) lines words.now }
+    ensures { OnOk result (text.new.items
+        ≡ text.old.items ++ lines_of_default (map (λ n. n.now) names.now) words.now.defaults.items) }
+{
+    for condition in 0..words.defaults.len() {
+        add_default(text, names, condition, &words.defaults[condition])?;
+    }
+    Ok(())
 }
 
 /// The lines of what was found.
@@ -125,10 +161,8 @@ fn word_lines(
     ensures { IfOk result (λ text. text.items ≡ word_lines (map (λ n. n.now) names.now) lines.now words.now) }
 {
     let mut text = Vec::new(alloc);
-    for rule in 0..words.rules.len() {
-        add_word(&mut text, names, lines, rule, &words.rules[rule])?;
-    }
-    add_default(&mut text, names, &words.default)?;
+    add_rules(&mut text, names, lines, words)?;
+    add_defaults(&mut text, names, words)?;
     Ok(text)
 }
 
@@ -171,8 +205,8 @@ fn words_of(alloc: Global, spec: Spec, limits: Limits) -> Result<Found, GenError
 }
 
 /// Writes for each rule of the specification that a text spells a line with the first of the shortest texts that it
-/// takes, or with the rules that take its texts; and a line of the default rule. A text that spells no specification,
-/// or one whose automaton passes the limits, is refused, and then nothing is written.
+/// takes, or with the rules that take its texts; and a line of the default rule for each condition. A text that spells no
+/// specification, or one whose automaton passes the limits, is refused, and then nothing is written.
 pub fn tell_words<K: Sink>(
     alloc: Global,
     text: &[u8],

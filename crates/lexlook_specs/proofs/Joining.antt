@@ -1,6 +1,6 @@
 -- Texts that are made part by part.
-use Rattle.std.proofs.Common.{◌≡◌, ℕ, zero, suc, ◌+◌, ◌<◌, ◌==◌, Bool, true, false, not, cond, if◌then◌else◌, codes, List, [], ◌∷◌, ◌++◌, length, map, get_or, inl, inr, refl, ap, sym, ◌∙◌, append_assoc, append-nil, arith, flat_map}
-use Rattle.std.specs.Prelude.{slice_index}
+use Rattle.std.proofs.Common.{◌≡◌, ℕ, zero, suc, ◌+◌, ◌<◌, ◌==◌, Bool, true, false, not, cond, if◌then◌else◌, codes, List, [], ◌∷◌, ◌++◌, length, map, get_or, Some, inl, inr, refl, ap, sym, subst, ◌∙◌, append_assoc, append-nil, arith, flat_map}
+use Rattle.std.specs.Prelude.{slice_get, slice_index}
 use Rattle.std.specs.List.{range_with_len, count_by}
 use Rattle.std.proofs.lemmas.Grind.{flat_map-append}
 use Rattle.std.proofs.lemmas.List.FromFn.{get_or-map-range_with_len, length-map-range_with_len}
@@ -123,3 +123,10 @@ in_six old a b c d e f one two three four five text h1 h2 h3 h4 h5 h6 =
 -- a name is that of its condition
 pub name_at : (names : List (Bor (List ℕ))) (i : ℕ) (name : Bor (List ℕ)) → i < length names → name ≡ get_or names i name → name.now ≡ get_or (map (λ n. n.now) names) i []
 name_at names i name h e = ap (λ n. n.now) e ∙ sym (get_or-map (λ (n : Bor (List ℕ)). n.now) names i name [] h)
+
+-- what holds of each element of a list holds of those of a longer one, if it holds of the last
+pub each_pushed : {A : Type 0} (P : ℕ → A → Type 0) (xs : List A) (x : A) → ((i : ℕ) (y : A) → slice_get xs i ≡ Some y → P i y) → P (length xs) x → (i : ℕ) (y : A) → slice_get (xs ++ x ∷ []) i ≡ Some y → P i y
+each_pushed P [] x each here zero y e = (let same : x ≡ y = cc in subst (P 0) same here)
+each_pushed P [] x each here (suc i) y e = absurd cc
+each_pushed P (z ∷ xs) x each here zero y e = each 0 y e
+each_pushed P (z ∷ xs) x each here (suc i) y e = each_pushed (λ j. P (suc j)) xs x (λ j v f. each (suc j) v f) here i y e

@@ -5,7 +5,7 @@ use Rattle.std.proofs.lemmas.Option.{slice_get_within}
 use Rattle.lex_semantics.proofs.Texts.{is_text_take}
 use Rattle.lexlook_specs.specs.Copied.{AreCopied, CopiesByte, IsFirstCopied}
 use Rattle.lexlook_specs.specs.Matches.{RuleMatches, IsInput, IsCopied, TakesText}
-use Rattle.lexlook_specs.specs.Words.{AreTakers, AreWords, IsFirst, IsWordOf, TellsDefault}
+use Rattle.lexlook_specs.specs.Words.{AreTakers, AreWords, IsCopiedIn, IsFirst, IsWordOf, TellsDefault}
 use Rattle.lexlook_specs.specs.declared.words.finding.ShownText.{ShownText}
 use Rattle.lexlook_specs.specs.declared.words.finding.Word.{Word}
 use Rattle.lexlook_specs.specs.declared.words.finding.Word.TheVariants.{Taken, Never}
@@ -65,15 +65,16 @@ module _ (m n : RuleMatches) (a : AreAlike m n) where
   to_tells i (Taken q) t = to_first (λ c line w. TakesText m c line w i) (λ c line w. TakesText n c line w i) (λ c line w h. (to_takes c line w i h, from_takes c line w i h)) q t
   to_tells i (Never js) t = to_takers i js.items t
 
-  to_default : (o : Option ShownText) → TellsDefault m o → TellsDefault n o
-  to_default None none = λ c line w h copied. none c line w (from_input c w h) (from_copied c line w (from_input c w h) copied)
-  to_default (Some q) t = (to_first (IsCopied m) (IsCopied n) (λ c line w h. (to_copied c line w h, from_copied c line w h)) q t.0, t.1)
+  to_default : (d : ℕ) (o : Option ShownText) → TellsDefault m d o → TellsDefault n d o
+  to_default d None none = λ c line w h copied. none c line w (from_input c w h) (copied.0, from_copied c line w (from_input c w h) copied.1)
+  to_default d (Some q) t = (to_first (IsCopiedIn m d) (IsCopiedIn n d) (λ c line w h. (λ it. (it.0, to_copied c line w h it.1), λ it. (it.0, from_copied c line w h it.1))) q t.0, t.1)
 
   pub words_alike : (v : Words) → AreWords m v → AreWords n v
   words_alike v t = record {
     each = t.each ∙ a.count;
     rules = λ i x e. to_tells i x (t.rules i x e);
-    default = to_default v.default t.default;
+    in_each = t.in_each ∙ a.conditions;
+    defaults = λ d o e. to_default d o (t.defaults d o e);
   }
 
   byte_input : (c b : ℕ) → c < m.conditions → b < 256 → IsInput m c (b ∷ [])

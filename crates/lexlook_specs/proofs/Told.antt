@@ -10,6 +10,7 @@ use Rattle.lexauto_reports.specs.Searching.{at, AreFound}
 use Rattle.lexauto_reports.proofs.Orders.{before_trans}
 use Rattle.lexlook_specs.specs.Matches.{RuleMatches, IsInput, IsGivenUp, IsCopied, TakesOf, matches_in}
 use Rattle.lexlook_specs.specs.Matches as M
+use Rattle.lexlook_specs.specs.Copied.{CopiesByte, IsFirstCopied}
 use Rattle.lexlook_specs.specs.Words.{IsFirst, IsNotLater, StartsFirst, AreTakers, TellsDefault}
 use Rattle.lexlook_specs.specs.Placing.{IsFirstStart, MeetsAfter, TakesAt, TakesBelow, takers}
 use Rattle.lexlook_specs.specs.declared.words.finding.ShownText.{ShownText}
@@ -128,40 +129,53 @@ module _ (p : Parts) (a : IsAutomaton p) (rejects : List Bool) where
   pub copied_byte : (c : ℕ) (line : Bool) (x : ℕ) (v : List ℕ) → IsCopied (matches_in p rejects) c line (x ∷ v) → MeetsAfter p rejects (x ∷ []) Copies c line
   copied_byte c line x v copied = (given_up_is c line (x ∷ [])).0 (subst (IsGivenUp (matches_in p rejects) c line) (let e : take 1 (x ∷ v) ≡ x ∷ [] = refl in e) (copied 1 (omega arith) (omega arith)))
 
-  pub no_copied : ((b : ℕ) → b < 256 → IsFirstStart p rejects (b ∷ []) Copies (conditions p) None) → TellsDefault (matches_in p rejects) None
-  no_copied none = λ c line w h copied. no c line w h copied
-    where
-      no : (c : ℕ) (line : Bool) (w : List ℕ) → IsInput (matches_in p rejects) c w → IsCopied (matches_in p rejects) c line w → ⊥
-      no c line [] h copied = let s = h.some in omega (arith, s)
-      no c line (x ∷ v) h copied = none x h.text.0 c line h.condition (copied_byte c line x v copied)
-
   pub one_byte : (c b : ℕ) (line : Bool) → MeetsAfter p rejects (b ∷ []) Copies c line → IsCopied (matches_in p rejects) c line (b ∷ [])
   one_byte c b line m = λ n some few. (let e : n ≡ 1 = omega (arith, some, few) in subst (λ k. IsGivenUp (matches_in p rejects) c line (take k (b ∷ []))) (sym e) ((given_up_is c line (b ∷ [])).1 m))
 
-  pub first_copied : (b : ℕ) (x : Start) (q : ShownText) → b < 256 → ((d : ℕ) → d < b → IsFirstStart p rejects (d ∷ []) Copies (conditions p) None)
-      → IsFirstStart p rejects (b ∷ []) Copies (conditions p) (Some x)
-      → q.condition ≡ x.condition → q.line_start ≡ x.line_start → q.text.items ≡ b ∷ []
-      → TellsDefault (matches_in p rejects) (Some q)
-  first_copied b x q byte none begins same_c same_l same_w = (
+  pub no_copied : (d : ℕ) → ((b : ℕ) → b < 256 → CopiesByte (matches_in p rejects) d b → ⊥) → TellsDefault (matches_in p rejects) d None
+  no_copied d none = λ c line w h copied. no c line w h copied.0 copied.1
+    where
+      no : (c : ℕ) (line : Bool) (w : List ℕ) → IsInput (matches_in p rejects) c w → c ≡ d → IsCopied (matches_in p rejects) c line w → ⊥
+      no c line [] h same copied = let s = h.some in omega (arith, s)
+      no c line (x ∷ v) h same copied = none x h.text.0 (subst (λ k. CopiesByte (matches_in p rejects) k x) same (line, one_byte c x line (copied_byte c line x v copied)))
+
+  -- the first byte that is copied in a condition, where a match starts not at the start of a line, if it is copied so
+  pub first_copied : (d b : ℕ) (q : ShownText) → d < conditions p → IsFirstCopied (matches_in p rejects) d (Some b)
+      → (q.line_start ≡ false → MeetsAfter p rejects (b ∷ []) Copies d false)
+      → (q.line_start ≡ true → MeetsAfter p rejects (b ∷ []) Copies d false → ⊥)
+      → q.condition ≡ d → q.text.items ≡ b ∷ []
+      → TellsDefault (matches_in p rejects) d (Some q)
+  first_copied d b q known (byte, copies, none) within begins same_c same_w = (
     record {
       input = record {
-        condition = subst (λ c. c < conditions p) (sym same_c) begins.0;
+        condition = subst (λ c. c < conditions p) (sym same_c) known;
         text = subst IsText (sym same_w) (byte, tt);
         some = subst (λ (w : List ℕ). 1 ≤ length w) (sym same_w) (omega arith);
       };
-      holds = subst (λ w. IsCopied (matches_in p rejects) q.condition q.line_start w) (sym same_w) (one_byte q.condition b q.line_start (subst (λ c. MeetsAfter p rejects (b ∷ []) Copies c q.line_start) (sym same_c) (subst (λ l. MeetsAfter p rejects (b ∷ []) Copies x.condition l) (sym same_l) begins.1)));
-      first = λ c line w h copied. not_later c line w h copied;
+      holds = (same_c, subst (λ w. IsCopied (matches_in p rejects) q.condition q.line_start w) (sym same_w) (subst (λ c. IsCopied (matches_in p rejects) c q.line_start (b ∷ [])) (sym same_c) (one_byte d b q.line_start (there q.line_start refl copies.0 copies.1))));
+      first = λ c line w h copied. not_later c line w h copied.0 copied.1;
     },
     ap length same_w,
   )
     where
-      not_later : (c : ℕ) (line : Bool) (w : List ℕ) → IsInput (matches_in p rejects) c w → IsCopied (matches_in p rejects) c line w → IsNotLater q c line w
-      not_later c line [] h copied = let s = h.some in absurd (omega (arith, s))
-      not_later c line (y ∷ z ∷ w) h copied = let n = ap length same_w in inl (inl (omega (arith, n)))
-      not_later c line (y ∷ []) h copied = elim (cases_lt y b) [
-        | inl lt ↦ absurd (none y lt c line h.condition (copied_byte c line y [] copied))
-        | inr le ↦ elim (cases_eq b y) [
-          | inl same ↦ inr (same_w ∙ ap (λ k. k ∷ []) same, subst (λ d. StartsFirst d q.line_start c line) (sym same_c) (subst (λ l. StartsFirst x.condition l c line) (sym same_l) (begins.2 c line h.condition (subst (λ k. MeetsAfter p rejects (k ∷ []) Copies c line) (sym same) (copied_byte c line y [] copied)))))
-          | inr other ↦ inl (subst (λ v. Precedes v (y ∷ [])) (sym same_w) (inr (refl, inl (omega (arith, le, other)))))
-        ]
-      ]
+      there : (l : Bool) → q.line_start ≡ l → (k : Bool) → IsCopied (matches_in p rejects) d k (b ∷ []) → MeetsAfter p rejects (b ∷ []) Copies d l
+      there false e k copied = within e
+      there true e true copied = copied_byte d true b [] copied
+      there true e false copied = absurd (begins e (copied_byte d false b [] copied))
+
+      starts : (l : Bool) → IsCopied (matches_in p rejects) d l (b ∷ []) → q.line_start ≡ true → l ≡ true
+      starts true copied e = refl
+      starts false copied e = absurd (begins e (copied_byte d false b [] copied))
+
+      not_later : (c : ℕ) (line : Bool) (w : List ℕ) → IsInput (matches_in p rejects) c w → c ≡ d → IsCopied (matches_in p rejects) c line w → IsNotLater q c line w
+      not_later c line [] h is copied = let s = h.some in absurd (omega (arith, s))
+      not_later c line (y ∷ z ∷ w) h is copied = let n = ap length same_w in inl (inl (omega (arith, n)))
+      not_later c line (y ∷ []) h is copied =
+          let here : IsCopied (matches_in p rejects) d line (y ∷ []) = subst (λ k. IsCopied (matches_in p rejects) k line (y ∷ [])) is copied in
+          elim (cases_lt y b) [
+            | inl lt ↦ absurd (none y lt (line, here))
+            | inr le ↦ elim (cases_eq b y) [
+              | inl same ↦ inr (same_w ∙ ap (λ k. k ∷ []) same, inr (same_c ∙ sym is, starts line (subst (λ k. IsCopied (matches_in p rejects) d line (k ∷ [])) (sym same) here)))
+              | inr other ↦ inl (subst (λ v. Precedes v (y ∷ [])) (sym same_w) (inr (refl, inl (omega (arith, le, other)))))
+            ]
+          ]

@@ -34,12 +34,19 @@ abbrev pub IsWordOf : RuleMatches → ℕ → Word → Type 0
 IsWordOf m i (Taken p) = IsFirst m (λ c line w. TakesText m c line w i) p
 IsWordOf m i (Never js) = AreTakers m i js.items
 
--- what is told of the default rule: the first text of which it copies a byte, which is one byte long
-abbrev pub TellsDefault : RuleMatches → Option ShownText → Type 0
-TellsDefault m None = (c : ℕ) (line : Bool) (w : List ℕ) → IsInput m c w → IsCopied m c line w → ⊥
-TellsDefault m (Some p) = IsFirst m (IsCopied m) p × (length p.text.items ≡ 1)
+-- the default rule copies the first byte of the text, in this condition
+abbrev pub IsCopiedIn : RuleMatches → ℕ → ℕ → Bool → List ℕ → Type 0
+IsCopiedIn m d c line w = (c ≡ d) × IsCopied m c line w
 
+-- what is told of the default rule in a condition: the first text of which it copies a byte there, which is one byte
+-- long
+abbrev pub TellsDefault : RuleMatches → ℕ → Option ShownText → Type 0
+TellsDefault m d None = (c : ℕ) (line : Bool) (w : List ℕ) → IsInput m c w → IsCopiedIn m d c line w → ⊥
+TellsDefault m d (Some p) = IsFirst m (IsCopiedIn m d) p × (length p.text.items ≡ 1)
+
+-- what is told of each rule, and of the default rule in each condition
 pub record AreWords (m : RuleMatches) (v : Words) : Type 0 where
   pub each : length v.rules.items ≡ m.count
   pub rules : (i : ℕ) (x : Word) → slice_get v.rules.items i ≡ Some x → IsWordOf m i x
-  pub default : TellsDefault m v.default
+  pub in_each : length v.defaults.items ≡ m.conditions
+  pub defaults : (c : ℕ) (o : Option ShownText) → slice_get v.defaults.items c ≡ Some o → TellsDefault m c o

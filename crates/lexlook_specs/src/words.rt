@@ -1,5 +1,5 @@
 //! Shows for each rule of a specification the first of the shortest texts that it takes, or which rules take its texts;
-//! and the first byte that the default rule copies.
+//! and the first byte that the default rule copies in each condition.
 
 mod actions;
 mod copying;

@@ -7,7 +7,7 @@ ghost use Rattle.lexlook_specs.specs.Matches.{matches_in};
 ghost use Rattle.lexlook_specs.specs.Placing.{IsLeastOf, TakesAt};
 ghost use Rattle.lexlook_specs.specs.Words.{AreWords, IsWordOf};
 
-use crate::words::copying::first_copied;
+use crate::words::copying::copied_texts;
 use crate::words::placing::{first_places, takers};
 use crate::words::starting::{Start, Wish, first_start};
 use lexauto_dfa::Dfa;
@@ -31,13 +31,13 @@ pub enum Word {
     Never(Vec<u32>),
 }
 
-/// What is shown of all rules, and of the default rule.
+/// What is shown of all rules, and of the default rule in each condition.
 #[derive(Drop)]
 pub struct Words {
     /// By the number of the rule.
     pub rules: Vec<Word>,
-    /// The first byte that the default rule copies, if it copies any.
-    pub default: Option<ShownText>,
+    /// For each condition the first byte that the default rule copies in it, if it copies any.
+    pub defaults: Vec<Option<ShownText>>,
 }
 
 /// A text from a start on.
@@ -84,8 +84,8 @@ fn word_of(
 /// What is shown of each rule of a specification, by an automaton that accepts all rules that fit, and the flags of the
 /// rules that have REJECT: the first text that the rule takes, or the rules that take its texts. A text is taken by the
 /// first rule that fits it and by those to which REJECT goes on. Shorter texts come first, then the first in byte
-/// order, then those of the first condition, and then those not at the start of a line. Of the default rule it is the
-/// first byte that it copies.
+/// order, then those of the first condition, and then those not at the start of a line. Of the default rule it is, for each
+/// condition, the first byte that it copies there.
 pub fn find_words(alloc: Global, dfa: &Dfa, rejects: &[bool]) -> Result<Words, AllocError>
     requires conditions { conditions_of dfa.now ≤ 255 }
     requires rules { (s i : ℕ) → s < states_of dfa.now → Among (accepts_of dfa.now s) i → i < length rejects.now }
@@ -99,6 +99,6 @@ pub fn find_words(alloc: Global, dfa: &Dfa, rejects: &[bool]) -> Result<Words, A
         let word = word_of(alloc, dfa, rejects, &found, firsts[rule], rule as u32)?;
         rules.push(word)?;
     }
-    let default = first_copied(alloc, dfa, rejects)?;
-    Ok(Words { rules, default })
+    let defaults = copied_texts(alloc, dfa, rejects)?;
+    Ok(Words { rules, defaults })
 }

@@ -1,7 +1,6 @@
 use Rattle.std.proofs.Common.{◌≡◌, ◌<◌, ℕ, List, [], ◌∷◌, ◌++◌, length, codes, refl, arith}
 use Rattle.std.specs.Prelude.{decimal}
 use Rattle.lexlook_calls.specs.Headers.{called_by}
-use Rattle.lexlook_calls.proofs.header.called_by.Goals as goal
 
 by_name : (line : ℕ) (name : List ℕ) → 0 < length name → codes "RULE_" ++ name ≡ called_by line name
 by_name line [] h = absurd (omega (arith, h))

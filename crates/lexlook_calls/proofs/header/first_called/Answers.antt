@@ -1,4 +1,4 @@
-use Rattle.std.proofs.Common.{◌≡◌, ◌<◌, ◌∙◌, ℕ, List, [], false, get_or, length, map, sym, arith}
+use Rattle.std.proofs.Common.{◌≡◌, ◌<◌, ◌∙◌, [], false, get_or, length, map, sym, arith}
 use Rattle.std.proofs.lemmas.List.{length-map}
 use borrow.Author.Count.{below_more}
 use Rattle.lex_semantics.specs.ByteSets.{same_bytes}

@@ -1,4 +1,4 @@
-use Rattle.std.proofs.Common.{◌≡◌, ◌∙◌, ◌++◌, ◌∷◌, [], ℕ, zero, suc, List, Option, Some, length, rules, ap, sym, subst, arith}
+use Rattle.std.proofs.Common.{◌≡◌, ◌∙◌, ℕ, List, Option, Some, length, rules, ap, sym, subst, arith}
 use Rattle.std.specs.Prelude.{slice_get}
 use Rattle.std.specs.Vec.{vec_len}
 use Rattle.std.proofs.lemmas.List.{length_push}
@@ -6,14 +6,8 @@ use Rattle.lexauto_dfa.specs.Automata.{conditions_of}
 use Rattle.lexauto_dfa.specs.declared.dfa.Parts.{Parts}
 use Rattle.lexlook_specs.specs.Copied.{IsFirstCopied}
 use Rattle.lexlook_specs.specs.Matches.{matches_in}
+use Rattle.lexlook_specs.proofs.Joining.{each_pushed}
 use Rattle.lexlook_specs.proofs.words.copying.copied_bytes.Goals as goal
-
--- an element more
-pushed : (P : ℕ → Option ℕ → Type 0) (xs : List (Option ℕ)) (x : Option ℕ) → ((i : ℕ) (y : Option ℕ) → slice_get xs i ≡ Some y → P i y) → P (length xs) x → (i : ℕ) (y : Option ℕ) → slice_get (xs ++ x ∷ []) i ≡ Some y → P i y
-pushed P [] x each here zero y e = (let same : x ≡ y = cc in subst (P 0) same here)
-pushed P [] x each here (suc i) y e = absurd cc
-pushed P (z ∷ xs) x each here zero y e = each 0 y e
-pushed P (z ∷ xs) x each here (suc i) y e = pushed (λ j. P (suc j)) xs x (λ j v f. each (suc j) v f) here i y e
 
 pub loop-condition-preserved : goal.loop-condition-preserved
 loop-condition-preserved c =
@@ -26,7 +20,7 @@ loop-condition-preserved c =
     record {
       len = ap length is ∙ (omega (arith, len, p));
       each = subst (λ (l : List (Option ℕ)). (i : ℕ) (y : Option ℕ) → slice_get l i ≡ Some y → P i y) (sym is)
-          (pushed P c.loop-condition.bytes.items x v.each (subst (λ (k : ℕ). P k x) (sym len) c.copied_in.ensures));
+          (each_pushed P c.loop-condition.bytes.items x v.each (subst (λ (k : ℕ). P k x) (sym len) c.copied_in.ensures));
     }
 
 pub returns : goal.returns

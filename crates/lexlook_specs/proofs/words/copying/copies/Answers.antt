@@ -1,4 +1,4 @@
-use Rattle.std.proofs.Common.{◌≡◌, ◌∷◌, [], Bool, true, false, inl, inr, subst}
+use Rattle.std.proofs.Common.{◌∷◌, [], true, false, inl, inr, subst}
 use Rattle.std.proofs.lemmas.Bool.{cases_Bool}
 use Rattle.lexlook_specs.specs.Placing.{MeetsAfter}
 use Rattle.lexlook_specs.specs.declared.words.starting.Wish.TheVariants.{Copies}

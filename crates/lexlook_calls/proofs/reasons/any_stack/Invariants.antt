@@ -1,0 +1,8 @@
+use Rattle.std.proofs.Common.{◌≡◌, drop, map}
+use Rattle.std.specs.List.{list_any}
+use Rattle.lex_machine.specs.Views.{statement_of}
+use Rattle.lexlook_calls.specs.Reasons.{uses_stack}
+use Rattle.lexlook_calls.proofs.reasons.any_stack.Given as goal
+
+abbrev pub invariant-loop-statement : goal.invariant-loop-statement
+invariant-loop-statement l = list_any uses_stack (map statement_of (drop l.statement-index l.statements)) ≡ list_any uses_stack (map statement_of l.statements)
