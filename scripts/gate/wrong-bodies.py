@@ -14,7 +14,7 @@ The bodies stand in two folders of a crate, each a file with lines 'file:', 'old
     wrong-bodies/*.edit   the others
 
 Where the text stands in no function, a line 'function:' names the one whose proof must refuse it. Changes of a definition are
-misreadings, which `misreadings.py` tries.
+misreadings, which `misreadings.py` tries. They stand here only where that script cannot read their crate.
 
 A line of the answer begins with one of these words, and the status is 1 where one is not 'refused':
 
@@ -45,7 +45,7 @@ sys.dont_write_bytecode = True
 ROOT = Path(__file__).resolve().parents[2]
 FOLDERS = ("must-fail", "wrong-bodies")
 PARTS = ("src", "specs", "proofs")
-FUNCTION = re.compile(r"^\s*(?:pub(?:\([^)]*\))?\s+)?(?:const\s+)?(?:unsafe\s+)?(?:ghost\s+)?fn\s+(\w+)")
+FUNCTION = re.compile(r'^\s*(?:pub(?:\([^)]*\))?\s+)?(?:const\s+)?(?:unsafe\s+)?(?:extern\s+"C"\s+)?(?:ghost\s+)?fn\s+(\w+)')
 IMPL = re.compile(r"^\s*(?:unsafe\s+)?impl\b")
 CYCLE = re.compile(r"^\s*#\[cycle\((\w+)\)\]")
 # What the prover says of functions, of itself and of places.
@@ -298,9 +298,11 @@ def told_of(checked, edit):
     """What the prover says of the edit's functions: what is not proved, or what is wrong in a proof file."""
     folder = ROOT / "crates" / edit.crate
     proofs = tuple(f"proofs/{home}/" for home in edit.homes)
-    sources = {file: (folder / file).read_text().split("\n") for file, _, _ in edit.pairs}
+    sources = {}
     for file, line, text in TOLD.findall(checked.text):
         # (an edit is one line for one line, so that lines keep their numbers)
+        if file.startswith("src/") and file not in sources:
+            sources[file] = (folder / file).read_text().split("\n")
         held = file in sources and function_at(folder, file, sources[file], min(int(line), len(sources[file])) - 1)
         if file.startswith(proofs) or held and held[0] in edit.functions:
             yield text

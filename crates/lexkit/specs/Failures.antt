@@ -1,5 +1,7 @@
--- What is told of a failure of a program. (Own: POSIX leaves it to the implementation.)
-use Rattle.std.specs.Prelude.{◌≡◌, string_bytes}
+-- What is told of a failure of a program, and the status that it ends with. (Own: POSIX leaves it to the
+-- implementation. 66 is that of BSD's sysexits.)
+use Rattle.std.specs.Prelude.{◌≡◌, ℕ, string_bytes}
+use Rattle.lexkit.specs.Faults.{status_of}
 use Rattle.lexkit.specs.declared.failure.Failure.{Failure}
 use Rattle.lexkit.specs.declared.failure.Failure.TheVariants.{Usage, Scan, File, Output}
 use Rattle.lexkit.specs.declared.errors.GenError.TheVariants as gens
@@ -17,3 +19,10 @@ IsReportedAs (Scan e) fault = fault ≡ faults.Scan e
 IsReportedAs (File name) (faults.File told) = told.now ≡ string_bytes name
 IsReportedAs (File name) other = ⊥
 IsReportedAs Output fault = fault ≡ faults.Output
+
+-- the status with which lex ends for it
+abbrev pub told_status : Failure → ℕ
+told_status Usage = status_of faults.Usage
+told_status (Scan e) = status_of (faults.Scan e)
+told_status (File name) = 66
+told_status Output = status_of faults.Output

@@ -1,7 +1,8 @@
 //! What the programs have in common: the words of the command line, the files that are read, and how a failure is
 //! reported.
 ghost use Rattle.std.specs.Prelude.{◌≡◌, ◌⊎◌, IfErr};
-ghost use Rattle.lexkit.specs.Failures.{out_of_memory};
+ghost use Rattle.std.specs.Process.{exit_status};
+ghost use Rattle.lexkit.specs.Failures.{out_of_memory, told_status};
 ghost use Rattle.lexkit.specs.declared.failure.Failure.{Failure};
 
 use crate::failure::Failure;
@@ -59,7 +60,9 @@ pub fn read_spec_file(rt: &HostRuntime, name: String) -> Result<Vec<u8>, Failure
 }
 
 /// Reports what ended a program, in a line on standard error, and answers the status that it exits with.
-pub fn report_failure(rt: &HostRuntime, failure: &Failure) -> ExitCode {
+pub fn report_failure(rt: &HostRuntime, failure: &Failure) -> ExitCode
+    ensures { exit_status result ≡ told_status failure.now }
+{
     let fault = failure.fault();
     let _ = write_fault(fault, &mut ToWrite::new(rt.stderr()));
     ExitCode::from(fault.status())

@@ -2,10 +2,10 @@
 -- numbers and the words that Linux has for them.)
 use Rattle.std.specs.Prelude.{ℕ, ◌==◌, Bool, false, if◌then◌else◌, List, [], ◌∷◌, ◌++◌, codes, string_bytes}
 use Rattle.std.specs.List.{concat}
-use Rattle.lexkit.specs.Faults.{with_newline, scan_status, scan_words, status_of}
+use Rattle.lexkit.specs.Faults.{with_newline, scan_status, scan_words}
+use Rattle.lexkit.specs.Failures.{told_status}
 use Rattle.lexkit.specs.declared.failure.Failure.{Failure}
 use Rattle.lexkit.specs.declared.failure.Failure.TheVariants.{Usage, Scan, File, Output}
-use Rattle.lexkit.specs.declared.faults.Fault.TheVariants as faults
 use Rattle.lexlook.specs.declared.failure.LookFailure.{LookFailure}
 use Rattle.lexlook.specs.declared.failure.LookFailure.TheVariants.{Plain, Refused, Table, Unread}
 
@@ -49,14 +49,7 @@ failure_words (Unread file reason) = reason_words reason
 abbrev pub failure_line : LookFailure → List ℕ
 failure_line failure = failure_front failure ++ with_newline (failure_words failure)
 
--- the status with which lex ends for it
-abbrev pub told_status : Failure → ℕ
-told_status Usage = status_of faults.Usage
-told_status (Scan e) = status_of (faults.Scan e)
-told_status (File name) = 66
-told_status Output = status_of faults.Output
-
--- The program ends with the same, with 65 at a table file in the place of a specification, and with 66 where a file
+-- The program ends with that of lex, with 65 at a table file in the place of a specification, and with 66 where a file
 -- cannot be read, for whatever reason. (BSD's sysexits.)
 abbrev pub failure_status : LookFailure → ℕ
 failure_status (Plain failure) = told_status failure

@@ -1,7 +1,7 @@
 -- Scans by pieces.
 use Rattle.std.proofs.Common.{◌≡◌, ℕ, suc, ◌+◌, ◌-◌, ◌<◌, ◌≤◌, inl, inr, Bool, true, false, List, [], ◌++◌, length, take, drop, min, Option, Some, None, Ok, Err, refl, sym, ap, subst, ◌∙◌, append_assoc, append-nil, arith}
-use Rattle.std.specs.Prelude.{IfSome, Result, IfErr, OnErr, IsErrOf}
-use Rattle.std.proofs.lemmas.Bool.{cases_lt, cases_eq, cases_Bool}
+use Rattle.std.specs.Prelude.{IfSome, Result, IfErr, OnErr, IsErrOf, nat_le}
+use Rattle.std.proofs.lemmas.Bool.{cases_lt, cases_eq, cases_Bool, le-leb}
 use Rattle.std.proofs.lemmas.List.{length-append, drop-append-le, nil_from_length, take-append-le, length-drop, drop_all}
 use Rattle.std.proofs.Math.Seq.{take-append_seam, drop-append_seam, drop-append-add}
 use Rattle.lex_semantics.proofs.Once.{run_by}
@@ -79,14 +79,16 @@ failed_by (Err OutOfMemory) failed is few = is
 failed_by (Err Stack) failed is few = is
 failed_by (Err Failed) failed is few = is
 
-pub failed_by_piece : {A : Type 0} (r : Result A RunError) (failed : Bool) → OnErr r (failed ≡ true) → (IsErrOf r TooManyReads → ⊥) → IfErr r (λ e. HasFailedByPiece e failed)
-failed_by_piece (Ok v) failed is few = tt
-failed_by_piece (Err TooManyReads) failed is few = absurd (few refl)
-failed_by_piece (Err Read) failed is few = is
-failed_by_piece (Err Write) failed is few = is
-failed_by_piece (Err OutOfMemory) failed is few = tt
-failed_by_piece (Err Stack) failed is few = is
-failed_by_piece (Err Failed) failed is few = is
+-- So they do after a piece for which there was room.
+pub failed_by_piece : {A : Type 0} (r : Result A RunError) (need before after : ℕ) (failed : Bool) → OnErr r (after ≡ before) → need ≤ before → OnErr r (failed ≡ true) → (IsErrOf r TooManyReads → ⊥) → IfErr r (λ e. HasFailedByPiece (nat_le need after) e failed)
+failed_by_piece (Ok v) need before after failed same fits is few = tt
+failed_by_piece (Err TooManyReads) need before after failed same fits is few = absurd (few refl)
+failed_by_piece (Err Read) need before after failed same fits is few = is
+failed_by_piece (Err Write) need before after failed same fits is few = is
+failed_by_piece (Err OutOfMemory) need before after failed same fits is few =
+    is ∙ sym (le-leb need after (subst (λ n. need ≤ n) (sym same) fits))
+failed_by_piece (Err Stack) need before after failed same fits is few = is
+failed_by_piece (Err Failed) need before after failed same fits is few = is
 
 -- A turn that asked for more than may be read is given up.
 module _ (M : Machine) (n : ℕ) (given got out out' : List ℕ) (old mid new : State) (h : TurnInvariant M n given out old) (none : NoneAfterEnd old mid got) (refusal : AfterRefusal M n given got out' mid TooManyReads) (more : mid.reading.at_end ≡ false) where

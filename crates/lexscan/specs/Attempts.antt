@@ -76,8 +76,10 @@ pub record MayBeFed {A : Type 0} (M : Machine) (s : Scan) (result : Result A Run
   pub reachable : s.state.failed ≡ false → IsReachable M s.state
 
 -- The same after a piece, with the bytes that wait and the state after all of them, where the next match asks for more.
-pub record PieceLeft (M : Machine) (states : ℕ) (s : Scan) (waiting : List ℕ) (asking : Option ℕ)
+-- Where it is refused, there is room for as many bytes as before.
+pub record PieceLeft (M : Machine) (states : ℕ) (s : Scan) (waiting : List ℕ) (asking : Option ℕ) (before after : ℕ)
     (result : Result Turn RunError) : Type 0 where
   pub next : MayBeFed M s result
+  pub room : OnErr result (after ≡ before)
   pub reading : s.state.failed ≡ false → s.state.ended ≡ None → s.state.reading.at_end ≡ false
   pub asking_more : IsAsking M states s.state waiting asking

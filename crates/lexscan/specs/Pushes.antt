@@ -141,10 +141,10 @@ abbrev pub HasFailedBy : RunError → Bool → Type 0
 HasFailedBy TooManyReads failed = failed ≡ false
 HasFailedBy other failed = failed ≡ true
 
--- So it is after a piece too. But that may want memory before a turn, and then it has not.
-abbrev pub HasFailedByPiece : RunError → Bool → Type 0
-HasFailedByPiece OutOfMemory failed = ⊤
-HasFailedByPiece e failed = HasFailedBy e failed
+-- So it is after a piece too. But where memory ran out for want of room for the piece, it has not.
+abbrev pub HasFailedByPiece : Bool → RunError → Bool → Type 0
+HasFailedByPiece room OutOfMemory failed = failed ≡ room
+HasFailedByPiece room e failed = HasFailedBy e failed
 
 -- There is one proof at most of a denial.
 pub IsReachable-prop : (M : Machine) (s : State) → IsProp (IsReachable M s)

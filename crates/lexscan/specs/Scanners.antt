@@ -9,7 +9,7 @@ use Rattle.lexscan_window.specs.Intakes.{source_of, source_name, sink_of, sink_n
 use Rattle.lexscan_window.specs.declared.state.State.{State}
 use Rattle.lexscan_window.specs.Window.{last_of}
 use Rattle.lexscan_window.specs.Places.{kept_before}
-use Rattle.std.specs.Prelude.{◌≡◌, ℕ, Bool, List, drop}
+use Rattle.std.specs.Prelude.{◌≡◌, ℕ, Bool, List, drop, vec_capacity}
 
 module _ {M S K : Type 0} {of_machine : Machine.Ghosts M} {of_source : Source.Ghosts S} {of_sink : Sink.Ghosts K} where
   -- the machine that it goes by
@@ -44,6 +44,10 @@ module _ {M : Type 0} {of_machine : Machine.Ghosts M} where
   -- the bytes that were fed and that no turn has asked for, until the scan ends or is refused
   abbrev pub push_waiting : PushScanner M of_machine → List ℕ
   push_waiting s = s.waiting.items
+
+  -- how many bytes there is room for among these
+  abbrev pub push_room : PushScanner M of_machine → ℕ
+  push_room s = vec_capacity s.waiting
 
   -- what it keeps beside these
   abbrev pub push_state : PushScanner M of_machine → State

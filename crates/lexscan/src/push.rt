@@ -1,6 +1,6 @@
 //! A scan that is fed its input piece by piece.
 ghost use Rattle.std.specs.Prelude.{◌≡◌, ℕ, ◌+◌, ◌-◌, ◌^◌, ◌<◌, ◌≤◌, List, [], ◌++◌, length, drop, vec_len};
-ghost use Rattle.std.specs.Prelude.{vec_capacity, true, false, None, Some, Ok, Err, IsErrOf};
+ghost use Rattle.std.specs.Prelude.{vec_capacity, nat_le, true, false, None, Some, Ok, Err, IsErrOf};
 ghost use Rattle.std.specs.Prelude.{OnErr, IfErr, IfSome, IfNone};
 ghost use Rattle.std.specs.Coded.{→_prop};
 ghost use Rattle.lex_semantics.specs.Machine.{rules_of_machine};
@@ -83,7 +83,7 @@ fn scan_waiting<M: Machine, K: Sink>(
     ensures sink { SinkCounts K.failures sink.old sink.new result }
     ensures handed_on { HandedOn (K.flushed sink.new) result }
     ensures left { PieceLeft (M.machine machine.now) (M.states machine.now) scan.new waiting.new.items asking.new
-        result }
+        (vec_capacity waiting.old) (vec_capacity waiting.new) result }
 {
     // The state that was kept belongs to the place before these turns.
     *asking = None;
@@ -155,7 +155,7 @@ pub struct PushScanner<M: Machine> {
 }
 
 impl<M: Machine> PushScanner<M> {
-    ghost use Rattle.lexscan.specs.Scanners.{push_machine, push_state, push_waiting};
+    ghost use Rattle.lexscan.specs.Scanners.{push_machine, push_room, push_state, push_waiting};
 
     /// A scanner that was fed nothing.
     pub fn new(alloc: Global, machine: M) -> PushScanner<M>
@@ -196,7 +196,9 @@ impl<M: Machine> PushScanner<M> {
         ensures kept { (push_state self.new).failed ≡ false
             → OnErr result ((push_state self.new ≡ push_state self.old)
             × (push_waiting self.new ≡ push_waiting self.old) × (sink.new ≡ sink.old)) }
-        ensures failed { IfErr result (λ e. HasFailedByPiece e (push_state self.new).failed) }
+        ensures failed { IfErr result (λ e. HasFailedByPiece
+            (nat_le (length (push_waiting self.old) + length piece.now) (push_room self.new)) e
+            (push_state self.new).failed) }
         ensures refused { IsErrOf result RunError.Failed → (push_state self.old).failed ≡ true }
         ensures after_refusal { (push_state self.old).failed ≡ true → (result ≡ Err RunError.Failed)
             × (sink.new ≡ sink.old) × (self.new ≡ self.old) }
@@ -218,18 +220,18 @@ impl<M: Machine> PushScanner<M> {
         ) else {
             return Err(RunError::TooManyReads);
         };
+        match self.waiting.reserve(piece.len()) {
+            Err(_) => return Err(RunError::OutOfMemory),
+            Ok(()) => {}
+        }
         // The state after all bytes is known, so a piece that does not end the match needs one walk.
         if let Some(last) = walk_on(&self.machine, self.asking, piece) {
             match self.waiting.extend_from_slice(piece) {
-                Err(_) => return Err(RunError::OutOfMemory),
+                Err(_) => unreachable!(),
                 Ok(()) => {}
             }
             self.asking = Some(last);
             return Ok(Turn::Went);
-        }
-        match self.waiting.reserve(piece.len()) {
-            Err(_) => return Err(RunError::OutOfMemory),
-            Ok(()) => {}
         }
         self.scan.state.reading.max_reads = count;
         scan_waiting(

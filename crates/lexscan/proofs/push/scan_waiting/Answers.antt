@@ -51,6 +51,7 @@ returns-in-Ok-Went-clause-left g c = record {
         Push.standing_on M c.args.scan.now.state c.turns_between.new.self.state p.turns ran.0 ran.1 c.requires.paused.reachable p.made
         );
   };
+  room = grind (arith, common_steps);
   reading = grind (arith, common_steps);
   asking_more = grind (arith, common_steps);
 }
@@ -86,6 +87,7 @@ returns-in-Ok-Ended-clause-left g c = record {
         Push.standing_on M c.args.scan.now.state c.turns_between.new.self.state t.0 ran.0 ran.1 c.requires.paused.reachable t.3
         );
   };
+  room = grind (arith, common_steps);
   reading = grind (arith, common_steps);
   asking_more = grind (arith, common_steps);
 }

@@ -1,5 +1,5 @@
 use Rattle.std.proofs.lemmas.Grind.{common_steps}
-use Rattle.std.proofs.Common.{Some, ◌≡◌, [], ◌++◌, ap, arith}
+use Rattle.std.proofs.Common.{Some, ◌≡◌, ◌+◌, [], ◌++◌, length, ap, ◌∙◌, arith}
 use Rattle.lexscan_window.specs.declared.error.RunError.TheVariants.{TooManyReads, OutOfMemory, Stack}
 use Rattle.lexscan.specs.Pushes.{IsAsking}
 use Rattle.lexscan.proofs.Pushing as Push
@@ -23,10 +23,6 @@ pub returns-in-Err-clause-fed : goal.returns-in-Err-clause-fed
 returns-in-Err-clause-fed g c =
     let s = c.args.self.now in ([], g.met.K.Sink.wrote_none _, λ fed out h. (Push.fed_first (g.M.Machine.machine s.machine) fed out s.scan.state s.waiting.items h c.args.piece.now, λ e. absurd (no_memory e)))
 
-pub returns-in-Err-reserve-clause-fed : goal.returns-in-Err-reserve-clause-fed
-returns-in-Err-reserve-clause-fed g c =
-    let s = c.args.self.now in ([], g.met.K.Sink.wrote_none _, λ fed out h. (Push.fed_first (g.M.Machine.machine s.machine) fed out s.scan.state s.waiting.items h c.args.piece.now, λ e. absurd (no_memory e)))
-
 pub scan_waiting-requires-clause-paused : goal.scan_waiting-requires-clause-paused
 scan_waiting-requires-clause-paused g c = record {
   going = grind (arith, common_steps);
@@ -47,18 +43,22 @@ returns-in-Some-walk_on-clause-fed g c =
     let s = c.args.self.now in
     let M = g.M.Machine.machine s.machine in
     let now = c.in-Some-walk_on.ensures in
+    let items = c.in-Ok-extend_from_slice.ensures.items ∙ ap (λ l. l ++ c.args.piece.now) c.reserve.ensures.items in
     let on : IsAsking M (g.M.Machine.states s.machine) s.scan.state c.extend_from_slice.new.self.items (Some c.in-Some-walk_on.last) =
-    Push.asking_on M (g.M.Machine.states s.machine) s.scan.state s.waiting.items c.args.piece.now c.extend_from_slice.new.self.items s.asking c.in-Some-walk_on.last s.inside c.in-Ok.ensures.items s.asking_more now.known now.walked in (
+    Push.asking_on M (g.M.Machine.states s.machine) s.scan.state s.waiting.items c.args.piece.now c.extend_from_slice.new.self.items s.asking c.in-Some-walk_on.last s.inside items s.asking_more now.known now.walked in (
       [],
       g.met.K.Sink.wrote_none _,
-      λ fed out h. Push.fed_quiet M (g.M.Machine.laws s.machine) (g.M.Machine.states s.machine) fed out s.scan.state s.waiting.items c.args.piece.now c.extend_from_slice.new.self.items c.in-Some-walk_on.last h c.in-Ok.ensures.items c.in-None.is s.inside on,
+      λ fed out h. Push.fed_quiet M (g.M.Machine.laws s.machine) (g.M.Machine.states s.machine) fed out s.scan.state s.waiting.items c.args.piece.now c.extend_from_slice.new.self.items c.in-Some-walk_on.last h items c.in-None.is s.inside on,
     )
 
 pub invariant_of-self-in-Some-walk_on-clause-asking_more : goal.invariant_of-self-in-Some-walk_on-clause-asking_more
 invariant_of-self-in-Some-walk_on-clause-asking_more g c =
     let s = c.args.self.now in
     let now = c.in-Some-walk_on.ensures in
-    Push.asking_on (g.M.Machine.machine s.machine) (g.M.Machine.states s.machine) s.scan.state s.waiting.items c.args.piece.now c.extend_from_slice.new.self.items s.asking c.in-Some-walk_on.last s.inside c.in-Ok.ensures.items s.asking_more now.known now.walked
+    let items = c.in-Ok-extend_from_slice.ensures.items ∙ ap (λ l. l ++ c.args.piece.now) c.reserve.ensures.items in
+    Push.asking_on (g.M.Machine.machine s.machine) (g.M.Machine.states s.machine) s.scan.state s.waiting.items c.args.piece.now c.extend_from_slice.new.self.items s.asking c.in-Some-walk_on.last s.inside items s.asking_more now.known now.walked
 
 pub returns-clause-failed : goal.returns-clause-failed
-returns-clause-failed g c = Push.failed_by_piece c.scan_waiting.result _ c.scan_waiting.ensures.left.next.failed c.scan_waiting.ensures.sink.too_many
+returns-clause-failed g c =
+    let s = c.args.self.now in
+    Push.failed_by_piece c.scan_waiting.result (length s.waiting.items + length c.args.piece.now) _ _ _ c.scan_waiting.ensures.left.room (grind (arith, common_steps)) c.scan_waiting.ensures.left.next.failed c.scan_waiting.ensures.sink.too_many
