@@ -6,3 +6,6 @@ pub mod OrderLaws
 pub mod ConditionLaws
 pub mod CopyLaws
 pub mod TakingLaws
+pub mod EmptyLaws
+pub mod DifferenceLaws
+pub mod TrailLaws

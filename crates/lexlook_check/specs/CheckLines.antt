@@ -18,7 +18,7 @@ use Rattle.lexlook_check.specs.declared.findings.Finding.{Finding}
 use Rattle.lexlook_check.specs.declared.findings.What.{What}
 use Rattle.lexlook_check.specs.declared.findings.What.TheVariants.{Copied, Fault, Limit, Noticed, Warned}
 use Rattle.lexlook_check.specs.declared.notices.NoticeKind.{NoticeKind}
-use Rattle.lexlook_check.specs.declared.notices.NoticeKind.TheVariants.{LettersAsBytes, LetterAlone, Backspace, CaseRange, LineWalk, FlexTrail, BarTrail, EndAgain, UnusedDefinition, NeverEntered, NeverLeft, DefaultRule}
+use Rattle.lexlook_check.specs.declared.notices.NoticeKind.TheVariants.{LettersAsBytes, LetterAlone, Backspace, CaseRange, LineWalk, FlexTrail, BarTrail, EndAgain, NamedTrail, EmptyHead, IdleEnd, LoneReturn, UnusedDefinition, NeverEntered, NeverLeft, DefaultRule}
 use Rattle.lexlook_check.specs.declared.places.SourceFile.{SourceFile}
 
 -- the column of a place, from 1, where one is told
@@ -44,6 +44,10 @@ notice_words LineWalk = codes "line walked at each byte"
 notice_words FlexTrail = codes "trailing context that flex takes otherwise"
 notice_words BarTrail = codes "trailing context behind a rule with a bar"
 notice_words EndAgain = codes "end rule that does not end the scan"
+notice_words NamedTrail = codes "definition with a bar at the end of a trailing context"
+notice_words EmptyHead = codes "trailing context behind what may be empty"
+notice_words IdleEnd = codes "end rule that serves no condition"
+notice_words LoneReturn = codes "carriage return that ends no line"
 notice_words UnusedDefinition = codes "definition that no pattern uses"
 notice_words NeverEntered = codes "condition that no action enters"
 notice_words NeverLeft = codes "condition that no action leaves"

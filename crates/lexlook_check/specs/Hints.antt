@@ -9,7 +9,7 @@ use Rattle.lexauto.specs.declared.error.BuildError.{BuildError}
 use Rattle.lexauto.specs.declared.error.BuildError.TheVariants as builds
 use Rattle.lexlook_check.specs.SourceLines.{under}
 use Rattle.lexlook_check.specs.declared.notices.NoticeKind.{NoticeKind}
-use Rattle.lexlook_check.specs.declared.notices.NoticeKind.TheVariants.{LettersAsBytes, LetterAlone, Backspace, CaseRange, LineWalk, FlexTrail, BarTrail, EndAgain, UnusedDefinition, NeverEntered, NeverLeft}
+use Rattle.lexlook_check.specs.declared.notices.NoticeKind.TheVariants.{LettersAsBytes, LetterAlone, Backspace, CaseRange, LineWalk, FlexTrail, BarTrail, EndAgain, NamedTrail, EmptyHead, IdleEnd, LoneReturn, UnusedDefinition, NeverEntered, NeverLeft}
 
 -- of a pattern
 abbrev pub pattern_hint : PatternErrorKind → List ℕ
@@ -85,18 +85,34 @@ limit_hint builds.TooManyStates =
     "there is a state for each set of positions that some input may have read last, so what a counted repetition has to remember may double with each count"
 limit_hint builds.OutOfMemory = codes "memory ran out"
 
+-- of what flex takes otherwise by what a whole specification says, and of the default rule
+abbrev pub difference_hint : NoticeKind → List ℕ
+difference_hint NamedTrail =
+    codes
+    "flex reads the pattern of a name at the end of a trailing context in no parentheses, so that a `|` of it divides what stands before the name too: write `({NAME})`"
+difference_hint EmptyHead =
+    codes
+    "a match has a byte at least, but flex may match the empty text before this trailing context, again and again: write what has a byte, as `a+` for `a*`"
+difference_hint IdleEnd =
+    codes
+    "each condition has an <<EOF>> rule with a list, which it takes, so this one does nothing; flex makes of it a program that does not compile, or gives it the conditions whose own stands behind it"
+difference_hint other = codes "a last rule `.|\\n` of it takes each byte that the others leave"
+
 -- of what is warned of outside of patterns
 abbrev pub outside_hint : NoticeKind → List ℕ
 outside_hint EndAgain =
     codes
     "the end of the input ends the scan, whatever the action; in flex an action without yyterminate and exit meets the end again, for ever"
+outside_hint LoneReturn =
+    codes
+    "a carriage return ends a line with the newline behind it, and else it is a byte of its line: a file whose lines end with carriage returns alone is one line"
 outside_hint UnusedDefinition =
     codes "a definition stands for its pattern where its name is in braces, as `{DIGIT}`"
 outside_hint NeverEntered = codes "no BEGIN and no yy_push_state of a rule names it, so no match is made in it"
 outside_hint NeverLeft =
     codes
     "no rule that is active in it has BEGIN or yy_push_state of another, yy_pop_state, exit or yyterminate, so it lasts to the end of the input"
-outside_hint other = codes "a last rule `.|\\n` of it takes each byte that the others leave"
+outside_hint other = difference_hint other
 
 -- of what is warned of
 abbrev pub notice_hint : NoticeKind → List ℕ

@@ -12,7 +12,7 @@ use Rattle.lexlook_check.specs.Takings.{TakenTexts}
 use Rattle.lexlook_check.specs.declared.findings.Finding.{Finding}
 use Rattle.lexlook_check.specs.declared.findings.What.{What}
 use Rattle.lexlook_check.specs.declared.findings.What.TheVariants.{Copied, Fault, Limit, Noticed, Warned}
-use Rattle.lexlook_check.specs.declared.notices.NoticeKind.TheVariants.{LettersAsBytes, LetterAlone, Backspace, CaseRange, LineWalk, FlexTrail, BarTrail, EndAgain, UnusedDefinition, NeverEntered, NeverLeft, DefaultRule}
+use Rattle.lexlook_check.specs.declared.notices.NoticeKind.TheVariants.{LettersAsBytes, LetterAlone, Backspace, CaseRange, LineWalk, FlexTrail, BarTrail, EndAgain, NamedTrail, EmptyHead, IdleEnd, LoneReturn, UnusedDefinition, NeverEntered, NeverLeft, DefaultRule}
 use Rattle.lexlook_check.specs.declared.places.SourceFile.{SourceFile}
 
 -- the code point of this number below 256, as an escape
@@ -56,6 +56,10 @@ what_name (Noticed LineWalk) = codes "LineWalk"
 what_name (Noticed FlexTrail) = codes "FlexTrail"
 what_name (Noticed BarTrail) = codes "BarTrail"
 what_name (Noticed EndAgain) = codes "EndAgain"
+what_name (Noticed NamedTrail) = codes "NamedTrail"
+what_name (Noticed EmptyHead) = codes "EmptyHead"
+what_name (Noticed IdleEnd) = codes "IdleEnd"
+what_name (Noticed LoneReturn) = codes "LoneReturn"
 what_name (Noticed UnusedDefinition) = codes "UnusedDefinition"
 what_name (Noticed NeverEntered) = codes "NeverEntered"
 what_name (Noticed NeverLeft) = codes "NeverLeft"

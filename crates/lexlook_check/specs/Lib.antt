@@ -12,9 +12,15 @@ pub mod Findings
 pub mod Conditions
 pub mod Copies
 pub mod ConditionExamples
+pub mod Returns
+pub mod NamedTrails
+pub mod EmptyHeads
+pub mod IdleEnds
+pub mod Differences
 pub mod Notices
 pub mod NoticeExamples
 pub mod WarnedRules
+pub mod DifferenceExamples
 pub mod Places
 pub mod Takings
 pub mod Weights

@@ -11,9 +11,11 @@ use Rattle.lexlook_text.specs.Pieces.{pieces_from}
 use Rattle.lexlook_check.specs.BarTrails.{bar_trails}
 use Rattle.lexlook_check.specs.CaseRanges.{is_case_class}
 use Rattle.lexlook_check.specs.Conditions.{faultless_notices}
+use Rattle.lexlook_check.specs.Differences.{differences}
 use Rattle.lexlook_check.specs.EndRules.{end_notices}
 use Rattle.lexlook_check.specs.FlexTrails.{trail_notices}
 use Rattle.lexlook_check.specs.LineWalks.{walk_notices}
+use Rattle.lexlook_check.specs.Returns.{lone_returns}
 use Rattle.lexlook_check.specs.Unused.{max_looked_for, unused_notices}
 use Rattle.lexlook_check.specs.declared.notices.Notice.{Notice}
 use Rattle.lexlook_check.specs.declared.notices.NoticeKind.{NoticeKind}
@@ -80,7 +82,9 @@ text_notices own whole rules text =
     ++ bar_trails lines false rules ++ flat_map end_notices lines
     ++ flat_map (unused_notices own whole) (take max_looked_for (definition_lines text))
 
--- of a text that spells this specification: these, and then those of its conditions
+-- of a text that spells this specification: these, what flex takes otherwise, carriage returns that end no line, and
+-- then those of its conditions
 abbrev pub notices_of : ℕ → Bool → List ℕ → Spec → List (Option ℕ) → List ℕ → List Notice
 notices_of own faultless whole S copied text =
-    text_notices own whole (lines_of S.rules) text ++ faultless_notices faultless S copied text
+    text_notices own whole (lines_of S.rules) text ++ differences faultless S text
+    ++ lone_returns text ++ faultless_notices faultless S copied text

@@ -8,6 +8,7 @@ use Rattle.lexre_bytes.specs.declared.error.PatternErrorKind.TheVariants.{BadInt
 use Rattle.lexre_bytes.specs.declared.refusals.SpecErrorKind.{SpecErrorKind}
 use Rattle.lexre_bytes.specs.declared.refusals.SpecErrorKind.TheVariants.{BadDefinitionLine, NoRulesSection, Pattern, Unclosed, UnknownStatement}
 use Rattle.lexlook_text.specs.Known.{front_name}
+use Rattle.lexlook_check.specs.Returns.{has_lone_return}
 use Rattle.lexlook_check.specs.declared.findings.What.{What}
 use Rattle.lexlook_check.specs.declared.findings.What.TheVariants.{Fault}
 
@@ -84,6 +85,8 @@ abbrev pub fault_remark : List ℕ → SpecErrorKind → ℕ → List ℕ → Li
 fault_remark text kind at line =
     if is_of_file kind && begins (codes "LEXTAB") text
     then codes "this begins as a table file, which `lex --scan-table` reads; "
+    else if has_lone_return line || (is_of_file kind && has_lone_return text)
+    then codes "a carriage return without a newline behind it ends no line; "
     else remark kind (drop (at - 1) line) (drop at line)
 
 abbrev pub remark_told : List ℕ → What → Option ℕ → List ℕ → List ℕ

@@ -38,7 +38,7 @@ fn has_bar(text: &[u8]) -> bool
 }
 
 /// The place of the first slash of a pattern, or else that of a `$` that is its last piece.
-fn trail_place(pieces: &[Piece<'_>]) -> Option<usize>
+pub(crate) fn trail_place(pieces: &[Piece<'_>]) -> Option<usize>
     ensures { result ≡ trail_place (map piece_of pieces.now) }
 {
     for index in 0..pieces.len() {
@@ -74,7 +74,7 @@ fn add_bar_trail(
 }
 
 /// The text from a line of this number on, where there is one.
-fn text_at<'a>(lines: &[Line<'a>], number: u32) -> &'a [u8]
+pub(crate) fn text_at<'a>(lines: &[Line<'a>], number: u32) -> &'a [u8]
     ensures { result.now ≡ text_at (map line_of lines.now) number }
 {
     match lines.get((number as usize).saturating_sub(1)) {

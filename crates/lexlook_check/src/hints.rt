@@ -1,6 +1,6 @@
 //! What is expected where a fault is.
 ghost use Rattle.std.specs.Prelude.{◌≡◌, ◌++◌, OnOk};
-ghost use Rattle.lexlook_check.specs.Hints.{action_hint, definition_hint, hint_words, limit_hint, notice_hint, outside_hint, pattern_hint, rule_hint};
+ghost use Rattle.lexlook_check.specs.Hints.{action_hint, definition_hint, difference_hint, hint_words, limit_hint, notice_hint, outside_hint, pattern_hint, rule_hint};
 
 use crate::notices::NoticeKind;
 use crate::source::add_under;
@@ -136,6 +136,24 @@ pub(crate) fn limit_hint(limit: BuildError) -> &'static str
     }
 }
 
+/// What is to be known where flex takes this otherwise by what a whole specification says, and of the default rule.
+fn difference_hint(kind: NoticeKind) -> &'static str
+    ensures { result.now ≡ difference_hint kind }
+{
+    match kind {
+        NoticeKind::NamedTrail => {
+            "flex reads the pattern of a name at the end of a trailing context in no parentheses, so that a `|` of it divides what stands before the name too: write `({NAME})`"
+        }
+        NoticeKind::EmptyHead => {
+            "a match has a byte at least, but flex may match the empty text before this trailing context, again and again: write what has a byte, as `a+` for `a*`"
+        }
+        NoticeKind::IdleEnd => {
+            "each condition has an <<EOF>> rule with a list, which it takes, so this one does nothing; flex makes of it a program that does not compile, or gives it the conditions whose own stands behind it"
+        }
+        _ => { "a last rule `.|\\n` of it takes each byte that the others leave" }
+    }
+}
+
 /// What is to be known where this is warned of outside of patterns.
 fn outside_hint(kind: NoticeKind) -> &'static str
     ensures { result.now ≡ outside_hint kind }
@@ -143,6 +161,9 @@ fn outside_hint(kind: NoticeKind) -> &'static str
     match kind {
         NoticeKind::EndAgain => {
             "the end of the input ends the scan, whatever the action; in flex an action without yyterminate and exit meets the end again, for ever"
+        }
+        NoticeKind::LoneReturn => {
+            "a carriage return ends a line with the newline behind it, and else it is a byte of its line: a file whose lines end with carriage returns alone is one line"
         }
         NoticeKind::UnusedDefinition => {
             "a definition stands for its pattern where its name is in braces, as `{DIGIT}`"
@@ -153,7 +174,7 @@ fn outside_hint(kind: NoticeKind) -> &'static str
         NoticeKind::NeverLeft => {
             "no rule that is active in it has BEGIN or yy_push_state of another, yy_pop_state, exit or yyterminate, so it lasts to the end of the input"
         }
-        _ => { "a last rule `.|\\n` of it takes each byte that the others leave" }
+        _ => difference_hint(kind),
     }
 }
 

@@ -1,6 +1,7 @@
 //! What is told of a specification; worked examples.
 ghost use Rattle.lexlook_check.specs.Checks.{NothingToldJustOf};
 ghost use Rattle.lexlook_check.specs.ConditionExamples.{ConditionExamples};
+ghost use Rattle.lexlook_check.specs.DifferenceExamples.{DifferenceExamples};
 ghost use Rattle.lexlook_check.specs.LeavingExamples.{LeavingExamples};
 ghost use Rattle.lexlook_check.specs.NoticeExamples.{NoticeExamples};
 ghost use Rattle.lexlook_check.specs.WarnedRules.{FlexRules, WarnedRules};
@@ -34,6 +35,11 @@ pub fn examples_of_warned_rules()
 /// Trailing context behind a rule with a bar, and rules at the end that do not end a scan of flex, worked by hand.
 pub fn examples_of_flex_rules()
     ensures { FlexRules }
+{}
+
+/// What flex takes otherwise by what a whole specification says, worked by hand.
+pub fn examples_of_differences()
+    ensures { DifferenceExamples }
 {}
 
 /// Conditions that no action enters, or leaves, worked by hand.

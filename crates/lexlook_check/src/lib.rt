@@ -4,12 +4,17 @@
 //! - `reader`: a reader of specifications, known by what it answers of a text. That of lex is one.
 //! - `leaving`: the text in which the lines of a rule are empty.
 //! - `finding`: the faults that a reader answers of a text, each behind that of the text without the rules before.
+//! - `returns`: carriage returns that end no line.
 //! - `unused`: definitions that no pattern uses.
 //! - `line_walks`: rules that walk a line at each of its bytes.
 //! - `case_ranges`: ranges from an upper to a lower case letter.
 //! - `flex_trails`: trailing context that flex takes otherwise.
 //! - `bar_trails`: trailing context behind a rule whose action is `|`, which it takes otherwise too.
 //! - `end_rules`: `<<EOF>>` rules whose action does not end the scan.
+//! - `named_trails`: definitions at the end of trailing context, which it reads in no parentheses.
+//! - `empty_heads`: rules with trailing context whose text may be empty, which it matches again and again.
+//! - `idle_ends`: `<<EOF>>` rules that serve no condition, since each has one of its own.
+//! - `differences`: these three, of a text that spells a specification.
 //! - `copies`: what the default rule copies in each condition, and where it is not to.
 //! - `conditions`: conditions that no action enters, or leaves, and exclusive ones in which the default rule copies.
 //! - `notices`: what is warned of in patterns and definitions, beside what lex warns of.
@@ -57,6 +62,8 @@ mod case_ranges;
 mod checking;
 mod conditions;
 mod copies;
+mod differences;
+mod empty_heads;
 mod end_rules;
 mod error;
 mod finding;
@@ -64,15 +71,18 @@ mod findings;
 mod flex_trails;
 mod hints;
 mod homes;
+mod idle_ends;
 mod json;
 mod laws;
 mod leaving;
 mod line_walks;
 mod lines;
+mod named_trails;
 mod notices;
 mod places;
 mod reader;
 mod remarks;
+mod returns;
 mod source;
 mod takings;
 mod telling;
@@ -84,8 +94,8 @@ pub use checking::{Checked, check};
 pub use error::CheckError;
 pub use finding::MAX_FAULTS;
 pub use laws::{
-    examples_of_conditions, examples_of_flex_rules, examples_of_leaving, examples_of_notices,
-    examples_of_warned_rules, examples_of_words, nothing_told,
+    examples_of_conditions, examples_of_differences, examples_of_flex_rules, examples_of_leaving,
+    examples_of_notices, examples_of_warned_rules, examples_of_words, nothing_told,
 };
 pub use notices::{Notice, NoticeKind};
 pub use places::SourceFile;

@@ -11,9 +11,11 @@ ghost use Rattle.lexlook_check.specs.Notices.{definition_notices, escapes_letter
 use crate::bar_trails::add_bar_trails;
 use crate::case_ranges::is_case_class;
 use crate::conditions::add_conditions;
+use crate::differences::add_differences;
 use crate::end_rules::add_ends;
 use crate::flex_trails::add_trail;
 use crate::line_walks::add_walk;
+use crate::returns::add_lone_returns;
 use crate::unused::add_unused;
 use lexkit::lines_of as rule_lines;
 use lexlook_text::{Line, LineKind, Piece, lines_of, pieces_of, section_lines};
@@ -41,6 +43,14 @@ pub enum NoticeKind {
     BarTrail,
     /// An `<<EOF>>` rule whose action does not end the scan.
     EndAgain,
+    /// A definition with `|` at the end of a trailing context.
+    NamedTrail,
+    /// A trailing context behind what may be empty.
+    EmptyHead,
+    /// An `<<EOF>>` rule without a condition list that serves no condition.
+    IdleEnd,
+    /// A carriage return that stands before no newline.
+    LoneReturn,
     /// A definition whose name stands in braces nowhere.
     UnusedDefinition,
     /// A condition that no action enters.
@@ -262,8 +272,9 @@ fn text_notices(
 }
 
 /// What is warned of in a text, which spells this specification, beside what lex warns of: in its definitions first, then
-/// in its rules, and then of definitions from the line `own` on that nothing in `whole` uses. Where nothing is left out of
-/// the text, its conditions come last. Of all these the first 100.
+/// in its rules, of definitions from the line `own` on that nothing in `whole` uses, then what flex takes otherwise by
+/// what the specification says, and carriage returns that end no line. Where nothing is left out of the text, its conditions
+/// come last. Of all these the first 100.
 pub(crate) fn notices_of(
     alloc: Global,
     own: usize,
@@ -279,6 +290,8 @@ pub(crate) fn notices_of(
 {
     let rules = rule_lines(alloc, spec.rules())?;
     let mut notices = text_notices(alloc, own, whole, rules.as_slice(), text)?;
+    add_differences(alloc, &mut notices, faultless, spec, text)?;
+    add_lone_returns(alloc, &mut notices, text)?;
     add_conditions(alloc, &mut notices, faultless, spec, copied, text)?;
     notices.truncate(MAX_NOTICES);
     Ok(notices)

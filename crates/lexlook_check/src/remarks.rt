@@ -3,8 +3,12 @@ ghost use Rattle.std.specs.Prelude.{◌≡◌};
 ghost use Rattle.lexlook_check.specs.Remarks.{fault_remark, interval_remark, is_of_file, line_remark, name_remark, operand_remark, pattern_remark, quote_remark, remark, remark_told, statement_remark};
 
 use crate::findings::What;
+use crate::returns::has_lone_return;
 use lexre_bytes::split_name;
 use lexspec::{PatternErrorKind, SpecErrorKind};
+
+/// What is said of a carriage return that ends no line.
+const CARRIAGE: &str = "a carriage return without a newline behind it ends no line; ";
 
 /// What is said of rules in braces.
 const LIST: &str =
@@ -160,6 +164,9 @@ fn fault_remark(whole: &[u8], kind: SpecErrorKind, at: usize, line: &[u8]) -> &'
 {
     if is_of_file(kind) && whole.starts_with(b"LEXTAB") {
         return TABLE;
+    }
+    if has_lone_return(line) || (is_of_file(kind) && has_lone_return(whole)) {
+        return CARRIAGE;
     }
     let around = line.get(at.saturating_sub(1)..).unwrap_or(b"");
     let rest = line.get(at..).unwrap_or(b"");
