@@ -17,5 +17,6 @@ pub mod Lying
 pub mod SoFar
 pub mod Pulling
 pub mod Glancing
+pub mod Listing
 pub mod Tables
 pub mod AskingComputed

@@ -64,7 +64,7 @@ pub has_ended : (o : Option ℕ) (status : ℕ) → o ≡ Some status → o ≡ 
 has_ended o status is none = let e = sym none ∙ is in cc
 
 -- an input that goes on from all that was fed goes on from what was given
-goes_on : (fed given left : List ℕ) (told at_end : Bool) (x : List ℕ) → fed ≡ given ++ left → (at_end ≡ true → (told ≡ true) × (left ≡ [])) → ExtendsGiven fed told x → ExtendsGiven given at_end x
+pub goes_on : (fed given left : List ℕ) (told at_end : Bool) (x : List ℕ) → fed ≡ given ++ left → (at_end ≡ true → (told ≡ true) × (left ≡ [])) → ExtendsGiven fed told x → ExtendsGiven given at_end x
 goes_on fed given left told true x all ending h =
     let e = ending refl in
     let whole : x ≡ fed = subst (λ b. ExtendsGiven fed b x) e.0 h in

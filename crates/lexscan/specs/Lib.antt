@@ -24,3 +24,5 @@ pub mod Scans
 pub mod Tokens
 pub mod Pulls
 pub mod Glances
+pub mod Series
+pub mod SeriesExamples

@@ -21,7 +21,7 @@ pub struct Burst {
 }
 
 /// Whether a line starts after so many bytes of a text, where one starts at its front or not.
-fn starts_line(line_start: bool, text: &[u8], count: usize) -> bool
+pub fn starts_line(line_start: bool, text: &[u8], count: usize) -> bool
     requires { count ≤ length text.now }
     ensures { result ≡ starts_line line_start text.now count }
 {

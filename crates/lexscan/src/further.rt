@@ -13,7 +13,7 @@ use lexscan_window::{RunError, State, TextPlace};
 
 /// Goes to the place after some turns over the bytes held and those shown after them.
 #[inline(always)]
-fn advance(state: &mut State, burst: Burst, got: usize)
+pub fn advance(state: &mut State, burst: Burst, got: usize)
     requires got { got ≤ length state.old.reading.window.ahead }
     requires few { state.old.reading.taken + got + bit_of state.old.reading.at_end ≤ state.old.reading.max_reads }
     requires done { burst.done ≤ length state.old.reading.window.bytes + got }
@@ -34,12 +34,12 @@ fn advance(state: &mut State, burst: Burst, got: usize)
 pub const MOST_SHOWN: usize = 8_192;
 
 /// How many bytes of the source are shown at once, at least.
-const LEAST_SHOWN: usize = 64;
+pub const LEAST_SHOWN: usize = 64;
 
 /// How many bytes are shown next, where so many were, and the turns over them were done with so many: what is shown
 /// in vain is no more than a part of what is done.
 #[inline]
-fn next_most(most: usize, done: usize) -> usize {
+pub fn next_most(most: usize, done: usize) -> usize {
     if done < most / 2 {
         (most / 2).max(LEAST_SHOWN)
     } else {

@@ -76,7 +76,12 @@ fn told_rule<M: Machine>(machine: &M, state: u32, gist: Gist<'_>) -> Option<u32>
 /// its rule.
 #[inline(always)]
 #[tactic(auto, using(lex_machine::proofs::Growing::is_text_from))]
-fn told_match<M: Machine>(machine: &M, first: u32, bytes: &[u8], condition: u8) -> Option<ToldMatch>
+pub fn told_match<M: Machine>(
+    machine: &M,
+    first: u32,
+    bytes: &[u8],
+    condition: u8,
+) -> Option<ToldMatch>
     requires first { first < M.states machine.now }
     ensures told { IfSome result (IsTold (M.machine machine.now) first bytes.now condition) }
     ensures text { IsText bytes.now }

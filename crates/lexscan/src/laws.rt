@@ -6,6 +6,7 @@ ghost use Rattle.lex_semantics.specs.Sound.{IsSound};
 ghost use Rattle.lex_semantics.specs.Spec.{Spec};
 ghost use Rattle.lex_semantics.specs.TableFor.{TableFor};
 ghost use Rattle.lexscan.specs.AskingExamples.{Asking, AskingEnd, Given, Known, Order};
+ghost use Rattle.lexscan.specs.SeriesExamples.{DrawnOut};
 ghost use Rattle.lexscan.specs.Tokens.{SameTokens};
 
 /// The tokens by a machine that is a table for a specification are those of the specification.
@@ -22,4 +23,9 @@ pub fn examples_of_asking()
     ensures given { Given }
     ensures known { Known }
     ensures order { Order }
+{}
+
+/// Worked examples of tokens of which few bytes are kept.
+pub fn examples_of_series()
+    ensures { DrawnOut }
 {}

@@ -9,6 +9,7 @@
 //! - `leave`: leaves the place of the match for that of the next one.
 //! - `burst`: many turns in one loop over bytes in memory, where each rule at most writes or sets the condition.
 //! - `glance`: one turn over bytes in memory, whose rule at most writes or sets the condition.
+//! - `series`: many such turns in one loop, which lists their tokens.
 //! - `further`: lets a burst go over the bytes that the source has ready.
 //! - `whole`: `run`, all turns to the end.
 //! - `scanner`: single turns, for callers.
@@ -17,7 +18,7 @@
 //! - `push`: a scan that is fed its input piece by piece.
 //! - `pull`: a scan that is fed piece by piece, and is asked for its tokens one by one.
 //! - `token`: the tokens of an input in memory, by the turns of a scanner.
-//! - `laws`: a table has the tokens of its specification; worked examples of what turns ask for.
+//! - `laws`: a table has the tokens of its specification; worked examples of what turns ask for and of tokens in few bytes.
 //!
 //! It promises lexkit what a run writes, takes and holds, by relations between scan, source and sink before and after
 //! (`specs/Scans`, `TurnInvariants`, `Runs`). How turns are made may be changed alone, under the contracts of `run`,
@@ -48,17 +49,19 @@ mod pull;
 mod push;
 mod scan;
 mod scanner;
+mod series;
 mod token;
 mod turn;
 mod whole;
 
-pub use laws::{examples_of_asking, table_tokens};
+pub use laws::{examples_of_asking, examples_of_series, table_tokens};
 pub use lex_io::{ByteReader, FromBytes, FromRead, MemorySource, ReadFault, Source};
 pub use lexscan_matching::{accepted, longest};
 pub use lexscan_window::{Candidate, Match, MatchedRule, RunError, Window};
 pub use pull::{PullScanner, Pulled, PulledToken};
 pub use push::PushScanner;
 pub use scanner::Scanner;
+pub use series::BriefToken;
 pub use token::{Token, texts_of, tokens};
 pub use turn::Turn;
 pub use whole::run;

@@ -9,10 +9,13 @@ ghost use Rattle.lexscan.specs.Scans.{IsGoing, ScanInvariant};
 ghost use Rattle.lexscan.specs.Pushes.{IsReachable, IsReachable-prop, IsAsking, IsAsking-prop};
 ghost use Rattle.lexscan.specs.declared.token.Token.{Token as TokenModel};
 ghost use Rattle.lexscan.specs.Pulls.{TokensTold, AfterPull, EndsInRange, RefusesPiece, TurnedOver, WaitsAfter};
+ghost use Rattle.lexscan.specs.Series.{TellsSeveral};
 
 use crate::asking::{walk_all, walk_on};
+use crate::further::{LEAST_SHOWN, next_most};
 use crate::push::{count_with, drop_front};
 use crate::scan::{Ends, Scan};
+use crate::series::BriefToken;
 use crate::turn::Turn;
 use lex_io::{NullSink, SliceSource};
 use lex_machine::Machine;
@@ -142,6 +145,8 @@ pub struct PullScanner<M: Machine> {
     from: usize,
     /// The machine's state after all of them, where the next match asks for more.
     asking: Option<u32>,
+    /// How many bytes that wait a series is shown next, at most.
+    most: usize,
     /// How long the text is of the token that was told last, or 0.
     shown: usize,
     /// Whether the end of the input was told.
@@ -184,6 +189,7 @@ impl<M: Machine> PullScanner<M> {
             waiting: Vec::new(alloc),
             from: 0,
             asking: None,
+            most: LEAST_SHOWN,
             shown: 0,
             finished: false,
         }
@@ -325,6 +331,39 @@ impl<M: Machine> PullScanner<M> {
                 },
             },
         }
+    }
+
+    /// The next tokens, as many as are told at a glance and lie among the bytes that wait. They are appended, each in few bytes,
+    /// and where the first begins is answered. Where the next one is not told so, or memory for it runs out, there are none, and
+    /// `next` has it.
+    pub fn next_several(&mut self, tokens: &mut Vec<BriefToken>) -> u64
+        ensures machine { pull_machine self.new ≡ pull_machine self.old }
+        ensures finished { pull_finished self.new ≡ pull_finished self.old }
+        ensures text { pull_text self.new ≡ [] }
+        ensures failed { (pull_state self.new).failed ≡ (pull_state self.old).failed }
+        ensures ended { (pull_state self.new).ended ≡ (pull_state self.old).ended }
+        ensures told { TellsSeveral (M.machine (pull_machine self.old)) (pull_finished self.old) (pull_state self.old)
+            (pull_state self.new) (pull_waiting self.old) (pull_waiting self.new) tokens.old.items tokens.new.items result }
+    {
+        self.shown = 0;
+        if !self.may_list() {
+            return 0;
+        }
+        self.asking = None;
+        let waiting = &self.waiting[self.from..];
+        let listed = self
+            .scan
+            .list_at_glance(&self.machine, waiting, self.most, tokens);
+        self.from += listed.got;
+        self.most = next_most(self.most, listed.done);
+        listed.start
+    }
+
+    /// Whether the scan goes on, and its next match may lie among the bytes that wait.
+    fn may_list(&self) -> bool
+        ensures going { result ≡ true → IsGoing self.now.scan }
+    {
+        !self.scan.state.failed && self.scan.state.ended.is_none() && !self.wants_more()
     }
 
     /// Whether it is known that the next match asks for more than was fed.

@@ -50,6 +50,8 @@ mod scanning;
 #[cfg(test)]
 mod scans;
 #[cfg(test)]
+mod series;
+#[cfg(test)]
 mod table_files;
 #[cfg(test)]
 mod turns;

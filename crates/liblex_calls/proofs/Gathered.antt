@@ -1,6 +1,7 @@
 -- What gathering the tokens of a whole input leaves.
-use Rattle.std.proofs.Common.{◌≡◌, ℕ, ◌+◌, ◌<◌, ◌≤◌, inl, inr, ◌⊎◌, min, Bool, true, false, List, [], ◌∷◌, ◌++◌, length, map, take, drop, Ok, refl, sym, ap, subst, ◌∙◌, length-append, arith}
-use Rattle.std.proofs.lemmas.List.{take_all, take-take, take-append-le, take-append-drop, length-take, length-map, map-append, drop_all}
+use Rattle.std.proofs.Common.{◌≡◌, ℕ, ◌+◌, ◌-◌, ◌<◌, ◌≤◌, inl, inr, ◌⊎◌, min, Bool, true, false, List, [], ◌∷◌, ◌++◌, length, map, take, drop, Ok, refl, sym, ap, subst, ◌∙◌, length-append, arith}
+use Rattle.std.proofs.lemmas.List.{take_all, take-take, take-append-le, take-append-drop, length-take, length-map, map-append, drop_all, append-nil}
+use Rattle.std.proofs.Math.Seq.{take-add, take-append_seam, drop-append_seam}
 use Rattle.lex_semantics.specs.Text.{IsText, part}
 use Rattle.lex_semantics.specs.Demand.{Consistent}
 use Rattle.lex_semantics.specs.Machine.{Machine}
@@ -14,8 +15,8 @@ use Rattle.liblex_calls.specs.Buffers.{HandedOut}
 use Rattle.liblex_calls.specs.Listing.{text_token}
 use Rattle.liblex_calls.specs.Rules.{rules_machine}
 use Rattle.liblex_calls.specs.Gathering.{AreKept, Feeds, kept_tokens}
-use Rattle.liblex_calls.specs.Brief.{drawn_out}
-use Rattle.liblex_calls.specs.declared.brief.BriefToken.{BriefToken}
+use Rattle.lexscan.specs.declared.series.BriefToken.{BriefToken}
+use Rattle.liblex_calls.specs.Brief.{long_tokens}
 use Rattle.liblex_calls.specs.declared.gathering.KeptTokens.{KeptTokens}
 use Rattle.liblex_calls.specs.declared.gathering.WholeScan.{WholeScan}
 use Rattle.liblex_calls.specs.declared.listing.TextToken.{TextToken}
@@ -41,16 +42,16 @@ first_handed items list old new room count is size buffer all =
 
 -- how many are kept
 pub kept_length : (k : KeptTokens) → length (kept_tokens k) ≡ length k.brief.items + length k.long.items
-kept_length k = omega (arith, length-append (drawn_out 0 k.brief.items) k.long.items, drawn_length 0 k.brief.items)
+kept_length k = omega (arith, length-append (long_tokens 0 k.brief.items) k.long.items, drawn_length 0 k.brief.items)
 
 -- what stands in a buffer that got those in brief, and then the others behind them
-pub handed_kept : (tokens : List Token) (k : KeptTokens) (old mid new : List TextToken) (brief : List BriefToken) (long : List TextToken) (n : ℕ) → AreKept tokens k → k.room ≡ length old → brief ≡ k.brief.items → long ≡ k.long.items → n ≡ length brief → mid ≡ take (length old) (drawn_out 0 brief) ++ drop (length brief) old → take n new ≡ take n mid →
+pub handed_kept : (tokens : List Token) (k : KeptTokens) (old mid new : List TextToken) (brief : List BriefToken) (long : List TextToken) (n : ℕ) → AreKept tokens k → k.room ≡ length old → brief ≡ k.brief.items → long ≡ k.long.items → n ≡ length brief → mid ≡ take (length old) (long_tokens 0 brief) ++ drop (length brief) old → take n new ≡ take n mid →
     take (length long) (drop n new) ≡ long → drop (n + length long) new ≡ drop (n + length long) mid → HandedOut (map text_token tokens) old new k.count
 handed_kept tokens k old mid new brief long n h size brief_is long_is count was front behind rest =
-    let drawn = drawn_out 0 brief in
+    let drawn = long_tokens 0 brief in
     let lengths : length drawn ≡ n = drawn_length 0 brief ∙ sym count in
     let few : n + length long ≤ length old = omega (arith, k.few, size, count, ap length brief_is, ap length long_is) in
-    let all : drawn ++ long ≡ kept_tokens k = ap (λ l. drawn_out 0 l ++ long) brief_is ∙ ap (λ l. drawn_out 0 k.brief.items ++ l) long_is in
+    let all : drawn ++ long ≡ kept_tokens k = ap (λ l. long_tokens 0 l ++ long) brief_is ∙ ap (λ l. long_tokens 0 k.brief.items ++ l) long_is in
     first_handed (map text_token tokens) (drawn ++ long) old new k.room k.count (all ∙ h.first) size (both_put drawn long old mid new n (sym lengths) few (was ∙ ap (λ i. take (length old) drawn ++ drop i old) (sym count)) front behind rest) (h.count_is ∙ sym (length-map tokens text_token))
 
 -- One token more, where there is room for it, and where there is none.
@@ -83,6 +84,42 @@ module _ (tokens : List Token) (t : Token) (k l : KeptTokens) (h : AreKept token
     first = list ∙ kept_full k.room (map text_token tokens) (kept_tokens k) (text_token t) h.first full ∙ with_more;
     count_is = one_more;
   }
+
+-- Of several tokens more the first, as many as there is room for.
+take_few : (n : ℕ) (l : List TextToken) → take (min n (length l)) l ≡ take n l
+take_few n l = from (either_way n (length l))
+  where
+    from : (n ≤ length l) ⊎ (length l ≤ n) → take (min n (length l)) l ≡ take n l
+    from (inl le) = let e : min n (length l) ≡ n = omega (arith, le) in ap (λ k. take k l) e
+    from (inr le) = take_all (min n (length l)) l (omega (arith, le)) ∙ sym (take_all n l le)
+
+take_past : (held more : List TextToken) (k : ℕ) → take (length held + k) (held ++ more) ≡ held ++ take k more
+take_past held more k = take-add (length held) k (held ++ more) ∙ ap (λ l. l ++ take k (drop (length held) (held ++ more))) (take-append_seam held more) ∙ ap (λ l. held ++ take k l) (drop-append_seam held more)
+
+kept_several : (room : ℕ) (all list more : List TextToken) → list ≡ take room all → list ++ take (room - length list) more ≡ take room (all ++ more)
+kept_several room all list more is = from (either_way (length all) room)
+  where
+    size : length list ≡ min room (length all)
+    size = ap length is ∙ length-take room all
+
+    from : (length all ≤ room) ⊎ (room ≤ length all) → list ++ take (room - length list) more ≡ take room (all ++ more)
+    from (inl le) =
+        let e : length all + (room - length list) ≡ room = omega (arith, size, le) in
+        ap (λ l. l ++ take (room - length list) more) (is ∙ take_all room all le) ∙ sym (take_past all more (room - length list)) ∙ ap (λ n. take n (all ++ more)) e
+    from (inr le) =
+        let none : room - length list ≡ 0 = omega (arith, size, le) in
+        ap (λ n. list ++ take n more) none ∙ append-nil list ∙ is ∙ sym (take-append-le room all more le)
+
+pub several_kept : (tokens more : List Token) (k l : KeptTokens) (n : ℕ) → AreKept tokens k → n ≡ min (k.room - length (kept_tokens k)) (length more) → l.room ≡ k.room → l.count ≡ k.count + length more → kept_tokens l ≡ kept_tokens k ++ take n (map text_token more) → AreKept (tokens ++ more) l
+several_kept tokens more k l n h is room count list = record {
+  first =
+      list
+      ∙ ap (λ i. kept_tokens k ++ take i (map text_token more)) (is ∙ ap (min (k.room - length (kept_tokens k))) (sym (length-map more text_token)))
+      ∙ ap (λ x. kept_tokens k ++ x) (take_few (k.room - length (kept_tokens k)) (map text_token more))
+      ∙ kept_several k.room (map text_token tokens) (kept_tokens k) (map text_token more) h.first
+      ∙ ap (λ i. take i (map text_token tokens ++ map text_token more)) (sym room) ∙ ap (take l.room) (sym (map-append text_token tokens more));
+  count_is = omega (arith, count, h.count_is, length-append tokens more);
+}
 
 -- The input goes on from what was fed of it.
 pub goes_on_so : (input : List ℕ) (fed : ℕ) (told : Bool) → IsText input → (told ≡ true → fed ≡ length input) → Consistent (take fed input) told input
@@ -126,3 +163,10 @@ not_whole b untold told = let no : false ≡ true = sym untold ∙ told in cc
 
 pub memory_is_no_fault : runs.OutOfMemory ≡ runs.Stack → ⊥
 memory_is_no_fault e = cc
+
+-- Several tokens were told in one go, by a machine that is known.
+pub several_by : (N M : Machine) (input : List ℕ) (tokens more : List Token) (w v : WholeScan) → N ≡ M → Feeds M input tokens w → pull_machine v.scanner ≡ pull_machine w.scanner → pull_finished v.scanner ≡ pull_finished w.scanner → v.fed ≡ w.fed →
+    (TokensTold N (take w.fed input) (pull_finished w.scanner) tokens (pull_state w.scanner) (pull_waiting w.scanner) → TokensTold N (take w.fed input) (pull_finished w.scanner) (tokens ++ more) (pull_state v.scanner) (pull_waiting v.scanner)) → Feeds M input (tokens ++ more) v
+several_by N M input tokens more w v is h machine finished fed f =
+    still_feeds M input tokens (tokens ++ more) w v h machine finished fed
+    (subst (λ (K : Machine). TokensTold K (take w.fed input) (pull_finished w.scanner) tokens (pull_state w.scanner) (pull_waiting w.scanner) → TokensTold K (take w.fed input) (pull_finished w.scanner) (tokens ++ more) (pull_state v.scanner) (pull_waiting v.scanner)) is f h.told)

@@ -11,7 +11,7 @@ use Rattle.lexscan.specs.Pulls.{TokensTold}
 use Rattle.lexscan.specs.Scanners.{pull_machine, pull_state, pull_waiting, pull_finished}
 use Rattle.lexscan.specs.Tokens.{Tokenised, Stopped}
 use Rattle.liblex_calls.specs.Listing.{text_token}
-use Rattle.liblex_calls.specs.Brief.{drawn_out}
+use Rattle.liblex_calls.specs.Brief.{long_tokens}
 use Rattle.liblex_calls.specs.Rules.{rules_machine}
 use Rattle.liblex_calls.specs.declared.gathering.KeptTokens.{KeptTokens}
 use Rattle.liblex_calls.specs.declared.gathering.WholeScan.{WholeScan}
@@ -19,7 +19,7 @@ use Rattle.liblex_calls.specs.declared.listing.TextToken.{TextToken}
 
 -- all that are kept, those in few bytes and those behind them
 abbrev pub kept_tokens : KeptTokens → List TextToken
-kept_tokens k = drawn_out 0 k.brief.items ++ k.long.items
+kept_tokens k = long_tokens 0 k.brief.items ++ k.long.items
 
 -- The first of these tokens are kept, as many as there is room for, and all of them are counted.
 pub record AreKept (tokens : List Token) (k : KeptTokens) : Type 0 where
@@ -47,8 +47,12 @@ abbrev pub Gathers : Machine → List ℕ → KeptTokens → Result ℕ RunError
 Gathers M input k (Ok status) = KeepsAll (rules_of_machine M) input status k
 Gathers M input k (Err e) = e ≡ runs.Stack → KeepsSome (rules_of_machine M) input k
 
+-- the tokens so far
+abbrev pub HasGathered : Machine → List ℕ → WholeScan → KeptTokens → Type 0
+HasGathered M input w k = (tokens : List Token) × Feeds M input tokens w × AreKept tokens k
+
 -- What one step leaves: the tokens so far, or what gathering comes to.
 abbrev pub Steps : Machine → List ℕ → WholeScan → KeptTokens → Result (Option ℕ) RunError → Type 0
-Steps M input w k (Ok None) = (tokens : List Token) × Feeds M input tokens w × AreKept tokens k
+Steps M input w k (Ok None) = HasGathered M input w k
 Steps M input w k (Ok (Some status)) = Gathers M input k (Ok status)
 Steps M input w k (Err e) = Gathers M input k (Err e)

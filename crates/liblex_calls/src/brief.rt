@@ -1,23 +1,16 @@
 //! Tokens that follow on each other, kept in few bytes each.
-ghost use Rattle.std.specs.Prelude.{◌≡◌, ◌+◌, ◌^◌, ◌<◌, ◌≤◌, ◌++◌, length, take, drop, IfSome};
+ghost use Rattle.std.specs.Prelude.{◌≡◌, ◌+◌, ◌^◌, ◌<◌, ◌≤◌, ◌++◌, length, take, drop, IfSome, OnOk};
 ghost use Rattle.lexscan.specs.Pulls.{whole_token};
+ghost use Rattle.lexscan.specs.Series.{end_of};
 ghost use Rattle.liblex_calls.specs.Listing.{text_token};
-ghost use Rattle.liblex_calls.specs.Brief.{long_token, end_of, drawn_out};
+ghost use Rattle.liblex_calls.specs.Brief.{long_token, long_tokens};
 
 use crate::listing::{TextToken, rule_number};
-use lexscan::PulledToken;
+use lexscan::{BriefToken, PulledToken};
+use std::alloc::AllocError;
 
 /// How long the text of a token may be that is kept so.
 const LONGEST: usize = 65_535;
-
-/// A token that begins where the one before it ends: the number of its rule, how long its text is, and the start condition
-/// in which it was made. It takes 8 bytes.
-#[derive(Clone, Copy)]
-pub(crate) struct BriefToken {
-    pub rule: u32,
-    pub length: u16,
-    pub condition: u8,
-}
 
 /// The token in few bytes, where it is not too long for that.
 pub(crate) fn brief_of(token: PulledToken) -> Option<BriefToken>
@@ -46,10 +39,41 @@ fn long_token(start: usize, token: &BriefToken) -> TextToken
     }
 }
 
+/// Where the last of these tokens ends, of which the first begins there.
+pub(crate) fn end_of(start: usize, tokens: &[BriefToken]) -> usize
+    requires { end_of start tokens.now < 2 ^ 64 }
+    ensures { result ≡ end_of start tokens.now }
+{
+    let mut end = start;
+    for i in 0..tokens.len() {
+        end += usize::from(tokens[i].length);
+    }
+    end
+}
+
+/// Appends tokens to a list, of which the first begins there. Where memory runs out some may be appended.
+pub(crate) fn append_long(
+    list: &mut Vec<TextToken>,
+    start: usize,
+    tokens: &[BriefToken],
+) -> Result<(), AllocError>
+    requires { end_of start tokens.now < 2 ^ 64 }
+    ensures appended { OnOk result (list.new.items ≡ list.old.items ++ long_tokens start tokens.now) }
+    ensures few { length list.new.items ≤ length list.old.items + length tokens.now }
+{
+    let mut next = start;
+    for i in 0..tokens.len() {
+        let long = long_token(next, &tokens[i]);
+        next = long.end;
+        list.push(long)?;
+    }
+    Ok(())
+}
+
 /// Puts the tokens at the front of a buffer, as many as it has room for. The first of them begins at 0.
 pub(crate) fn draw_out(tokens: &[BriefToken], buffer: &mut [TextToken])
     requires { end_of 0 tokens.now < 2 ^ 64 }
-    ensures { buffer.new ≡ take (length buffer.old) (drawn_out 0 tokens.now) ++ drop (length tokens.now) buffer.old }
+    ensures { buffer.new ≡ take (length buffer.old) (long_tokens 0 tokens.now) ++ drop (length tokens.now) buffer.old }
 {
     let mut start = 0;
     let room = tokens.len().min(buffer.len());

@@ -4,15 +4,16 @@ ghost use Rattle.std.specs.Prelude.{List, [], ◌∷◌, ◌++◌, length, map};
 ghost use Rattle.lex_semantics.specs.Machine.{Machine};
 ghost use Rattle.lexscan.specs.declared.token.Token.{Token as TokenModel};
 ghost use Rattle.lexscan.specs.Pulls.{whole_token};
+ghost use Rattle.lexscan.specs.Series.{end_of, drawn_out};
 ghost use Rattle.liblex_calls.specs.Listing.{text_token};
-ghost use Rattle.liblex_calls.specs.Brief.{long_token, end_of};
+ghost use Rattle.liblex_calls.specs.Brief.{long_token, long_tokens};
 
 use crate::answer::Answer;
-use crate::brief::{BriefToken, brief_of, draw_out, put_behind};
+use crate::brief::{append_long, brief_of, draw_out, end_of, put_behind};
 use crate::listing::{TextToken, rule_number};
 use crate::rules::Rules;
 use lexkit::RunError;
-use lexscan::{PullScanner, Pulled, PulledToken};
+use lexscan::{BriefToken, PullScanner, Pulled, PulledToken};
 use std::alloc::{AllocError, Global};
 
 /// How many bytes are fed at a time. The scan copies them.
@@ -50,7 +51,7 @@ pub(crate) struct KeptTokens {
 
 impl KeptTokens {
     ghost use Rattle.liblex_calls.specs.Buffers.{FitsInto, HandedOut};
-    ghost use Rattle.liblex_calls.specs.Gathering.{AreKept};
+    ghost use Rattle.liblex_calls.specs.Gathering.{AreKept, kept_tokens};
 
     /// None so far, and room for so many.
     pub(crate) fn new(alloc: Global, room: usize) -> KeptTokens
@@ -100,6 +101,37 @@ impl KeptTokens {
         Ok(())
     }
 
+    /// Keeps tokens of which the first begins there, where there is room for them.
+    fn keep_all(&mut self, start: usize, several: &[BriefToken]) -> Result<(), AllocError>
+        requires few { length self.old.brief.items + length self.old.long.items + length several.now ≤ self.old.room }
+        requires small { end_of start several.now < 2 ^ 64 }
+        ensures kept { OnOk result (kept_tokens self.new ≡ kept_tokens self.old ++ long_tokens start several.now) }
+        ensures count { self.new.count ≡ self.old.count }
+        ensures room { self.new.room ≡ self.old.room }
+    {
+        if !self.long.is_empty() || start != self.end {
+            return append_long(&mut self.long, start, several);
+        }
+        self.brief.extend_from_slice(several)?;
+        self.end = end_of(start, several);
+        Ok(())
+    }
+
+    /// Counts tokens of which the first begins there, and keeps as many as there is room for.
+    fn keep_several(&mut self, start: u64, several: &[BriefToken]) -> Result<(), AllocError>
+        requires { end_of start several.now < 2 ^ 64 }
+        ensures kept { (tokens : List TokenModel) → AreKept tokens self.old
+            → OnOk result (AreKept (tokens ++ drawn_out start several.now) self.new) }
+        ensures room { self.new.room ≡ self.old.room }
+    {
+        let Some(count) = self.count.checked_add(several.len()) else {
+            return Err(AllocError);
+        };
+        self.count = count;
+        let left = self.room - (self.brief.len() + self.long.len());
+        self.keep_all(start as usize, &several[..left.min(several.len())])
+    }
+
     /// Puts the tokens at the front of a buffer, as many as it has room for, and tells how many there are.
     pub(crate) fn hand_tokens(&self, buffer: &mut [TextToken], count: &mut usize) -> Answer
         requires { self.now.room ≡ length buffer.old }
@@ -125,12 +157,14 @@ pub(crate) struct WholeScan {
     scanner: PullScanner<Rules>,
     /// How many bytes of the input were fed.
     fed: usize,
+    /// The tokens that were told last, several in one go.
+    several: Vec<BriefToken>,
 }
 
 impl WholeScan {
     ghost use Rattle.lexscan.specs.Scanners.{pull_finished};
     ghost use Rattle.liblex_calls.specs.Rules.{rules_machine};
-    ghost use Rattle.liblex_calls.specs.Gathering.{AreKept, Feeds, Gathers, Steps};
+    ghost use Rattle.liblex_calls.specs.Gathering.{AreKept, Feeds, Gathers, HasGathered, Steps};
 
     /// One that was fed nothing.
     pub(crate) fn new(alloc: Global, rules: Rules) -> WholeScan
@@ -140,6 +174,7 @@ impl WholeScan {
         WholeScan {
             scanner: PullScanner::new(alloc, rules),
             fed: 0,
+            several: Vec::new(alloc),
         }
     }
 
@@ -163,6 +198,18 @@ impl WholeScan {
         }
         self.scanner.finish();
         Ok(())
+    }
+
+    /// Keeps the next tokens that are told in one go.
+    fn keep_on(&mut self, kept: &mut KeptTokens) -> Result<(), AllocError>
+        ensures gathered { (M : Machine) (input : List ℕ) (tokens : List TokenModel) → Feeds M input tokens self.old
+            → AreKept tokens kept.old → OnOk result (HasGathered M input self.new kept.new) }
+        ensures fed { self.new.fed ≡ self.old.fed }
+        ensures room { kept.new.room ≡ kept.old.room }
+    {
+        self.several.clear();
+        let start = self.scanner.next_several(&mut self.several);
+        kept.keep_several(start, &self.several)
     }
 
     /// Keeps the next token, or feeds the next piece where the scan asks for more. After the end it answers the status.
@@ -195,6 +242,11 @@ impl WholeScan {
         ensures room { kept.new.room ≡ kept.old.room }
     {
         'steps: for _ in 0..u64::MAX {
+            // Most tokens are told in one go, and the others one by one.
+            match self.keep_on(kept) {
+                Err(_) => return Err(RunError::OutOfMemory),
+                Ok(()) => {}
+            }
             match self.step(input, kept) {
                 Ok(None) => {}
                 Ok(Some(status)) => return Ok(status),

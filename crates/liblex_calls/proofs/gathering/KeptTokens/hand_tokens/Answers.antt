@@ -1,5 +1,5 @@
 use Rattle.std.proofs.Common.{◌^◌, ◌<◌, sym, subst, arith}
-use Rattle.liblex_calls.specs.Brief.{end_of}
+use Rattle.lexscan.specs.Series.{end_of}
 use Rattle.std.proofs.lemmas.List.{length-map}
 use Rattle.liblex_calls.specs.Listing.{text_token}
 use Rattle.liblex_calls.proofs.Gathered.{handed_kept}

@@ -1,9 +1,11 @@
 use Rattle.std.proofs.Common.{rules, ◌≡◌, ◌+◌, [], ◌∷◌, ◌++◌, length, length-append, refl, sym, ap, subst, ◌∙◌, arith, append_assoc}
 use Rattle.lexscan.specs.Pulls.{whole_token}
-use Rattle.liblex_calls.specs.Brief.{long_token, end_of, drawn_out}
+use Rattle.lexscan.specs.Series.{end_of}
+use Rattle.liblex_calls.specs.Brief.{long_token, long_tokens}
 use Rattle.liblex_calls.specs.Listing.{text_token}
 use Rattle.liblex_calls.specs.declared.listing.TextToken.{TextToken}
-use Rattle.liblex_calls.proofs.Drawn.{brief_more, end_more}
+use Rattle.lexscan.proofs.Listing.{end_more}
+use Rattle.liblex_calls.proofs.Drawn.{brief_more}
 use Rattle.liblex_calls.proofs.Gathered.{more_kept, full_kept, kept_length}
 use Rattle.liblex_calls.proofs.gathering.KeptTokens.keep.Goals as goal
 
@@ -36,10 +38,10 @@ returns-in-Some-in_brief-clause-kept c tokens h =
     let t = text_token (whole_token c.args.token) in
     let is : long_token (end_of 0 k.brief.items) b ≡ t = subst (λ n. long_token n b ≡ t) k.ends c.in-Some-in_brief.ensures.token in
     let pushed : c.push.new.self.items ≡ k.brief.items ++ b ∷ [] = search rules in
-    more_kept tokens (whole_token c.args.token) k _ h refl (omega arith) (ap (λ l. drawn_out 0 l ++ k.long.items) pushed ∙ brief_more k.brief.items k.long.items b t c.in-Some-in_brief.ensures.alone is) (omega (arith, kept_length k))
+    more_kept tokens (whole_token c.args.token) k _ h refl (omega arith) (ap (λ l. long_tokens 0 l ++ k.long.items) pushed ∙ brief_more k.brief.items k.long.items b t c.in-Some-in_brief.ensures.alone is) (omega (arith, kept_length k))
 
 pub returns-clause-kept : goal.returns-clause-kept
 returns-clause-kept c tokens h =
     let k = c.args.self.now in
     let t = text_token (whole_token c.args.token) in
-    more_kept tokens (whole_token c.args.token) k _ h refl (omega arith) (ap (λ l. drawn_out 0 k.brief.items ++ l) (search rules) ∙ sym (append_assoc (drawn_out 0 k.brief.items) k.long.items (t ∷ []))) (omega (arith, kept_length k))
+    more_kept tokens (whole_token c.args.token) k _ h refl (omega arith) (ap (λ l. long_tokens 0 k.brief.items ++ l) (search rules) ∙ sym (append_assoc (long_tokens 0 k.brief.items) k.long.items (t ∷ []))) (omega (arith, kept_length k))

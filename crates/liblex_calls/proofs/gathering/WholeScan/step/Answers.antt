@@ -45,7 +45,7 @@ pub returns-in-Ok-clause-steps : goal.returns-in-Ok-clause-steps
 returns-in-Ok-clause-steps c M tokens h k =
     let w = c.args.self.now in
     let s = c.next.new.self in
-    let v : WholeScan = record { scanner = s; fed = w.fed } in
+    let v : WholeScan = record { scanner = s; fed = w.fed; several = w.several } in
     let input = c.args.input.now in
     let fed = take w.fed input in
     let t = c.in-Ok-Token.token in
@@ -62,7 +62,7 @@ pub returns-in-Ok-feed_on-clause-steps : goal.returns-in-Ok-feed_on-clause-steps
 returns-in-Ok-feed_on-clause-steps c M tokens h k =
     let w = c.args.self.now in
     let s = c.next.new.self in
-    let v : WholeScan = record { scanner = s; fed = w.fed } in
+    let v : WholeScan = record { scanner = s; fed = w.fed; several = w.several } in
     let input = c.args.input.now in
     let fed = take w.fed input in
     let after = pulled_by (rules_machine (pull_machine w.scanner)) M fed (pull_finished w.scanner) tokens (pull_state w.scanner) (pull_state s) (pull_waiting w.scanner) (pull_waiting s) (pull_text s) c.in-Ok-More.field-0 pulls.More h.machine c.in-Ok-More.field-0-is (c.in-Ok-More.ensures.pulled fed tokens) h.told in

@@ -1,0 +1,309 @@
+//! Tokens that are told several in one go: where a series stops and goes on, over pieces and over inputs longer than one of them.
+use crate::building::{machine_of, made};
+use crate::for_c::{NO_TOKEN, token};
+use lexkit::Flat;
+use lexscan::{BriefToken, MatchedRule, PullScanner, Pulled, PulledToken};
+use liblex_calls::{Answer, TextToken, tokens_into};
+use std::alloc::{AllocError, Global};
+use std::test::Fail;
+
+/// A token in few bytes.
+const fn brief(rule: u32, length: u16, condition: u8) -> BriefToken {
+    BriefToken {
+        rule,
+        length,
+        condition,
+    }
+}
+
+/// Whether just these tokens are told in one go, of which the first begins there.
+fn tells(
+    alloc: Global,
+    scanner: &mut PullScanner<Flat>,
+    start: u64,
+    wanted: &[BriefToken],
+) -> bool {
+    let mut tokens = Vec::new(alloc);
+    let first = scanner.next_several(&mut tokens);
+    tokens.as_slice() == wanted
+        && (wanted.is_empty() || first == start)
+        && scanner.text().is_empty()
+}
+
+/// Whether this token is told by itself.
+fn tells_one(scanner: &mut PullScanner<Flat>, rule: u32, start: u64, length: usize) -> bool {
+    scanner.next()
+        == Ok(Pulled::Token(PulledToken {
+            rule: MatchedRule::Numbered(rule),
+            start,
+            length,
+            condition: 0,
+        }))
+}
+
+/// The first token is told by itself, since no byte is held before it; the last one may go on.
+#[test]
+fn tells_those_that_end_in_what_was_fed(rt: HostRuntime) -> Result<(), Fail> {
+    let alloc = rt.alloc();
+    let machine = machine_of(alloc, "%%\n[a-z]+ ;\n[0-9]+ ;\n\" \" ;\n")?;
+    let mut scanner = PullScanner::new(alloc, machine);
+    assert!(rt; tells(alloc, &mut scanner, 0, &[]));
+    assert!(rt; scanner.feed(b"ab 12 c") == Ok(()));
+    assert!(rt; tells_one(&mut scanner, 0, 0, 2));
+    let several = [brief(2, 1, 0), brief(1, 2, 0), brief(2, 1, 0)];
+    assert!(rt; tells(alloc, &mut scanner, 2, &several));
+    assert!(rt; tells(alloc, &mut scanner, 6, &[]));
+    assert!(rt; scanner.next() == Ok(Pulled::More));
+    assert!(rt; scanner.feed(b"d") == Ok(()) && tells(alloc, &mut scanner, 6, &[]));
+    assert!(rt; scanner.feed(b" 3 ") == Ok(()));
+    let several = [
+        brief(0, 2, 0),
+        brief(2, 1, 0),
+        brief(1, 1, 0),
+        brief(2, 1, 0),
+    ];
+    assert!(rt; tells(alloc, &mut scanner, 6, &several));
+    scanner.finish();
+    assert!(rt; tells(alloc, &mut scanner, 0, &[]) && scanner.next() == Ok(Pulled::Ended(0)));
+    assert!(rt; tells(alloc, &mut scanner, 0, &[]) && scanner.next() == Ok(Pulled::Ended(0)));
+    Ok(())
+}
+
+/// Each token has its own condition. A series stops before a rule that does more than write or begin a condition.
+#[test]
+fn stops_where_a_rule_does_more(rt: HostRuntime) -> Result<(), Fail> {
+    let alloc = rt.alloc();
+    let text = "%x C\n%%\na BEGIN(C);\n<C>b BEGIN(INITIAL);\nc yyless(1);\n[f-z] ;\n";
+    let mut scanner = PullScanner::new(alloc, machine_of(alloc, text)?);
+    assert!(rt; scanner.feed(b"fabcfab") == Ok(()));
+    assert!(rt; tells_one(&mut scanner, 3, 0, 1));
+    assert!(rt; tells(alloc, &mut scanner, 1, &[brief(0, 1, 0), brief(1, 1, 1)]));
+    assert!(rt; tells(alloc, &mut scanner, 3, &[]) && tells_one(&mut scanner, 2, 3, 1));
+    let several = [brief(3, 1, 0), brief(0, 1, 0), brief(1, 1, 1)];
+    assert!(rt; tells(alloc, &mut scanner, 4, &several));
+    Ok(())
+}
+
+/// A line, and how many of them are scanned: more bytes than one series goes over.
+const LINE: &[u8] = b"ab 12\n";
+
+const LINES: usize = 5_000;
+
+/// The token at a place in their list.
+fn token_at(place: usize) -> TextToken {
+    let line = 6 * (place / 4).min(LINES);
+    match place % 4 {
+        0 => token(line, line + 2, 0),
+        1 => token(line + 2, line + 3, 3),
+        2 => token(line + 3, line + 5, 1),
+        _ => token(line + 5, line + 6, 2),
+    }
+}
+
+/// All of them.
+fn lines(alloc: Global) -> Result<Vec<u8>, AllocError> {
+    let mut input = Vec::new(alloc);
+    for _ in 0..LINES {
+        input.extend_from_slice(LINE)?;
+    }
+    Ok(input)
+}
+
+/// What is answered where there is room for so many tokens, with how many there are; and whether those in the buffer are these.
+fn listed(alloc: Global, room: usize) -> Result<(Answer, usize, bool), Fail> {
+    let file = made(alloc, b"%%\n[a-z]+ ;\n[0-9]+ ;\n\\n ;\n\" \" ;\n")?;
+    let input = lines(alloc)?;
+    let mut tokens = Vec::new(alloc);
+    tokens.resize(room, NO_TOKEN)?;
+    let mut count = 0;
+    let mut status = 9;
+    let answer = tokens_into(
+        alloc,
+        file.written(),
+        &input,
+        &mut tokens,
+        &mut count,
+        &mut status,
+    );
+    let mut so = status == 0;
+    for (place, token) in tokens.iter().enumerate() {
+        so = so && *token == token_at(place);
+    }
+    Ok((answer, count, so))
+}
+
+#[test]
+fn lists_over_the_seams_of_series(rt: HostRuntime) -> Result<(), Fail> {
+    assert!(rt; listed(rt.alloc(), 20_000)? == (Answer::Done, 20_000, true));
+    Ok(())
+}
+
+/// There is room up to the middle of a series.
+#[test]
+fn lists_as_many_as_there_is_room_for(rt: HostRuntime) -> Result<(), Fail> {
+    assert!(rt; listed(rt.alloc(), 10_001)? == (Answer::TooSmall, 20_000, true));
+    assert!(rt; listed(rt.alloc(), 0)? == (Answer::TooSmall, 20_000, true));
+    Ok(())
+}
+
+/// Where a token begins and ends, and its rule.
+type Place = (usize, usize, u32);
+
+/// Whether just these tokens, of INITIAL, stand at the front of a buffer.
+fn are_listed(tokens: &[TextToken], wanted: &[Place]) -> bool {
+    for (i, listed) in tokens.iter().enumerate() {
+        let at = match wanted.get(i) {
+            Some(&(start, end, rule)) => token(start, end, rule),
+            None => NO_TOKEN,
+        };
+        if *listed != at {
+            return false;
+        }
+    }
+    wanted.len() <= tokens.len()
+}
+
+/// Whether the scan of an input is answered so, and tells these tokens and this status.
+fn lists(
+    alloc: Global,
+    text: &[u8],
+    input: &[u8],
+    wanted: &[Place],
+    ended: (Answer, u8),
+) -> Result<bool, Fail> {
+    let file = made(alloc, text)?;
+    let mut tokens = [NO_TOKEN; 9];
+    let mut count = 0;
+    let mut status = 9;
+    let answer = tokens_into(
+        alloc,
+        file.written(),
+        input,
+        &mut tokens,
+        &mut count,
+        &mut status,
+    );
+    Ok((answer, status) == ended && count == wanted.len() && are_listed(&tokens, wanted))
+}
+
+/// A text, an input, its tokens, and the status. One rule does more than write or begin a condition, and others do not.
+type Short = (&'static [u8], &'static [u8], &'static [Place], u8);
+
+const SHORT: &[Short] = &[
+    // The longest match is rejected, and the next one carried out.
+    (
+        b"%%\na ;\nbc REJECT;\nb ;\nc ;\n",
+        b"aabcaa",
+        &[
+            (0, 1, 0),
+            (1, 2, 0),
+            (2, 3, 2),
+            (3, 4, 3),
+            (4, 5, 0),
+            (5, 6, 0),
+        ],
+        0,
+    ),
+    // What a match gives back is scanned again.
+    (
+        b"%%\na ;\nb/cc ;\nc ;\n",
+        b"aabccaa",
+        &[
+            (0, 1, 0),
+            (1, 2, 0),
+            (2, 3, 1),
+            (3, 4, 2),
+            (4, 5, 2),
+            (5, 6, 0),
+            (6, 7, 0),
+        ],
+        0,
+    ),
+    // The end of the input has a rule.
+    (
+        b"%%\na ;\n<<EOF>> exit(3);\n",
+        b"aaa",
+        &[(0, 1, 0), (1, 2, 0), (2, 3, 0)],
+        3,
+    ),
+    // A token begins before the end of the one before it, and those behind it keep their places.
+    (
+        b"%%\na+ yymore();\nb ;\nc ;\n",
+        b"cccaabccc",
+        &[
+            (0, 1, 2),
+            (1, 2, 2),
+            (2, 3, 2),
+            (3, 5, 0),
+            (3, 6, 1),
+            (6, 7, 2),
+            (7, 8, 2),
+            (8, 9, 2),
+        ],
+        0,
+    ),
+];
+
+#[test]
+fn lists_those_that_a_series_stops_before(rt: HostRuntime) -> Result<(), Fail> {
+    for &(text, input, wanted, status) in SHORT {
+        assert!(rt;
+            lists(rt.alloc(), text, input, wanted, (Answer::Done, status))?,
+            "{status}"
+        );
+    }
+    Ok(())
+}
+
+/// A word, many letters and a word, with a blank between any two.
+fn long(alloc: Global, size: usize) -> Result<Vec<u8>, AllocError> {
+    let mut input = Vec::from_slice(alloc, b"ab ".as_slice())?;
+    input.resize(3 + size.min(100_000), b'x')?;
+    input.extend_from_slice(b" ab")?;
+    Ok(input)
+}
+
+/// The longest text that is kept in few bytes, and one byte more.
+#[test]
+fn lists_long_texts(rt: HostRuntime) -> Result<(), Fail> {
+    const ROWS: &[(usize, &[Place])] = &[
+        (
+            65_535,
+            &[
+                (0, 2, 0),
+                (2, 3, 1),
+                (3, 65_538, 0),
+                (65_538, 65_539, 1),
+                (65_539, 65_541, 0),
+            ],
+        ),
+        (
+            65_536,
+            &[
+                (0, 2, 0),
+                (2, 3, 1),
+                (3, 65_539, 0),
+                (65_539, 65_540, 1),
+                (65_540, 65_542, 0),
+            ],
+        ),
+    ];
+    let text = b"%%\n[a-z]+ ;\n\" \" ;\n";
+    for &(size, wanted) in ROWS {
+        let input = long(rt.alloc(), size)?;
+        assert!(rt;
+            lists(rt.alloc(), text, &input, wanted, (Answer::Done, 0))?,
+            "{size}"
+        );
+    }
+    Ok(())
+}
+
+/// The tokens before a fault of the stack.
+#[test]
+fn lists_up_to_a_fault_of_the_stack(rt: HostRuntime) -> Result<(), Fail> {
+    let text = b"%option stack\n%%\na ;\nb yy_pop_state();\n";
+    let wanted = [(0, 1, 0), (1, 2, 0), (2, 3, 0)];
+    assert!(rt; lists(rt.alloc(), text, b"aaaba", &wanted, (Answer::Stack, 0))?);
+    Ok(())
+}
