@@ -4,7 +4,6 @@
 use Rattle.std.specs.Prelude.{ℕ, zero, suc, ◌-◌, ◌==◌, ◌&&◌, ◌||◌, Bool, true, false, not, if◌then◌else◌, List, [], ◌∷◌, flat_map, length, Option, Some, None, option_map, codes}
 use Rattle.lex_semantics.specs.ByteSets.{same_bytes}
 use Rattle.lex_semantics.specs.Reading.{after_blanks, goes_on_name, starts_name, take_run}
-use Rattle.lexre.specs.Limits.{max_open}
 use Rattle.lexlook_text.specs.Pieces.{pieces_from}
 use Rattle.lexlook_check.specs.BarTrails.{text_at}
 use Rattle.lexlook_check.specs.Unused.{name_there}
@@ -50,6 +49,10 @@ last_name (Some e) = option_map (λ name. (e.0, name)) (piece_name e.1.1)
 abbrev pub end_of : End → Bool × List ℕ
 end_of e = (e.whole, e.name.now)
 
+-- so many names are followed at most, each at the end of the pattern of the one before it
+abbrev pub most_names : ℕ
+most_names = 8
+
 -- Without parentheses round the pattern of a name at the end a `|` of it divides more: the name is no branch of its
 -- own. The same of the name at the end of that pattern, of which parentheses are left out too, through k names.
 abbrev pub loses_bar : ℕ → List (ℕ × List ℕ) → Option (Bool × List ℕ) → Bool
@@ -73,7 +76,7 @@ last_notices n (Some e) = record { line = n; at = e.1.0; size = length e.1.1; ki
 abbrev pub named_notices : List (ℕ × List ℕ) → ℕ → List ℕ → List Notice
 named_notices definitions n text =
     let end = last_piece true (behind_slash (pieces_from 0 0 text)) in
-    if loses_bar max_open definitions (last_name end) then last_notices n end else []
+    if loses_bar most_names definitions (last_name end) then last_notices n end else []
 
 -- of the rules at these lines of a text
 abbrev pub named_trails : List (ℕ × List ℕ) → List (ℕ × List ℕ) → List ℕ → List Notice

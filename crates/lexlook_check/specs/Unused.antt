@@ -5,7 +5,7 @@ use Rattle.lex_semantics.specs.Reading.{goes_on_name, take_run}
 use Rattle.lexlook_check.specs.declared.notices.Notice.{Notice}
 use Rattle.lexlook_check.specs.declared.notices.NoticeKind.TheVariants.{UnusedDefinition}
 
--- the names of so many definitions are looked for at most
+-- the names of so many definitions are looked for at most, and so many rules are followed into definitions
 abbrev pub max_looked_for : ℕ
 max_looked_for = 1000
 

@@ -8,7 +8,7 @@ use crate::empty_heads::add_empty_heads;
 use crate::findings::known_lines;
 use crate::idle_ends::add_idle_ends;
 use crate::named_trails::add_named_trails;
-use crate::notices::Notice;
+use crate::notices::{MAX_LOOKED_FOR, Notice};
 use lexkit::lines_of as rule_lines;
 use lexlook_text::{Line, LineKind, section_lines};
 use lexspec::Spec;
@@ -43,7 +43,8 @@ fn add_differences_in(
         ≡ notices.old.items ++ differences_in faultless (spec_of spec.now) (map line_of lines.now)) }
 {
     let definitions = section_lines(alloc, LineKind::Definition, lines)?;
-    let rules = rule_lines(alloc, spec.rules())?;
+    let mut rules = rule_lines(alloc, spec.rules())?;
+    rules.truncate(MAX_LOOKED_FOR);
     add_named_trails(
         alloc,
         notices,

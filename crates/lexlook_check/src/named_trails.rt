@@ -1,9 +1,8 @@
 //! Definitions at the end of trailing context, whose pattern flex reads as if it stood in no parentheses.
 ghost use Rattle.std.specs.Prelude.{◌≡◌, ◌≤◌, ◌<◌, ◌+◌, ◌^◌, ◌&&◌, ◌++◌, not, true, IfOk, OnOk, map, option_map};
-ghost use Rattle.lexre.specs.Limits.{max_open};
 ghost use Rattle.lexlook_text.specs.LineViews.{line_of};
 ghost use Rattle.lexlook_text.specs.PieceViews.{piece_of};
-ghost use Rattle.lexlook_check.specs.NamedTrails.{behind_slash, end_of, has_branches, last_name, last_notices, last_piece, loses_bar, named_notices, named_trails, open_behind, pattern_of, piece_name};
+ghost use Rattle.lexlook_check.specs.NamedTrails.{behind_slash, end_of, has_branches, last_name, last_notices, last_piece, loses_bar, most_names, named_notices, named_trails, open_behind, pattern_of, piece_name};
 
 use crate::bar_trails::text_at;
 use crate::notices::{Notice, NoticeKind};
@@ -12,8 +11,8 @@ use lexre_bytes::{split_name, starts_name};
 use lexspec_lines::skip_blanks;
 use std::alloc::{AllocError, Global};
 
-/// The most names that are read one in the pattern of another.
-const MAX_OPEN: usize = 64;
+/// The most names that are followed, each at the end of the pattern of the one before it.
+const MOST_NAMES: usize = 8;
 
 /// The name at the end of a pattern.
 #[derive(Clone, Copy)]
@@ -118,10 +117,10 @@ fn loses_bar<'a>(
     definitions: &[Line<'a>],
     end: Option<End<'a>>,
 ) -> Result<bool, AllocError>
-    ensures { IfOk result (λ r. r ≡ loses_bar max_open (map line_of definitions.now) (option_map end_of end.entry)) }
+    ensures { IfOk result (λ r. r ≡ loses_bar most_names (map line_of definitions.now) (option_map end_of end.entry)) }
 {
     let mut next = end;
-    for _ in 0..MAX_OPEN {
+    for _ in 0..MOST_NAMES {
         let Some(End { whole, name }) = next else {
             return Ok(false);
         };

@@ -243,8 +243,8 @@ fn add_all_rule_notices(
 /// The most places that are told of.
 const MAX_NOTICES: usize = 100;
 
-/// The most definitions whose names are looked for.
-const MAX_LOOKED_FOR: usize = 1000;
+/// The most definitions whose names are looked for, and the most rules whose trailing context is followed into definitions.
+pub(crate) const MAX_LOOKED_FOR: usize = 1000;
 
 /// What is warned of in the definitions of a text, and then in its rules, which stand at these lines: in each alone, and
 /// then behind one with `|`. Then in its `<<EOF>>` rules, and those of its definitions from the line `own` on that nothing
