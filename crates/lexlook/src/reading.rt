@@ -1,5 +1,5 @@
 //! The files that the program reads: one of a subcommand, two that are compared, or those that are a specification together.
-ghost use Rattle.std.specs.Prelude.{◌≡◌, ◌⊎◌, ℕ, false, IfErr, IfOk};
+ghost use Rattle.std.specs.Prelude.{◌≡◌, ◌⊎◌, ℕ, true, false, IfErr, IfOk};
 ghost use Rattle.lexkit.specs.Failures.{out_of_memory};
 ghost use Rattle.lexlook_calls.specs.Sides.{is_table_file};
 ghost use Rattle.lexlook.specs.declared.failure.LookFailure.{LookFailure};
@@ -32,16 +32,23 @@ pub fn read_file(rt: &HostRuntime, name: String, most: u64) -> Result<ReadFile, 
     }
 }
 
+/// A file that is to be a specification. A table file is refused.
+fn as_specification(file: ReadFile) -> Result<ReadFile, LookFailure>
+    ensures taken { IfOk result (λ taken. (taken ≡ file) × (is_table_file file.bytes.items ≡ false)) }
+    ensures refused { IfErr result (λ failure. (failure ≡ LookFailure.Table file.name) × (is_table_file file.bytes.items ≡ true)) }
+{
+    if is_table_file(file.bytes.as_slice()) {
+        return Err(LookFailure::Table { file: file.name });
+    }
+    Ok(file)
+}
+
 /// The bytes of a file that is to be a specification: one more than it may have at most. A table file is refused. `-` is
 /// standard input.
 pub fn read_spec_file(rt: &HostRuntime, name: String) -> Result<ReadFile, LookFailure>
     ensures { IfOk result (λ file. is_table_file file.bytes.items ≡ false) }
 {
-    let file = read_file(rt, name, SPEC_READ_BYTES)?;
-    if is_table_file(file.bytes.as_slice()) {
-        return Err(LookFailure::Table { file: file.name });
-    }
-    Ok(file)
+    as_specification(read_file(rt, name, SPEC_READ_BYTES)?)
 }
 
 /// The files that are a specification together. Of a longer one than a specification may be it is one byte more, and what

@@ -1,7 +1,8 @@
 -- By which of its statements a rule stands against cuts of an input at its newlines. (This project's.)
 use Rattle.std.specs.Prelude.{ℕ, Bool, true, false, if◌then◌else◌, List, codes}
 use Rattle.std.specs.List.{list_any}
-use Rattle.lex_semantics.specs.Spec.{Statement, More, End, Push, Pop}
+use Rattle.lex_semantics.specs.Legal.{has_more}
+use Rattle.lex_semantics.specs.Spec.{Statement, End, Push, Pop}
 
 -- it ends the scan (flex, Actions: yyterminate; exit)
 abbrev pub is_end : Statement → Bool
@@ -14,11 +15,6 @@ uses_stack (Push d) = true
 uses_stack Pop = true
 uses_stack other = false
 
--- it keeps the text for the next match (POSIX, Actions in lex: yymore)
-abbrev pub is_more : Statement → Bool
-is_more More = true
-is_more other = false
-
 -- what an action does that may stand nowhere
 abbrev pub unsteady_words : List Statement → List ℕ
 unsteady_words ss =
@@ -28,4 +24,4 @@ unsteady_words ss =
 
 -- what an action leaves that may not take a newline
 abbrev pub straying_words : List Statement → List ℕ
-straying_words ss = if list_any is_more ss then codes "the text is kept" else codes "the scan is not in INITIAL"
+straying_words ss = if has_more ss then codes "the text is kept" else codes "the scan is not in INITIAL"

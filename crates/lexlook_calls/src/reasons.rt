@@ -1,8 +1,9 @@
 //! By which of its statements a rule stands against cuts of an input at its newlines.
 ghost use Rattle.std.specs.Prelude.{◌≡◌, map};
 ghost use Rattle.std.specs.List.{list_any};
+ghost use Rattle.lex_semantics.specs.Legal.{has_more};
 ghost use Rattle.lex_machine.specs.Views.{statement_of};
-ghost use Rattle.lexlook_calls.specs.Reasons.{is_end, is_more, uses_stack, straying_words, unsteady_words};
+ghost use Rattle.lexlook_calls.specs.Reasons.{is_end, uses_stack, straying_words, unsteady_words};
 
 use lex_machine::Statement;
 
@@ -18,13 +19,6 @@ fn uses_stack(statement: &Statement) -> bool
     ensures { result ≡ uses_stack (statement_of statement.now) }
 {
     matches!(statement, Statement::Push(_) | Statement::Pop)
-}
-
-/// Whether it keeps the text for the next match.
-fn is_more(statement: &Statement) -> bool
-    ensures { result ≡ is_more (statement_of statement.now) }
-{
-    matches!(statement, Statement::More)
 }
 
 /// Whether one of the statements ends the scan.
@@ -53,10 +47,10 @@ fn any_stack(statements: &[Statement]) -> bool
 
 /// Whether one of the statements keeps the text for the next match.
 fn any_more(statements: &[Statement]) -> bool
-    ensures { result ≡ list_any is_more (map statement_of statements.now) }
+    ensures { result ≡ has_more (map statement_of statements.now) }
 {
     for statement in statements {
-        if is_more(statement) {
+        if statement.is_yymore() {
             return true;
         }
     }

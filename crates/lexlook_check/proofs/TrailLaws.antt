@@ -1,5 +1,6 @@
 -- Names at the end of a pattern, and of the pattern of these.
-use Rattle.std.proofs.Common.{◌≡◌, ℕ, suc, ◌+◌, ◌-◌, ◌<◌, ◌&&◌, ◌||◌, Bool, true, false, not, List, Option, Some, refl, ap, arith}
+use Rattle.std.proofs.Common.{◌≡◌, ℕ, suc, ◌+◌, ◌-◌, ◌<◌, ◌≤◌, ◌&&◌, ◌||◌, Bool, true, false, not, List, Option, Some, length, refl, ap, arith, take, take_all}
+use Rattle.std.specs.List.{filter}
 use Rattle.lexlook_text.specs.Pieces.{pieces_from}
 use Rattle.lexlook_check.specs.NamedTrails.{has_branches, last_name, last_piece, loses_bar, pattern_of}
 
@@ -22,3 +23,7 @@ stepped k i definitions e near = ap (λ n. loses_bar n definitions (Some e)) (on
 pub undivided : (b c : Bool) → b ≡ false → (b || c) ≡ c
 undivided true c e = cc
 undivided false c e = refl
+
+-- what passes of so many of the elements as there are
+pub all_passed : (p : ℕ → Bool) (n : ℕ) (xs : List ℕ) → length xs ≤ n → filter p (take n xs) ≡ filter p xs
+all_passed p n xs all = ap (filter p) (take_all n xs all)

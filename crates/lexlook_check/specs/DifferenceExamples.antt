@@ -1,5 +1,5 @@
 -- What flex takes otherwise by what a whole specification says, worked by hand.
-use Rattle.std.specs.Prelude.{◌≡◌, ℕ, Bool, true, false, List, [], ◌∷◌, ◌++◌, Option, Some, None, codes, map}
+use Rattle.std.specs.Prelude.{◌≡◌, ℕ, Bool, true, false, List, [], ◌∷◌, ◌++◌, Option, Some, None, codes, map, replicate}
 use Rattle.lex_semantics.specs.Spec.{Rule, Whole}
 use Rattle.lex_semantics.specs.Tree.{Tree, Empty, Set, Cat, Alt, Star, Repeat, tree, no_trees}
 use Rattle.lexlook_text.specs.DefinitionLines.{lines_from, section_lines}
@@ -8,7 +8,7 @@ use Rattle.lexlook_check.specs.ConditionExamples.{condition_with}
 use Rattle.lexlook_check.specs.Differences.{differences}
 use Rattle.lexlook_check.specs.EmptyHeads.{empty_heads}
 use Rattle.lexlook_check.specs.IdleEnds.{idle_ends}
-use Rattle.lexlook_check.specs.NamedTrails.{named_trails}
+use Rattle.lexlook_check.specs.NamedTrails.{named_trails, trail_lines}
 use Rattle.lexlook_check.specs.Returns.{lone_returns}
 
 -- the rule that is the last of these lines stands at line 4; the places and sizes of names that are told of it
@@ -36,6 +36,8 @@ pub record NamedTrailExamples : Type 0 where
   pub interval : NamedAt two_names (codes "a/x{2} ;\n") []
   -- one whose `|` stands in parentheses, in a class, in quotes, or behind a backslash
   pub inside : NamedAt (codes "D (b|c)\nE [|]\"|\"\\|(x({D}|y)|z)\n") (codes "a/x{E} ;\n") []
+  -- a hundred rules that end otherwise do not count
+  pub others : trail_lines (lines_from 1 true (codes "a/{D} ;\n{D}/a ;\n")) (replicate 100 2 ++ 1 ∷ []) ≡ 1 ∷ []
 
 -- a rule at line n whose sides have these trees
 abbrev pub sided : ℕ → Tree → Option Tree → Rule

@@ -1,7 +1,8 @@
 -- Definitions at the end of trailing context. (flex 2.6.4, as it was tried: it reads the pattern of such a one as if it
 -- stood in no parentheses, so that a `|` of it divides what stands before it too: docs/MANUAL.md, Differences from lex
 -- and flex.)
-use Rattle.std.specs.Prelude.{ℕ, zero, suc, ◌-◌, ◌==◌, ◌&&◌, ◌||◌, Bool, true, false, not, if◌then◌else◌, List, [], ◌∷◌, flat_map, length, Option, Some, None, option_map, codes}
+use Rattle.std.specs.Prelude.{ℕ, zero, suc, ◌-◌, ◌==◌, ◌&&◌, ◌||◌, Bool, true, false, not, if◌then◌else◌, List, [], ◌∷◌, flat_map, length, Option, Some, None, is_some, option_map, take, codes}
+use Rattle.std.specs.List.{filter}
 use Rattle.lex_semantics.specs.ByteSets.{same_bytes}
 use Rattle.lex_semantics.specs.Reading.{after_blanks, goes_on_name, starts_name, take_run}
 use Rattle.lexlook_text.specs.Pieces.{pieces_from}
@@ -78,6 +79,19 @@ named_notices definitions n text =
     let end = last_piece true (behind_slash (pieces_from 0 0 text)) in
     if loses_bar most_names definitions (last_name end) then last_notices n end else []
 
--- of the rules at these lines of a text
+-- a name stands at the end of the trailing context of a rule with this text
+abbrev pub ends_in_name : List ℕ → Bool
+ends_in_name text = is_some (last_name (last_piece true (behind_slash (pieces_from 0 0 text))))
+
+-- so many of such rules are looked at
+abbrev pub most_trails : ℕ
+most_trails = 100
+
+-- the first of these lines of a text at which such a rule stands
+abbrev pub trail_lines : List (ℕ × List ℕ) → List ℕ → List ℕ
+trail_lines lines rules = take most_trails (filter (λ n. ends_in_name (text_at lines n)) rules)
+
+-- of those of the rules at these lines of a text
 abbrev pub named_trails : List (ℕ × List ℕ) → List (ℕ × List ℕ) → List ℕ → List Notice
-named_trails definitions lines rules = flat_map (λ n. named_notices definitions n (text_at lines n)) rules
+named_trails definitions lines rules =
+    flat_map (λ n. named_notices definitions n (text_at lines n)) (trail_lines lines rules)

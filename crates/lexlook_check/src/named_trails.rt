@@ -2,7 +2,7 @@
 ghost use Rattle.std.specs.Prelude.{◌≡◌, ◌≤◌, ◌<◌, ◌+◌, ◌^◌, ◌&&◌, ◌++◌, not, true, IfOk, OnOk, map, option_map};
 ghost use Rattle.lexlook_text.specs.LineViews.{line_of};
 ghost use Rattle.lexlook_text.specs.PieceViews.{piece_of};
-ghost use Rattle.lexlook_check.specs.NamedTrails.{behind_slash, end_of, has_branches, last_name, last_notices, last_piece, loses_bar, most_names, named_notices, named_trails, open_behind, pattern_of, piece_name};
+ghost use Rattle.lexlook_check.specs.NamedTrails.{behind_slash, end_of, ends_in_name, has_branches, last_name, last_notices, last_piece, loses_bar, most_names, named_notices, named_trails, open_behind, pattern_of, piece_name, trail_lines};
 
 use crate::bar_trails::text_at;
 use crate::notices::{Notice, NoticeKind};
@@ -13,6 +13,9 @@ use std::alloc::{AllocError, Global};
 
 /// The most names that are followed, each at the end of the pattern of the one before it.
 const MOST_NAMES: usize = 8;
+
+/// The most rules that are looked at, of those whose trailing context ends in a name.
+const MOST_TRAILS: usize = 100;
 
 /// The name at the end of a pattern.
 #[derive(Clone, Copy)]
@@ -185,7 +188,34 @@ fn add_named_trail<'a>(
     add_last(notices, rule, last)
 }
 
-/// Appends those of the rules at these lines.
+/// Whether a name stands at the end of the trailing context of a rule with this text.
+fn ends_in_name(alloc: Global, text: &[u8]) -> Result<bool, AllocError>
+    ensures { IfOk result (λ r. r ≡ ends_in_name text.now) }
+{
+    let pieces = pieces_of(alloc, 0, text)?;
+    Ok(last_name(last_piece(true, behind_slash(pieces.as_slice()))).is_some())
+}
+
+/// The first of these lines at which such a rule stands.
+#[tactic(auto, using(crate::proofs::TrailLaws::all_passed))]
+fn trail_lines(
+    alloc: Global,
+    lines: &[Line<'_>],
+    rules: &[u32],
+) -> Result<Vec<u32>, AllocError>
+    ensures { IfOk result (λ r. r.items ≡ trail_lines (map line_of lines.now) rules.now) }
+{
+    let mut found = Vec::new(alloc);
+    for rule in rules {
+        if ends_in_name(alloc, text_at(lines, *rule))? {
+            found.push(*rule)?;
+        }
+    }
+    found.truncate(MOST_TRAILS);
+    Ok(found)
+}
+
+/// Appends those of the first rules at these lines whose trailing context ends in a name.
 pub(crate) fn add_named_trails<'a>(
     alloc: Global,
     notices: &mut Vec<Notice>,
@@ -196,7 +226,8 @@ pub(crate) fn add_named_trails<'a>(
     ensures { OnOk result (notices.new.items
         ≡ notices.old.items ++ named_trails (map line_of definitions.now) (map line_of lines.now) rules.now) }
 {
-    for rule in rules {
+    let found = trail_lines(alloc, lines, rules)?;
+    for rule in found.as_slice() {
         add_named_trail(alloc, notices, definitions, *rule, text_at(lines, *rule))?;
     }
     Ok(())

@@ -10,7 +10,7 @@ unfolding has set_of single is_alpha is_digit is_alnum is_blank is_upper is_lowe
 returns c = record {
   all = refl;
   at_fault = refl;
-  names = record { ended = refl; branch = refl; whole = refl; branches = refl; nested = refl; midst = refl; enclosed = refl; head = refl; interval = refl; inside = refl };
+  names = record { ended = refl; branch = refl; whole = refl; branches = refl; nested = refl; midst = refl; enclosed = refl; head = refl; interval = refl; inside = refl; others = refl };
   heads = record { star = refl; none = refl; choice = refl; series = refl; once = refl; behind = refl; choices = refl; alone = refl };
   ends = record { listed = refl; lists = refl; every = refl; left = refl; longer = refl; pattern = refl; none = refl };
   returns = record { within = refl; several = refl; last = refl; ended = refl };
