@@ -198,11 +198,7 @@ fn ends_in_name(alloc: Global, text: &[u8]) -> Result<bool, AllocError>
 
 /// The first of these lines at which such a rule stands.
 #[tactic(auto, using(crate::proofs::TrailLaws::all_passed))]
-fn trail_lines(
-    alloc: Global,
-    lines: &[Line<'_>],
-    rules: &[u32],
-) -> Result<Vec<u32>, AllocError>
+fn trail_lines(alloc: Global, lines: &[Line<'_>], rules: &[u32]) -> Result<Vec<u32>, AllocError>
     ensures { IfOk result (λ r. r.items ≡ trail_lines (map line_of lines.now) rules.now) }
 {
     let mut found = Vec::new(alloc);
