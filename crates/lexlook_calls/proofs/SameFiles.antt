@@ -20,7 +20,7 @@ use Rattle.lextab_file.specs.File.{file_of}
 use Rattle.lexkit.specs.Headline.{reading}
 use Rattle.lexkit.specs.declared.options.Options.{Options}
 use Rattle.lexkit.proofs.FileScanned.{one_list_of_flags, same_machine}
-use Rattle.lexlook_tables.specs.Same.{number_in, renumbered, deed_of, deed_in, rules_at}
+use Rattle.lexlook_tables.specs.Same.{number_in, renumbered, deed_of, deed_in, is_single, rules_at}
 use Rattle.lexlook_tables.specs.Comparing.{Compares}
 use Rattle.lexlook_tables.specs.Scans.{BeginTogether}
 use Rattle.lexlook_tables.specs.declared.same.tables.Comparison.{Comparison}
@@ -94,13 +94,13 @@ own_statements (s ∷ ss) = ap (λ z. z ∷ map (renumbered []) ss) (own_stateme
 
 own_deeds : (M : Machine) (is : List ℕ) → map (deed_in [] M) is ≡ map (deed_of M) is
 own_deeds M [] = refl
-own_deeds M (i ∷ is) = ap (λ ss. (record { cut = M.cut i; statements = ss }) ∷ map (deed_in [] M) is) (own_statements (M.statements i)) ∙ ap (λ l. deed_of M i ∷ l) (own_deeds M is)
+own_deeds M (i ∷ is) = ap (λ ss. (record { cut = (deed_of M i).cut; statements = ss }) ∷ map (deed_in [] M) is) (own_statements (deed_of M i).statements) ∙ ap (λ l. deed_of M i ∷ l) (own_deeds M is)
 
 same_as_itself : (M : Machine) (told : Comparison) → Compares [] M M told → (told ≡ Conditions → ⊥) → told ≡ Same
 same_as_itself M Same c other = refl
 same_as_itself M Conditions c other = absurd (other refl)
 same_as_itself M (Ends d) c other = absurd (c.1.1 refl)
-same_as_itself M (Texts d) c other = absurd (c.4.differ (own_deeds M (rules_at c.2 M (state_after M d.condition d.line_start d.text.items))))
+same_as_itself M (Texts d) c other = absurd (c.2.differ (own_deeds M (rules_at (is_single d.text.items) M (state_after M d.condition d.line_start d.text.items))))
 
 module _ (one_table : (t u : Table) (x y : List ℕ) → IsTable t → IsTable u → file_of t ++ x ≡ file_of u ++ y → (t ≡ u) × (x ≡ y)) where
   -- the bytes of a table file stand for one machine

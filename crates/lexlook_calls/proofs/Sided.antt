@@ -1,14 +1,11 @@
 -- Conditions that are paired, and rules that have lines.
-use Rattle.std.proofs.Common.{◌++◌, zero, suc, get_or, refl, inl, inr, Bool, true, false, ◌∷◌, take, ◌≡◌, ℕ, ◌<◌, ◌∙◌, List, [], length, ap, sym, subst, Some, None, Option, Err, arith}
-use Rattle.std.specs.Prelude.{IfSome}
+use Rattle.std.proofs.Common.{◌++◌, zero, suc, get_or, refl, inl, inr, ◌∷◌, ◌≡◌, ℕ, ◌<◌, ◌∙◌, List, [], length, ap, sym, subst, Some, None, Option, Err, arith}
 use Rattle.std.proofs.lemmas.List.{length-map}
 use Rattle.std.proofs.lemmas.Option.{slice_get_within}
 use Rattle.lex_semantics.specs.Spec.{Spec, Condition}
 use Rattle.lex_semantics.specs.Machine.{Machine}
-use Rattle.lex_semantics.specs.MachineLaws.{MachineLaws}
-use Rattle.lex_semantics.specs.Text.{Among}
 use Rattle.lexkit.specs.declared.options.Options.{Options}
-use Rattle.lexlook_tables.specs.Same.{number_in, rules_at}
+use Rattle.lexlook_tables.specs.Same.{number_in}
 use Rattle.lexlook_tables.specs.Comparing.{Compares}
 use Rattle.lexlook_tables.specs.declared.same.tables.Comparison.{Comparison}
 use Rattle.lexlook_tables.specs.declared.same.tables.Comparison.TheVariants.{Same, Conditions, Ends, Texts}
@@ -44,23 +41,6 @@ paired_within a b order labels labels' paired same c lt = by a.given b.given lab
         omega (arith, y, k.0, length-map T.conditions (λ (z : Condition). z.name))
     by (Some S) None l k p = none p
     by None h l k p = none p
-
-first_is : (xs : List ℕ) (x : ℕ) → Among (take 1 xs) x → Among xs x
-first_is [] x a = a
-first_is (y ∷ xs) x (inl e) = inl e
-first_is (y ∷ xs) x (inr a) = absurd a
-
--- a rule of which a match asks has a line
-pub taken_labelled : (a : Side) → MachineLaws a.machine → IsLabelled a → (all : Bool) (s i : ℕ) → Among (rules_at all a.machine s) i → IfSome a.given (λ S. i < length S.rules)
-taken_labelled a laws labels all s i among = by a.given labels (counted all among)
-  where
-    counted : (all : Bool) → Among (rules_at all a.machine s) i → i < a.machine.count
-    counted true m = laws.in_range s i m
-    counted false m = laws.in_range s i (first_is (a.machine.accepts s) i m)
-
-    by : (g : Option Spec) → IsLabelled (record { name = a.name; machine = a.machine; given = g }) → i < a.machine.count → IfSome g (λ S. i < length S.rules)
-    by None l lt = tt
-    by (Some S) l lt = (let e = l.1 in omega (arith, e, lt))
 
 -- an element of a list that has grown by one, and the last one
 pub left_of : (xs : List ℕ) (y i d : ℕ) → i < length xs → get_or (xs ++ y ∷ []) i d ≡ get_or xs i d

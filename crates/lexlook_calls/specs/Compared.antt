@@ -1,7 +1,7 @@
 -- What is told of two files. (This project's.)
 use Rattle.std.specs.Prelude.{◌≡◌, ◌⊎◌, ℕ, Bool, true, false, List, Result, Ok, Err}
 use Rattle.lex_io.specs.Sink.{Appended}
-use Rattle.lexlook_tables.specs.Comparing.{Compares, Counts}
+use Rattle.lexlook_tables.specs.Comparing.{Compares}
 use Rattle.lexlook_tables.specs.declared.same.tables.Comparison.{Comparison}
 use Rattle.lexlook_tables.specs.declared.same.tables.Comparison.TheVariants.{Same, Conditions, Ends, Texts}
 use Rattle.lexkit.specs.declared.options.Options.{Options}
@@ -38,9 +38,7 @@ pub record Says {K : Type 0} (wrote : K → List ℕ → K → Type 0) (a b : Si
   pub order : List ℕ
   pub told : Comparison
   pub holds : HoldsOfSides a b order told
-  pub all : Bool
-  pub counts : Counts all a.machine b.machine
-  pub written : Appended (λ xs. wrote s xs t) (told_line a b order all told) answer
+  pub written : Appended (λ xs. wrote s xs t) (told_line a b order told) answer
 
 -- the answer says whether they do the same; where memory runs out the sink is as it was
 abbrev pub SaysOf : {K : Type 0} → (K → List ℕ → K → Type 0) → Side → Side → K → K → Result Bool LookError → Type 0

@@ -1,11 +1,11 @@
 -- The line that tells of what two files do not do the same. (This project's.)
-use Rattle.std.specs.Prelude.{◌≡◌, ℕ, ◌==◌, ◌&&◌, Bool, true, false, if◌then◌else◌, nat_le, List, [], ◌∷◌, ◌++◌, slice_index, slice_index_or, length, Option, Some, None, IfSome, codes, decimal}
+use Rattle.std.specs.Prelude.{◌≡◌, ℕ, ◌==◌, ◌&&◌, Bool, true, false, if◌then◌else◌, nat_le, nat_lt, List, [], ◌∷◌, ◌++◌, slice_index, slice_index_or, length, Option, Some, None, IfSome, codes, decimal}
 use Rattle.std.specs.List.{concat, flat_map}
 use Rattle.lex_semantics.specs.Spec.{Spec}
 use Rattle.lex_semantics.specs.Machine.{Machine, state_after}
 use Rattle.lex_io.specs.Octal.{octal}
 use Rattle.lexlook_specs.specs.Pictures.{quoted_byte}
-use Rattle.lexlook_tables.specs.Same.{number_in, rules_at}
+use Rattle.lexlook_tables.specs.Same.{is_single, number_in, rules_at}
 use Rattle.lexlook_tables.specs.declared.same.differing.Difference.{Difference}
 use Rattle.lexlook_tables.specs.declared.same.tables.Comparison.{Comparison}
 use Rattle.lexlook_tables.specs.declared.same.tables.Comparison.TheVariants.{Same, Conditions, Ends, Texts}
@@ -33,10 +33,14 @@ abbrev pub rule_words : Option Spec → ℕ → List ℕ
 rule_words (Some S) i = codes " line " ++ decimal (slice_index (lines_of S.rules) i)
 rule_words None i = codes " rule " ++ decimal i
 
+-- A rule of which a match asks: there are so many, and the default rule has the number after them.
+abbrev pub asked_words : Option Spec → ℕ → ℕ → List ℕ
+asked_words given count i = if nat_lt i count then rule_words given i else codes " the default rule"
+
 -- the rules of which a match asks
-abbrev pub taken : Option Spec → List ℕ → List ℕ
-taken given [] = codes " nothing"
-taken given (i ∷ is) = flat_map (rule_words given) (i ∷ is)
+abbrev pub taken : Option Spec → ℕ → List ℕ → List ℕ
+taken given count [] = codes " nothing"
+taken given count (i ∷ is) = flat_map (asked_words given count) (i ∷ is)
 
 abbrev pub start_words : Bool → List ℕ
 start_words true = codes " at the start of a line"
@@ -48,8 +52,8 @@ naming (Some S) other = Some S
 naming None other = other
 
 -- a file's name, and what it does
-abbrev pub side_words : List ℕ → Option Spec → List ℕ → List ℕ
-side_words name given rules = name ++ taken given rules
+abbrev pub side_words : List ℕ → Option Spec → ℕ → List ℕ → List ℕ
+side_words name given count rules = name ++ taken given count rules
 
 abbrev pub text_place : Option Spec → Difference → List ℕ
 text_place given d = concat (
@@ -73,18 +77,19 @@ side_as name s = record { name = name; machine = table_machine s.tables; given =
 abbrev pub IsLabelled : Side → Type 0
 IsLabelled a = IfSome a.given (λ S. (length S.conditions ≡ a.machine.conditions) × (length S.rules ≡ a.machine.count))
 
-abbrev pub taken_by : Side → Bool → ℕ → Difference → List ℕ
-taken_by a all c d =
-    side_words a.name a.given (rules_at all a.machine (state_after a.machine c d.line_start d.text.items))
+abbrev pub taken_by : Side → ℕ → Difference → List ℕ
+taken_by a c d =
+    side_words a.name a.given a.machine.count
+    (rules_at (is_single d.text.items) a.machine (state_after a.machine c d.line_start d.text.items))
 
 -- the line of what is told, and none where they do the same
-abbrev pub told_line : Side → Side → List ℕ → Bool → Comparison → List ℕ
-told_line a b order all Same = []
-told_line a b order all Conditions = both a.name b.name ++ codes " have different start conditions\n"
-told_line a b order all (Ends c) = concat (
+abbrev pub told_line : Side → Side → List ℕ → Comparison → List ℕ
+told_line a b order Same = []
+told_line a b order Conditions = both a.name b.name ++ codes " have different start conditions\n"
+told_line a b order (Ends c) = concat (
     codes "in " ∷ condition_words (naming a.given b.given) c ∷ codes " at the end of the input " ∷ both a.name b.name
     ∷ codes " do different things" ∷ codes "\n" ∷ [])
-told_line a b order all (Texts d) = concat (
-    text_place (naming a.given b.given) d ∷ taken_by a all d.condition d ∷ codes ", "
-    ∷ taken_by b all (number_in order d.condition) d
+told_line a b order (Texts d) = concat (
+    text_place (naming a.given b.given) d ∷ taken_by a d.condition d ∷ codes ", "
+    ∷ taken_by b (number_in order d.condition) d
     ∷ codes "\n" ∷ [])

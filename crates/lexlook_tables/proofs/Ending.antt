@@ -1,15 +1,18 @@
 -- What a search has found where it begins, goes on and ends.
 use Rattle.std.proofs.Common.{◌≡◌, ℕ, zero, suc, ◌+◌, ◌*◌, ◌≤◌, ◌<◌, Bool, true, false, List, [], ◌∷◌, ◌++◌, length, take, ◌⊎◌, inl, inr, refl, sym, ◌∙◌, ap, subst, get_or, map, arith}
-use Rattle.std.proofs.lemmas.Bool.{cases_lt}
+use Rattle.std.specs.Prelude.{nat_eq}
+use Rattle.std.proofs.lemmas.Bool.{cases_lt, eq-eqb, ne_eqb}
 use Rattle.std.proofs.lemmas.Option.{slice_get_within}
 use Rattle.std.proofs.lemmas.List.{take_more, take_all, length-append, length-map}
 use Rattle.lex_semantics.specs.Text.{IsText}
 use Rattle.lex_semantics.specs.Machine.{Machine, walk, state_after}
 use Rattle.lex_semantics.proofs.MachineLaws.{walk-append}
-use Rattle.lexlook_tables.specs.Same.{deeds_at, deeds_in, number_in, Agree, AlwaysAgree, Differs, key}
+use Rattle.lexlook_tables.specs.Same.{deeds_at, deeds_in, is_single, number_in, Agree, AlwaysAgree, Differs, key}
 use Rattle.lexlook_tables.specs.declared.same.differing.Difference.{Difference}
 use Rattle.lexlook_tables.specs.declared.same.pairs.Pair.{Pair}
-use Rattle.lexlook_tables.specs.Searching.{HasAt, KeyAt, IsKey, start_key, IsFrom, IsSeen, AreStarts, Searched, DifferAt, IsTextOf}
+use Rattle.lexlook_tables.specs.declared.same.pairs.Sight.{Sight}
+use Rattle.lexlook_tables.specs.declared.same.pairs.Sight.TheVariants.{Unseen}
+use Rattle.lexlook_tables.specs.Searching.{HasAt, KeyAt, IsKey, start_key, IsFrom, IsSeen, was_seen, AreStarts, Searched, DifferAt, IsTextOf}
 use Rattle.lexauto_reports.specs.BackWords.{Precedes, NotAfter, Smaller}
 use Rattle.lexauto_reports.proofs.Orders as Words
 use Rattle.lexlook_tables.proofs.Orders as Order
@@ -24,9 +27,14 @@ byte_at (b ∷ w) (suc k) text lt = byte_at w k text.1 (omega (arith, lt))
 one_byte : (M : Machine) (s : ℕ) (w : List ℕ) (k : ℕ) → k < length w → walk M s (take (k + 1) w) ≡ M.next (walk M s (take k w)) (get_or w k 0)
 one_byte M s w k lt = ap (walk M s) (take_more w k 0 lt) ∙ walk-append M s (take k w) (get_or w k 0 ∷ [])
 
+-- a text is a single byte where what is before its last byte leads to a start
+single_at : (far k : ℕ) → far ≤ k → (1 ≤ k → 1 ≤ far) → nat_eq far 0 ≡ nat_eq (suc k) 1
+single_at far zero le some = eq-eqb far 0 (omega (arith, le)) ∙ sym (eq-eqb (suc zero) 1 (omega arith))
+single_at far (suc k) le some = (let more = some (omega arith) in ne_eqb far 0 (λ e. omega (arith, e, more)) ∙ sym (ne_eqb (suc (suc k)) 1 (λ e. omega (arith, e))))
+
 -- before any pair is widened
-pub searched_none : (order : List ℕ) (all : Bool) (M N : Machine) (m n k : ℕ) (ps : List Pair) (seen : List Bool) → AreStarts order M N m n ps k → k ≡ M.conditions → length seen ≡ m * n → ((i : ℕ) → get_or seen i false ≡ false) → Searched order all M N m n ps seen 0 0
-searched_none order all M N m n k ps seen h conditions size none = record {
+pub searched_none : (order : List ℕ) (M N : Machine) (m n k : ℕ) (ps : List Pair) (seen : List Sight) → AreStarts order M N m n ps k → k ≡ M.conditions → length seen ≡ m * n → ((i : ℕ) → get_or seen i Unseen ≡ Unseen) → Searched order M N m n ps seen 0 0
+searched_none order M N m n k ps seen h conditions size none = record {
   linked = λ i p at. (let e = h.each i p at in let l = e.3 in subst (IsFrom order M N ps i p) (sym e.2) (omega (arith, l, conditions), e.4));
   within = h.within;
   few = λ i p at. (let e = h.each i p at in omega (arith, e.4.far));
@@ -40,8 +48,8 @@ searched_none order all M N m n k ps seen h conditions size none = record {
   ahead = λ t j u at_t at_u. inl (let l = two 0 t at_t in let r = two j u at_u in let more = length-append t (0 ∷ []) in omega (arith, l, r, more));
   starts = λ c line lt. (let f = h.all c line (omega (arith, lt, conditions)) in (f.0, f.1, f.2, f.3, subst (λ z. KeyAt keys f.0 (start_key z)) f.4 (in_map key_of ps f.0 f.1 f.2)));
   size = size;
-  known = λ s t sm tn was. absurd (never s t was);
-  agree = λ s t sm tn was. absurd (never s t was);
+  known = λ single s t sm tn was. absurd (never single s t was);
+  agree = λ single s t sm tn was. absurd (never single s t was);
   closed = λ i p c at below which. absurd (nowhere i c which);
 }
   where
@@ -60,8 +68,8 @@ searched_none order all M N m n k ps seen h conditions size none = record {
     two : (i : ℕ) (u : List ℕ) → KeyAt keys i u → length u ≡ 2
     two i u is = (let a = from_map key_of ps i u is in let e = h.each i a.0 a.1 in ap length (a.2 ∙ ap start_key e.2))
 
-    never : (s t : ℕ) → IsSeen seen n s t → ⊥
-    never s t was = no (sym (none (s * n + t)) ∙ was)
+    never : (single : Bool) (s t : ℕ) → IsSeen seen n single s t → ⊥
+    never single s t was = no (sym (ap (was_seen single) (none (s * n + t))) ∙ was)
       where
         no : false ≡ true → ⊥
         no e = cc
@@ -70,9 +78,9 @@ searched_none order all M N m n k ps seen h conditions size none = record {
     nowhere i c (inl less) = omega (arith, less)
     nowhere i c (inr here) = (let l = here.1 in omega (arith, l))
 
-module _ (order : List ℕ) (all : Bool) (M N : Machine) (m n : ℕ) (ps : List Pair) (seen : List Bool) (place b : ℕ) (h : Searched order all M N m n ps seen place b) where
+module _ (order : List ℕ) (M N : Machine) (m n : ℕ) (ps : List Pair) (seen : List Sight) (place b : ℕ) (h : Searched order M N m n ps seen place b) where
   -- where each byte was tried
-  pub searched_next : b ≡ 256 → Searched order all M N m n ps seen (place + 1) 0
+  pub searched_next : b ≡ 256 → Searched order M N m n ps seen (place + 1) 0
   searched_next each = record {
     linked = h.linked;
     within = h.within;
@@ -110,7 +118,7 @@ module _ (order : List ℕ) (all : Bool) (M N : Machine) (m n : ℕ) (ps : List 
   -- the pair to which a text leads that is no longer than some number, where all pairs that shorter ones lead to were widened
   module _ (far : ℕ) (past : (i : ℕ) (q : Pair) → HasAt ps i q → q.far < far → i < place) (c : ℕ) (line : Bool) (w : List ℕ) (below : c < M.conditions) (text : IsText w) where
     abbrev Reached : ℕ → Type 0
-    Reached k = (i : ℕ) × (q : Pair) × HasAt ps i q × (q.left ≡ state_after M c line (take k w)) × (q.right ≡ state_after N (number_in order c) line (take k w)) × (q.far ≤ k) × (1 ≤ k → IsSeen seen n q.left q.right) × (u : List ℕ) × KeyAt h.keys i u × NotAfter u (key c line (take k w))
+    Reached k = (i : ℕ) × (q : Pair) × HasAt ps i q × (q.left ≡ state_after M c line (take k w)) × (q.right ≡ state_after N (number_in order c) line (take k w)) × (q.far ≤ k) × (1 ≤ k → (1 ≤ q.far) × IsSeen seen n (nat_eq k 1) q.left q.right) × (u : List ℕ) × KeyAt h.keys i u × NotAfter u (key c line (take k w))
 
     reached : (k : ℕ) → k ≤ length w → k ≤ far → Reached k
     reached zero in_w in_far = (let f = h.starts c line below in (f.0, f.1, f.2, f.3.left, f.3.right, (let z = f.3.far in omega (arith, z)), λ some. absurd (omega (arith, some)), key c line [], f.4, inl refl))
@@ -126,32 +134,33 @@ module _ (order : List ℕ) (all : Bool) (M N : Machine) (m n : ℕ) (ps : List 
           f.left ∙ ap (λ s. M.next s (get_or w k 0)) r.3 ∙ sym (one_byte M (M.start c line) w k (omega (arith, in_w))) ∙ ap (λ i. state_after M c line (take i w)) more,
           f.right ∙ ap (λ s. N.next s (get_or w k 0)) r.4 ∙ sym (one_byte N (N.start (number_in order c) line) w k (omega (arith, in_w))) ∙ ap (λ i. state_after N (number_in order c) line (take i w)) more,
           (let g = f.far in omega (arith, g, near)),
-          λ some. f.was_seen,
+          λ some. (f.some, subst (λ z. IsSeen seen n z f.pair.left f.pair.right) (single_at r.1.far k near (λ some. (r.6 some).0)) f.was_seen),
           v.0,
           v.1,
           Words.not_after_trans v.0 (r.7 ++ get_or w k 0 ∷ []) (key c line (take (suc k) w)) (f.first r.7 v.0 r.8 v.1)
               (subst (NotAfter (r.7 ++ get_or w k 0 ∷ [])) (ap (key c line) (sym (take_more w k 0 (omega (arith, in_w))) ∙ ap (λ i. take i w) more)) (Words.not_after_longer r.7 (key c line (take k w)) (get_or w k 0) r.9)),
         )
 
-    pub agrees : 1 ≤ length w → length w ≤ far → Agree order all M N c line w
+    pub agrees : 1 ≤ length w → length w ≤ far → Agree order M N c line w
     agrees some in_far =
         let r = reached (length w) (omega arith) in_far in
         let whole : take (length w) w ≡ w = take_all (length w) w (omega arith) in
         let inside = h.within r.0 r.1 r.2 in
-        ap (deeds_in order all M) (sym (r.3 ∙ ap (state_after M c line) whole)) ∙ h.agree r.1.left r.1.right inside.0 inside.1 (r.6 some) ∙ ap (deeds_at all N) (r.4 ∙ ap (state_after N (number_in order c) line) whole)
+        ap (deeds_in order (is_single w) M) (sym (r.3 ∙ ap (state_after M c line) whole)) ∙ h.agree (is_single w) r.1.left r.1.right inside.0 inside.1 (r.6 some).1 ∙ ap (deeds_at (is_single w) N) (r.4 ∙ ap (state_after N (number_in order c) line) whole)
 
   -- at its end
-  pub are_same : length ps ≤ place → AlwaysAgree order all M N
+  pub are_same : length ps ≤ place → AlwaysAgree order M N
   are_same done c line w below text some = agrees (length w) (λ i q at less. (let l = slice_get_within ps i q at in omega (arith, l, done))) c line w below text some (omega arith)
 
   -- where a byte leads to states that do not do the same
-  pub differs : (p : Pair) (d : Difference) → HasAt ps place p → DifferAt order all M N ps place b → IsTextOf order M N p b d
-      → ((t : List ℕ) → KeyAt h.keys place t → key d.condition d.line_start d.text.items ≡ t ++ b ∷ []) → Differs order all M N d
+  pub differs : (p : Pair) (d : Difference) → HasAt ps place p → DifferAt order M N ps place b → IsTextOf order M N p b d
+      → ((t : List ℕ) → KeyAt h.keys place t → key d.condition d.line_start d.text.items ≡ t ++ b ∷ []) → Differs order M N d
   differs p d at differ told keyed = record {
     condition = told.condition;
     text = told.text;
     some = omega (arith, told.size);
-    differ = λ same. differ p at (ap (deeds_in order all M) (sym told.left) ∙ same ∙ ap (deeds_at all N) told.right);
+    differ = λ same. differ p at (subst (λ z. deeds_in order z M (M.next p.left b) ≡ deeds_at z N (N.next p.right b)) (sym (single_at p.far p.far (omega arith) (λ some. some) ∙ ap (λ z. nat_eq z 1) (sym told.size)))
+        (ap (deeds_in order (is_single d.text.items) M) (sym told.left) ∙ same ∙ ap (deeds_at (is_single d.text.items) N) told.right));
     shortest = λ c line w below text some less. agrees p.far past c line w below text some (omega (arith, less, told.size));
     first = λ c line w below text same less. first c line w below text (same ∙ told.size) less;
   }
@@ -178,7 +187,7 @@ module _ (order : List ℕ) (all : Bool) (M N : Machine) (m n : ℕ) (ps : List 
       looked_at i c u t is nt long (inl less) = inl (in_front i u is (Order.before_not_after u t this.0 nt (inr (long, less))))
       looked_at i c u t is nt long (inr same) = (let le = not_behind i u is (subst (NotAfter u) same.0 nt) in elim (cases_lt i place) [ inl lt ↦ inl lt | inr ge ↦ inr (omega (arith, ge, le), same.1) ])
 
-      first : (c : ℕ) (line : Bool) (w : List ℕ) → c < M.conditions → IsText w → length w ≡ suc p.far → Smaller (key c line w) (key d.condition d.line_start d.text.items) → Agree order all M N c line w
+      first : (c : ℕ) (line : Bool) (w : List ℕ) → c < M.conditions → IsText w → length w ≡ suc p.far → Smaller (key c line w) (key d.condition d.line_start d.text.items) → Agree order M N c line w
       first c line w below text long less =
           let k : ℕ = p.far in
           let in_w : k < length w = omega (arith, long) in
@@ -194,4 +203,5 @@ module _ (order : List ℕ) (all : Bool) (M N : Machine) (m n : ℕ) (ps : List 
           let inside = h.within f.place f.pair f.at in
           let left : f.pair.left ≡ state_after M c line w = f.left ∙ ap (λ s. M.next s last) r.3 ∙ sym (one_byte M (M.start c line) w k in_w) ∙ ap (state_after M c line) (take_all (k + 1) w (omega (arith, long))) in
           let right : f.pair.right ≡ state_after N (number_in order c) line w = f.right ∙ ap (λ s. N.next s last) r.4 ∙ sym (one_byte N (N.start (number_in order c) line) w k in_w) ∙ ap (state_after N (number_in order c) line) (take_all (k + 1) w (omega (arith, long))) in
-          ap (deeds_in order all M) (sym left) ∙ h.agree f.pair.left f.pair.right inside.0 inside.1 f.was_seen ∙ ap (deeds_at all N) right
+          let was : IsSeen seen n (is_single w) f.pair.left f.pair.right = subst (λ z. IsSeen seen n z f.pair.left f.pair.right) (single_at r.1.far k r.5 (λ some. (r.6 some).0) ∙ ap (λ z. nat_eq z 1) (sym long)) f.was_seen in
+          ap (deeds_in order (is_single w) M) (sym left) ∙ h.agree (is_single w) f.pair.left f.pair.right inside.0 inside.1 was ∙ ap (deeds_at (is_single w) N) right

@@ -7,7 +7,6 @@ pub mod Widening
 pub mod Telling
 pub mod Ending
 pub mod Scanning
-pub mod Alone
 pub mod Deeds
 pub mod Does
 pub mod Settles

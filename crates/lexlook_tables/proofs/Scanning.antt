@@ -2,12 +2,12 @@
 use Rattle.std.proofs.Common.{◌≡◌, ℕ, zero, suc, ◌≤◌, ◌<◌, Bool, true, false, List, [], ◌∷◌, ◌++◌, length, map, take, drop, ◌⊎◌, inl, inr, ◌↔◌, Option, Some, None, refl, sym, ◌∙◌, ap, subst, arith}
 use Rattle.std.specs.Prelude.{nat_lt, if◌then◌else◌, option_map, filter_map, ⊤}
 use Rattle.std.specs.List.{cons_option}
-use Rattle.std.proofs.lemmas.Bool.{cond-true, cond-false, lt-ltb, le-ltb, cases_lt}
-use Rattle.std.proofs.lemmas.List.{length-map}
+use Rattle.std.proofs.lemmas.Bool.{cases_lt, ne_eqb, or_parts}
+use Rattle.std.proofs.lemmas.List.{length-map, append_assoc}
 use Rattle.lex_semantics.proofs.ResultsAre.{results_are}
 use Rattle.lex_semantics.specs.Limits.{max_stack}
 use Rattle.lex_semantics.specs.Text.{IsText, Among, AllBelow, Ascending, part, at_line_start}
-use Rattle.lex_semantics.specs.Spec.{Statement, Echo, Print, Begin, More, Less, Reject, End, Push, Pop}
+use Rattle.lex_semantics.specs.Spec.{Cut, Whole, Head, Trail, Statement, Echo, Print, Begin, More, Less, Reject, End, Push, Pop, has_reject}
 use Rattle.lex_semantics.specs.Rules.{Rules, statements_of}
 use Rattle.lex_semantics.specs.Candidates.{Candidate, Before, InOrder, Candidates}
 use Rattle.lex_semantics.specs.Acting.{Ending, Status, StackFault, Acting}
@@ -23,9 +23,10 @@ use Rattle.lex_semantics.proofs.Fronts.{among_append, among_left, among_right}
 use Rattle.lex_semantics.proofs.MachineRun.{state_sound, machine_listed, machine_run_exists}
 use Rattle.lex_semantics.proofs.Once.{one_candidates, one_run}
 use Rattle.lex_semantics.proofs.Texts.{is_text_drop}
-use Rattle.lexlook_tables.specs.Same.{number_in, renumbered, Deed, deed_of, deed_in, deeds_at, deeds_in, AlwaysAgree}
+use Rattle.lexlook_tables.specs.Same.{number_in, renumbered, Deed, deed_of, deed_in, has_trail, may_yield, deeds_at, deeds_in, AlwaysAgree}
 use Rattle.lexlook_tables.specs.Comparing.{HaveEnds}
 use Rattle.lexlook_tables.specs.Scans.{ScanAlike, BeginTogether}
+use Rattle.lexlook_tables.proofs.Asked.{SameOf, own_deed, default_deed, heads, went_on}
 
 -- the matches at a place, the longest first, from a state after n bytes
 abbrev longest_first : Machine → ℕ → ℕ → List ℕ → List Candidate
@@ -166,23 +167,44 @@ module _ (order : List ℕ) where
       from rest [] = refl
       from rest (c ∷ cs) = rest (record a { condition = c; stack = cs })
 
-  -- matches that keep the same of their text, and whose actions are the same
+  -- Matches that keep the same of their text, and whose actions are the same: up to one that does not reject it.
   abbrev Alike : Rules → Rules → List Candidate → List Candidate → Type 0
   Alike R T [] [] = ⊤
   Alike R T [] (n ∷ ns) = ⊥
   Alike R T (m ∷ ms) [] = ⊥
-  Alike R T (m ∷ ms) (n ∷ ns) = (m.keep ≡ n.keep) × (statements_in (statements_of R m.rule) ≡ statements_of T n.rule) × Alike R T ms ns
-
-  alike_joined : (R T : Rules) (ms ns ps qs : List Candidate) → Alike R T ms ns → Alike R T ps qs → Alike R T (ms ++ ps) (ns ++ qs)
-  alike_joined R T [] [] ps qs a b = b
-  alike_joined R T [] (n ∷ ns) ps qs a b = absurd a
-  alike_joined R T (m ∷ ms) [] ps qs a b = absurd a
-  alike_joined R T (m ∷ ms) (n ∷ ns) ps qs a b = (a.0, a.1, alike_joined R T ms ns ps qs a.2 b)
+  Alike R T (m ∷ ms) (n ∷ ns) = (m.keep ≡ n.keep) × (statements_in (statements_of R m.rule) ≡ statements_of T n.rule) × ((has_reject (statements_of R m.rule) ≡ false) ⊎ Alike R T ms ns)
 
   settled_in : (r : ActionResult) (f g : Acting → Option Acting) → ((a : Acting) → g (image a) ≡ option_map image (f a)) → settle (result_in r) g ≡ option_map image (settle r f)
   settled_in (Done a) f g e = refl
   settled_in (Again a) f g e = e a
   settled_in (Over a d) f g e = refl
+
+  -- what follows a match that does not reject its text does not matter
+  quiet_or : (b : Bool) (a : Acting) (r : ActionResult) (f g : Acting → Option Acting) → settle (result_in r) g ≡ option_map image (settle r f) → settle (result_in (if b then r else Over a StackFault)) g ≡ option_map image (settle (if b then r else Over a StackFault) f)
+  quiet_or true a r f g h = h
+  quiet_or false a r f g h = refl
+
+  quiet_popped : (cs : List ℕ) (a : Acting) (next : ℕ → List ℕ → ActionResult) (f g : Acting → Option Acting) → ((c : ℕ) (ds : List ℕ) → settle (result_in (next c ds)) g ≡ option_map image (settle (next c ds) f)) →
+      settle (result_in (popped cs a next)) g ≡ option_map image (settle (popped cs a next) f)
+  quiet_popped [] a next f g h = refl
+  quiet_popped (c ∷ cs) a next f g h = h c cs
+
+  quiet_in : (ss : List Statement) (a : Acting) (f g : Acting → Option Acting) → has_reject ss ≡ false → settle (result_in (act_result ss a)) g ≡ option_map image (settle (act_result ss a) f)
+  quiet_in [] a f g h = refl
+  quiet_in (Echo ∷ ss) a f g h = quiet_in ss (record a { written = a.written ++ a.text }) f g h
+  quiet_in (Print s ∷ ss) a f g h = quiet_in ss (record a { written = a.written ++ s }) f g h
+  quiet_in (Begin d ∷ ss) a f g h = quiet_in ss (record a { condition = d }) f g h
+  quiet_in (More ∷ ss) a f g h = quiet_in ss (record a { more = true }) f g h
+  quiet_in (Less n ∷ ss) a f g h = quiet_in ss (record a { text = take n a.text }) f g h
+  quiet_in (Reject ∷ ss) a f g h = absurd (no h)
+    where
+      no : true ≡ false → ⊥
+      no p = cc
+  quiet_in (End s ∷ ss) a f g h = refl
+  quiet_in (Push d ∷ ss) a f g h =
+      quiet_or (has_room a.stack) a (act_result ss (record a { condition = d; stack = a.condition ∷ a.stack })) f g (quiet_in ss (record a { condition = d; stack = a.condition ∷ a.stack }) f g h)
+  quiet_in (Pop ∷ ss) a f g h =
+      quiet_popped a.stack a (λ c cs. act_result ss (record a { condition = c; stack = cs })) f g (λ c cs. quiet_in ss (record a { condition = c; stack = cs }) f g h)
 
   perform_in : (R T : Rules) (kept y : List ℕ) (ms ns : List Candidate) → Alike R T ms ns → (out : List ℕ) (c : ℕ) (cs : List ℕ) →
       perform_results T kept y ns out (number_in order c) (map (number_in order) cs) ≡ option_map image (perform_results R kept y ms out c cs)
@@ -190,15 +212,21 @@ module _ (order : List ℕ) where
   perform_in R T kept y [] [] h out c cs = refl
   perform_in R T kept y [] (n ∷ ns) h out c cs = absurd h
   perform_in R T kept y (m ∷ ms) [] h out c cs = absurd h
-  perform_in R T kept y (m ∷ ms) (n ∷ ns) h out c cs =
-      ap (λ w. settle w rest) (same ∙ act_in (statements_of R m.rule) a)
-      ∙ settled_in (act_result (statements_of R m.rule) a) (λ b. perform_results R kept y ms b.written b.condition b.stack) rest (λ b. perform_in R T kept y ms ns h.2 b.written b.condition b.stack)
+  perform_in R T kept y (m ∷ ms) (n ∷ ns) h out c cs = ap (λ w. settle w rest) (same ∙ act_in (statements_of R m.rule) a) ∙ from h.2 (λ more b. perform_in R T kept y ms ns more b.written b.condition b.stack)
     where
       a : Acting
       a = record { text = kept ++ take m.keep y; written = out; condition = c; stack = cs; more = false; ended = None }
 
+      next : Acting → Option Acting
+      next b = perform_results R kept y ms b.written b.condition b.stack
+
       rest : Acting → Option Acting
       rest b = perform_results T kept y ns b.written b.condition b.stack
+
+      from : (has_reject (statements_of R m.rule) ≡ false) ⊎ Alike R T ms ns → (Alike R T ms ns → (b : Acting) → rest (image b) ≡ option_map image (next b)) →
+          settle (result_in (act_result (statements_of R m.rule) a)) rest ≡ option_map image (settle (act_result (statements_of R m.rule) a) next)
+      from (inl quiet) later = quiet_in (statements_of R m.rule) a next rest quiet
+      from (inr more) later = settled_in (act_result (statements_of R m.rule) a) next rest (later more)
 
       same : act_result (statements_of T n.rule) (record { text = kept ++ take n.keep y; written = out; condition = number_in order c; stack = map (number_in order) cs; more = false; ended = None }) ≡ act_result (statements_in (statements_of R m.rule)) (image a)
       same = ap (λ ss. act_result ss (record { text = kept ++ take n.keep y; written = out; condition = number_in order c; stack = map (number_in order) cs; more = false; ended = None })) (sym h.1)
@@ -259,56 +287,126 @@ module _ (M : Machine) (laws : MachineLaws M) where
       a : Acting
       a = record { text = kept ++ take m.keep y; written = out; condition = c; stack = cs; more = false; ended = None }
 
-module _ (order : List ℕ) (M N : Machine) (laws : MachineLaws M) (other : MachineLaws N) (same : AlwaysAgree order true M N) (ends : HaveEnds order M N None) where
+-- all of a match is the text where there is no trailing context
+all_kept : (c : Cut) (n : ℕ) → has_trail c ≡ false → kept_by c n ≡ Some n
+all_kept Whole n e = refl
+all_kept (Head m) n e = absurd cc
+all_kept (Trail m) n e = absurd cc
+
+-- the matches at the end of a text by some rules, the default rule among them
+module _ (M : Machine) where
+  abbrev found : ℕ → ℕ → Option Candidate
+  found n i = option_map (λ k. record { len = n; rule = i; keep = k }) (kept_by (deed_of M i).cut n)
+
+  own_found : (n i : ℕ) → i < M.count → found n i ≡ match_of M n i
+  own_found n i lt = ap (λ (d : Deed). option_map (λ k. record { len = n; rule = i; keep = k }) (kept_by d.cut n)) (own_deed M i lt)
+
+  -- without it they are those of the machine
+  as_matches : (n : ℕ) (is : List ℕ) → ((i : ℕ) → Among is i → i < M.count) → filter_map (found n) is ≡ filter_map (match_of M n) is
+  as_matches n [] small = refl
+  as_matches n (i ∷ is) small = ap (λ o. cons_option o (filter_map (found n) is)) (own_found n i (small i (inl refl))) ∙ ap (cons_option (match_of M n i)) (as_matches n is (λ j at. small j (inr at)))
+
+  -- behind the others it matches a single byte
+  as_default : (b : ℕ) (y : List ℕ) (is : List ℕ) → ((i : ℕ) → Among is i → i < M.count) → filter_map (found 1) (is ++ M.count ∷ []) ++ [] ≡ filter_map (match_of M 1) is ++ default_match M.count (b ∷ y)
+  as_default b y [] small = ap (λ (d : Deed). cons_option (option_map (λ k. record { len = 1; rule = M.count; keep = k }) (kept_by d.cut 1)) [] ++ []) (default_deed M)
+  as_default b y (i ∷ is) small =
+      ap (λ o. cons_option o (filter_map (found 1) (is ++ M.count ∷ [])) ++ []) (own_found 1 i (small i (inl refl))) ∙ by (match_of M 1 i) (as_default b y is (λ j at. small j (inr at)))
+    where
+      by : (o : Option Candidate) → filter_map (found 1) (is ++ M.count ∷ []) ++ [] ≡ filter_map (match_of M 1) is ++ default_match M.count (b ∷ y) →
+          cons_option o (filter_map (found 1) (is ++ M.count ∷ [])) ++ [] ≡ cons_option o (filter_map (match_of M 1) is) ++ default_match M.count (b ∷ y)
+      by None e = e
+      by (Some m) e = ap (λ l. m ∷ l) e
+
+module _ (order : List ℕ) (M N : Machine) (laws : MachineLaws M) (other : MachineLaws N) (same : AlwaysAgree order M N) (ends : HaveEnds order M N None) where
   abbrev R : Rules
   R = rules_of_machine M
 
   abbrev T : Rules
   T = rules_of_machine N
 
-  own : (L : Machine) (i : ℕ) → i < L.count → statements_of (rules_of_machine L) i ≡ L.statements i
-  own L i lt = cond-true (nat_lt i L.count) (L.statements i) (Echo ∷ []) (lt-ltb i L.count lt)
+  -- a match by each rule, where it keeps something, and the matches after it
+  abbrev Joined : ℕ → ℕ → ℕ → List Candidate → List Candidate → List Candidate → List Candidate → Option ℕ → Option ℕ → Type 0
+  Joined n i j ms ns ps qs o p = Alike order R T (cons_option (option_map (λ k. record { len = n; rule = i; keep = k }) o) ms ++ ps) (cons_option (option_map (λ k. record { len = n; rule = j; keep = k }) p) ns ++ qs)
 
-  -- the matches that end at two states whose rules do the same
-  alike_here : (n : ℕ) (is js : List ℕ) → ((i : ℕ) → Among is i → i < M.count) → ((j : ℕ) → Among js j → j < N.count) → map (deed_in order M) is ≡ map (deed_of N) js → Alike order R T (filter_map (match_of M n) is) (filter_map (match_of N n) js)
-  alike_here n [] [] a b e = tt
-  alike_here n [] (j ∷ js) a b e = absurd cc
-  alike_here n (i ∷ is) [] a b e = absurd cc
-  alike_here n (i ∷ is) (j ∷ js) a b e = both (alike_here n is js (λ k at. a k (inr at)) (λ k at. b k (inr at)) cc)
+  -- the matches that end at two states by rules that do the same, and those that come after them
+  alike_here : (n : ℕ) (is js : List ℕ) (ps qs : List Candidate) → SameOf order M N is js → Alike order R T ps qs → Alike order R T (filter_map (found M n) is ++ ps) (filter_map (found N n) js ++ qs)
+  alike_here n [] [] ps qs e rest = rest
+  alike_here n [] (j ∷ js) ps qs e rest = absurd cc
+  alike_here n (i ∷ is) [] ps qs e rest = absurd cc
+  alike_here n (i ∷ is) (j ∷ js) ps qs e rest = by (may_yield (deed_of M i)) refl (λ h. alike_here n is js ps qs h rest)
     where
-      heads : deed_in order M i ≡ deed_of N j
-      heads = cc
+      same_deed : deed_in order M i ≡ deed_of N j
+      same_deed = heads order M N i j is js e
 
-      cut : M.cut i ≡ N.cut j
-      cut = ap (λ (d : Deed). d.cut) heads
+      cut : (deed_of M i).cut ≡ (deed_of N j).cut
+      cut = ap (λ (d : Deed). d.cut) same_deed
 
       statements : statements_in order (statements_of R i) ≡ statements_of T j
-      statements = ap (statements_in order) (own M i (a i (inl refl))) ∙ ap (λ (d : Deed). d.statements) heads ∙ sym (own N j (b j (inl refl)))
+      statements = ap (λ (d : Deed). d.statements) same_deed
 
-      from : (o : Option ℕ) → Alike order R T (filter_map (match_of M n) is) (filter_map (match_of N n) js) →
-          Alike order R T (cons_option (option_map (λ k. record { len = n; rule = i; keep = k }) o) (filter_map (match_of M n) is)) (cons_option (option_map (λ k. record { len = n; rule = j; keep = k }) o) (filter_map (match_of N n) js))
-      from None rest = rest
-      from (Some k) rest = (refl, statements, rest)
+      from : (o : Option ℕ) → ((has_reject (statements_of R i) ≡ false) × (o ≡ Some n)) ⊎ Alike order R T (filter_map (found M n) is ++ ps) (filter_map (found N n) js ++ qs) → Joined n i j (filter_map (found M n) is) (filter_map (found N n) js) ps qs o o
+      from None (inl h) = absurd (no h.1)
+        where
+          no : None ≡ Some n → ⊥
+          no f = cc
+      from None (inr h) = h
+      from (Some k) (inl h) = (refl, statements, inl h.0)
+      from (Some k) (inr h) = (refl, statements, inr h)
 
-      both : Alike order R T (filter_map (match_of M n) is) (filter_map (match_of N n) js) → Alike order R T (filter_map (match_of M n) (i ∷ is)) (filter_map (match_of N n) (j ∷ js))
-      both rest = subst (λ u. Alike order R T (filter_map (match_of M n) (i ∷ is)) (cons_option (option_map (λ k. record { len = n; rule = j; keep = k }) (kept_by u n)) (filter_map (match_of N n) js))) cut (from (kept_by (M.cut i) n) rest)
+      both : ((has_reject (statements_of R i) ≡ false) × (kept_by (deed_of M i).cut n ≡ Some n)) ⊎ Alike order R T (filter_map (found M n) is ++ ps) (filter_map (found N n) js ++ qs) → Alike order R T (filter_map (found M n) (i ∷ is) ++ ps) (filter_map (found N n) (j ∷ js) ++ qs)
+      both h = subst (λ c. Joined n i j (filter_map (found M n) is) (filter_map (found N n) js) ps qs (kept_by (deed_of M i).cut n) (kept_by c n)) cut (from (kept_by (deed_of M i).cut n) h)
 
-  alike_from : (s t n : ℕ) (y : List ℕ) → IsText y → ((w : List ℕ) → IsText w → 1 ≤ length w → deeds_in order true M (walk M s w) ≡ deeds_at true N (walk N t w)) → Alike order R T (longest_first M s n y) (longest_first N t n y)
-  alike_from s t n [] text h = tt
-  alike_from s t n (b ∷ y) text h = alike_joined order R T (longest_first M (M.next s b) (suc n) y) (longest_first N (N.next t b) (suc n) y) (filter_map (match_of M (suc n)) (M.accepts (M.next s b))) (filter_map (match_of N (suc n)) (N.accepts (N.next t b)))
-      (alike_from (M.next s b) (N.next t b) (suc n) y text.1 (λ w is some. h (b ∷ w) (text.0, is) (omega arith)))
-      (alike_here (suc n) (M.accepts (M.next s b)) (N.accepts (N.next t b)) (λ i at. laws.in_range (M.next s b) i at) (λ j at. other.in_range (N.next t b) j at) (h (b ∷ []) (text.0, tt) (omega arith)))
+      by : (b : Bool) → may_yield (deed_of M i) ≡ b → (SameOf order M N is js → Alike order R T (filter_map (found M n) is ++ ps) (filter_map (found N n) js ++ qs)) → Alike order R T (filter_map (found M n) (i ∷ is) ++ ps) (filter_map (found N n) (j ∷ js) ++ qs)
+      by true on later = both (inr (later (went_on order M N i j is js on e)))
+      by false end later = both (inl ((or_parts (has_reject (statements_of R i)) (has_trail (deed_of M i).cut) end).0, all_kept (deed_of M i).cut n (or_parts (has_reject (statements_of R i)) (has_trail (deed_of M i).cut) end).1))
 
-  echoes : (L : Machine) → statements_of (rules_of_machine L) L.count ≡ Echo ∷ []
-  echoes L = cond-false (nat_lt L.count L.count) (L.statements L.count) (Echo ∷ []) (le-ltb L.count L.count (omega arith))
+  -- the matches of longer texts, and those that come after them
+  alike_from : (s t n : ℕ) (y : List ℕ) (ps qs : List Candidate) → IsText y → ((w : List ℕ) → IsText w → 1 ≤ length w → deeds_in order false M (walk M s w) ≡ deeds_at false N (walk N t w)) → Alike order R T ps qs →
+      Alike order R T (longest_first M s n y ++ ps) (longest_first N t n y ++ qs)
+  alike_from s t n [] ps qs text h rest = rest
+  alike_from s t n (b ∷ y) ps qs text h rest =
+      subst (λ l. Alike order R T l (longest_first N t n (b ∷ y) ++ qs)) (sym (append_assoc (longest_first M (M.next s b) (suc n) y) here ps))
+      (subst (λ l. Alike order R T (longest_first M (M.next s b) (suc n) y ++ (here ++ ps)) l) (sym (append_assoc (longest_first N (N.next t b) (suc n) y) there qs))
+      (alike_from (M.next s b) (N.next t b) (suc n) y (here ++ ps) (there ++ qs) text.1 (λ w is some. h (b ∷ w) (text.0, is) (omega arith))
+      (subst (λ l. Alike order R T (l ++ ps) (there ++ qs)) (as_matches M (suc n) (M.accepts (M.next s b)) (laws.in_range (M.next s b)))
+      (subst (λ l. Alike order R T (filter_map (found M (suc n)) (M.accepts (M.next s b)) ++ ps) (l ++ qs)) (as_matches N (suc n) (N.accepts (N.next t b)) (other.in_range (N.next t b)))
+      (alike_here (suc n) (M.accepts (M.next s b)) (N.accepts (N.next t b)) ps qs (h (b ∷ []) (text.0, tt) (omega arith)) rest)))))
+    where
+      here : List Candidate
+      here = filter_map (match_of M (suc n)) (M.accepts (M.next s b))
 
-  alike_default : (y : List ℕ) → Alike order R T (default_match M.count y) (default_match N.count y)
-  alike_default [] = tt
-  alike_default (b ∷ y) = (refl, ap (statements_in order) (echoes M) ∙ sym (echoes N), tt)
+      there : List Candidate
+      there = filter_map (match_of N (suc n)) (N.accepts (N.next t b))
+
+  -- of longer texts and of single bytes
+  longer : (c : ℕ) (line : Bool) (b : ℕ) (w : List ℕ) → c < M.conditions → IsText (b ∷ w) → 1 ≤ length w → deeds_in order false M (walk M (M.next (M.start c line) b) w) ≡ deeds_at false N (walk N (N.next (N.start (number_in order c) line) b) w)
+  longer c line b w lt text some = subst (λ single. deeds_in order single M (walk M (M.next (M.start c line) b) w) ≡ deeds_at single N (walk N (N.next (N.start (number_in order c) line) b) w)) (ne_eqb (length (b ∷ w)) 1 (λ e. omega (arith, e, some)))
+      (same c line (b ∷ w) lt text (omega arith))
+
+  single : (c : ℕ) (line : Bool) (b : ℕ) → c < M.conditions → b < 256 → deeds_in order true M (M.next (M.start c line) b) ≡ deeds_at true N (N.next (N.start (number_in order c) line) b)
+  single c line b lt small = same c line (b ∷ []) lt (small, tt) (omega arith)
 
   alike : (c : ℕ) (line : Bool) (y : List ℕ) → c < M.conditions → IsText y → Alike order R T (in_turn M c line y) (in_turn N (number_in order c) line y)
-  alike c line y lt text = alike_joined order R T (longest_first M (M.start c line) 0 y) (longest_first N (N.start (number_in order c) line) 0 y) (default_match M.count y) (default_match N.count y)
-      (alike_from (M.start c line) (N.start (number_in order c) line) 0 y text (λ w is some. same c line w lt is some)) (alike_default y)
+  alike c line [] lt text = tt
+  alike c line (b ∷ y) lt text =
+      subst (λ l. Alike order R T l (in_turn N (number_in order c) line (b ∷ y))) (sym (append_assoc (longest_first M s 1 y) here (default_match M.count (b ∷ y))))
+      (subst (λ l. Alike order R T (longest_first M s 1 y ++ (here ++ default_match M.count (b ∷ y))) l) (sym (append_assoc (longest_first N t 1 y) there (default_match N.count (b ∷ y))))
+      (alike_from s t 1 y (here ++ default_match M.count (b ∷ y)) (there ++ default_match N.count (b ∷ y)) text.1 (λ w is some. longer c line b w lt (text.0, is) some)
+      (subst (λ l. Alike order R T l (there ++ default_match N.count (b ∷ y))) (as_default M b y (M.accepts s) (laws.in_range s))
+      (subst (λ l. Alike order R T (filter_map (found M 1) (M.accepts s ++ M.count ∷ []) ++ []) l) (as_default N b y (N.accepts t) (other.in_range t))
+      (alike_here 1 (M.accepts s ++ M.count ∷ []) (N.accepts t ++ N.count ∷ []) [] [] (single c line b lt text.0) tt)))))
+    where
+      s : ℕ
+      s = M.next (M.start c line) b
+
+      t : ℕ
+      t = N.next (N.start (number_in order c) line) b
+
+      here : List Candidate
+      here = filter_map (match_of M 1) (M.accepts s)
+
+      there : List Candidate
+      there = filter_map (match_of N 1) (N.accepts t)
 
   abbrev place_in : Place → Place
   place_in p = record { start = p.start; at = p.at; condition = number_in order p.condition; stack = map (number_in order) p.stack }

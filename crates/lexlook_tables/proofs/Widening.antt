@@ -1,7 +1,7 @@
 -- One byte more of a pair that is widened.
 use Rattle.std.proofs.Common.{◌≡◌, ℕ, zero, suc, ◌+◌, ◌*◌, ◌≤◌, ◌<◌, Bool, true, false, List, [], ◌∷◌, ◌++◌, length, ◌⊎◌, inl, inr, refl, sym, ◌∙◌, ap, subst, get_or, arith}
 use Rattle.std.proofs.Math.ListN.{set}
-use Rattle.std.proofs.lemmas.Bool.{cases_lt}
+use Rattle.std.proofs.lemmas.Bool.{cases_lt, cases_eq}
 use Rattle.std.proofs.lemmas.Option.{slice_get_within}
 use Rattle.std.proofs.lemmas.Grind.{get_or-set_at}
 use Rattle.std.proofs.lemmas.List.{length-set, get_or-set_other, length-append}
@@ -10,9 +10,12 @@ use Rattle.lexlook_tables.specs.Same.{deeds_at, deeds_in, key}
 use Rattle.lexlook_tables.specs.declared.same.pairs.From.{From}
 use Rattle.lexlook_tables.specs.declared.same.pairs.From.TheVariants.{Start, Byte}
 use Rattle.lexlook_tables.specs.declared.same.pairs.Pair.{Pair}
-use Rattle.lexlook_tables.specs.Searching.{HasAt, KeyAt, IsKey, AreKeyed, IsNext, IsFrom, IsSeen, IsFound, Searched, unseen}
+use Rattle.lexlook_tables.specs.declared.same.pairs.Sight.{Sight}
+use Rattle.lexlook_tables.specs.declared.same.pairs.Sight.TheVariants.{Unseen, Single, Longer}
+use Rattle.lexlook_tables.specs.Searching.{HasAt, KeyAt, IsKey, AreKeyed, IsNext, IsFrom, IsSeen, IsFound, Searched, unseen, was_seen, sight_of, is_first}
 use Rattle.lexauto_reports.specs.BackWords.{Precedes}
 use Rattle.lexauto_reports.proofs.Orders as Words
+use Rattle.lexlook_tables.proofs.Asked.{single_too}
 use Rattle.lexlook_tables.proofs.Lists.{before_last, at_last, last_or_before, one_at, some_at}
 
 -- the place of a pair of states is inside
@@ -28,14 +31,31 @@ place_same n zero r (suc s) t rn tn e = absurd (omega (arith, e, rn))
 place_same n (suc l) r zero t rn tn e = absurd (omega (arith, e, tn))
 place_same n (suc l) r (suc s) t rn tn e = (let h = place_same n l r s t rn tn (omega (arith, e)) in (ap suc h.0, h.1))
 
-pub unseen_less : (seen : List Bool) (k : ℕ) → k < length seen → get_or seen k false ≡ false → suc (unseen (set seen k true)) ≡ unseen seen
-unseen_less [] k lt e = absurd (omega (arith, lt))
-unseen_less (true ∷ seen) zero lt e = absurd cc
-unseen_less (false ∷ seen) zero lt e = refl
-unseen_less (true ∷ seen) (suc k) lt e = unseen_less seen k (omega (arith, lt)) e
-unseen_less (false ∷ seen) (suc k) lt e = ap suc (unseen_less seen k (omega (arith, lt)) e)
+-- each sight leaves fewer
+pub unseen_less : (single : Bool) (seen : List Sight) (k : ℕ) → k < length seen → was_seen single (get_or seen k Unseen) ≡ false → suc (unseen (set seen k (sight_of single))) ≤ unseen seen
+unseen_less single [] k lt e = absurd (omega (arith, lt))
+unseen_less true (Unseen ∷ seen) zero lt e = omega arith
+unseen_less false (Unseen ∷ seen) zero lt e = omega arith
+unseen_less true (Single ∷ seen) zero lt e = absurd cc
+unseen_less false (Single ∷ seen) zero lt e = omega arith
+unseen_less single (Longer ∷ seen) zero lt e = absurd cc
+unseen_less single (Unseen ∷ seen) (suc k) lt e = (let h = unseen_less single seen k (omega (arith, lt)) e in omega (arith, h))
+unseen_less single (Single ∷ seen) (suc k) lt e = (let h = unseen_less single seen k (omega (arith, lt)) e in omega (arith, h))
+unseen_less single (Longer ∷ seen) (suc k) lt e = (let h = unseen_less single seen k (omega (arith, lt)) e in omega (arith, h))
 
-module _ (order : List ℕ) (all : Bool) (M N : Machine) (m n : ℕ) (ps : List Pair) (seen : List Bool) (place b : ℕ) (p x : Pair) (h : Searched order all M N m n ps seen place b) (at : HasAt ps place p) (next : IsNext M N p b x) where
+-- what is seen now was seen
+pub sees : (single : Bool) → was_seen single (sight_of single) ≡ true
+sees true = refl
+sees false = refl
+
+-- what was seen stays so where more is seen
+stays : (single any : Bool) (v : Sight) → was_seen single v ≡ false → was_seen any v ≡ true → was_seen any (sight_of single) ≡ true
+stays false any v new was = refl
+stays true any Unseen new was = absurd cc
+stays true any Single new was = absurd cc
+stays true any Longer new was = absurd cc
+
+module _ (order : List ℕ) (M N : Machine) (m n : ℕ) (ps : List Pair) (seen : List Sight) (place b : ℕ) (p x : Pair) (h : Searched order M N m n ps seen place b) (at : HasAt ps place p) (next : IsNext M N p b x) where
   -- the byte at hand, or one before it
   byte_is : (i c : ℕ) → (i < place) ⊎ ((i ≡ place) × (c < b + 1)) → ((i < place) ⊎ ((i ≡ place) × (c < b))) ⊎ ((i ≡ place) × (c ≡ b))
   byte_is i c (inl less) = inl (inl less)
@@ -46,7 +66,7 @@ module _ (order : List ℕ) (all : Bool) (M N : Machine) (m n : ℕ) (ps : List 
   here = some_at h.keys place (omega (arith, slice_get_within ps place p at, h.sized))
 
   -- where the pair was seen before
-  pub seen_before : (x.left < m) → (x.right < n) → IsSeen seen n x.left x.right → Searched order all M N m n ps seen place (b + 1)
+  pub seen_before : (x.left < m) → (x.right < n) → IsSeen seen n (is_first p) x.left x.right → Searched order M N m n ps seen place (b + 1)
   seen_before in_m in_n was = record {
     linked = h.linked;
     within = h.within;
@@ -70,7 +90,7 @@ module _ (order : List ℕ) (all : Bool) (M N : Machine) (m n : ℕ) (ps : List 
     where
       now : (i : ℕ) (q : Pair) (c : ℕ) → HasAt ps i q → i ≡ place → c ≡ b → IsFound M N n ps h.keys seen i q c
       now i q c has is_place is_byte =
-          let f = h.known x.left x.right in_m in_n was in
+          let f = h.known (is_first p) x.left x.right in_m in_n was in
           let same : p ≡ q = one_at ps place p q at (subst (λ k. HasAt ps k q) is_place has) in
           subst (λ z. IsFound M N n ps h.keys seen i z c) same (subst (λ k. IsFound M N n ps h.keys seen i p k) (sym is_byte) (subst (λ k. IsFound M N n ps h.keys seen k p b) (sym is_place) (record {
             place = f.0;
@@ -79,17 +99,19 @@ module _ (order : List ℕ) (all : Bool) (M N : Machine) (m n : ℕ) (ps : List 
             left = f.3 ∙ next.left;
             right = f.4 ∙ next.right;
             far = h.near f.0 p f.1 at f.2;
-            was_seen = subst (λ k. IsSeen seen n k f.1.right) (sym f.3) (subst (λ k. IsSeen seen n x.left k) (sym f.4) was);
+            some = f.5;
+            was_seen = subst (λ k. IsSeen seen n (is_first p) k f.1.right) (sym f.3) (subst (λ k. IsSeen seen n (is_first p) x.left k) (sym f.4) was);
             first = λ t u at_t at_u. inr (h.ahead t f.0 u at_t at_u);
           })))
 
   -- where it is a new one
-  module _ (in_m : x.left < m) (in_n : x.right < n) (from : x.from ≡ Byte place b) (small : b < 256) (same : deeds_in order all M x.left ≡ deeds_at all N x.right) (inside : x.left * n + x.right < length seen) where
+  module _ (in_m : x.left < m) (in_n : x.right < n) (from : x.from ≡ Byte place b) (small : b < 256) (same : deeds_in order (is_first p) M x.left ≡ deeds_at (is_first p) N x.right) (inside : x.left * n + x.right < length seen)
+      (new : was_seen (is_first p) (get_or seen (x.left * n + x.right) Unseen) ≡ false) where
     abbrev pub k : ℕ
     k = x.left * n + x.right
 
-    abbrev pub seen' : List Bool
-    seen' = set seen k true
+    abbrev pub seen' : List Sight
+    seen' = set seen k (sight_of (is_first p))
 
     abbrev pub ps' : List Pair
     ps' = ps ++ x ∷ []
@@ -100,22 +122,22 @@ module _ (order : List ℕ) (all : Bool) (M N : Machine) (m n : ℕ) (ps : List 
     placed : place < length ps
     placed = slice_get_within ps place p at
 
-    stays_seen : (s t : ℕ) → IsSeen seen n s t → IsSeen seen' n s t
-    stays_seen s t was = elim (cases_lt (s * n + t) k) [
-      | inl less ↦ get_or-set_other seen k (s * n + t) true false (λ e. omega (arith, less, e)) ∙ was
-      | inr more ↦ elim (cases_lt k (s * n + t)) [
-        | inl less ↦ get_or-set_other seen k (s * n + t) true false (λ e. omega (arith, less, e)) ∙ was
-        | inr less ↦ get_or-set_at seen k (s * n + t) true false (omega (arith, more, less)) inside
-      ]
+    elsewhere : (i : ℕ) → (k ≡ i → ⊥) → get_or seen' i Unseen ≡ get_or seen i Unseen
+    elsewhere i other = get_or-set_other seen k i (sight_of (is_first p)) Unseen (λ e. other (sym e))
+
+    there : (i : ℕ) → k ≡ i → get_or seen' i Unseen ≡ sight_of (is_first p)
+    there i is = get_or-set_at seen k i (sight_of (is_first p)) Unseen (sym is) inside
+
+    stays_seen : (single : Bool) (s t : ℕ) → IsSeen seen n single s t → IsSeen seen' n single s t
+    stays_seen single s t was = elim (cases_eq k (s * n + t)) [
+      | inl is ↦ ap (was_seen single) (there (s * n + t) is) ∙ stays (is_first p) single (get_or seen k Unseen) new (ap (λ i. was_seen single (get_or seen i Unseen)) is ∙ was)
+      | inr other ↦ ap (was_seen single) (elsewhere (s * n + t) other) ∙ was
     ]
 
-    seen_then : (s t : ℕ) → t < n → IsSeen seen' n s t → IsSeen seen n s t ⊎ ((x.left ≡ s) × (x.right ≡ t))
-    seen_then s t lt was = elim (cases_lt (s * n + t) k) [
-      | inl less ↦ inl (sym (get_or-set_other seen k (s * n + t) true false (λ e. omega (arith, less, e))) ∙ was)
-      | inr more ↦ elim (cases_lt k (s * n + t)) [
-        | inl less ↦ inl (sym (get_or-set_other seen k (s * n + t) true false (λ e. omega (arith, less, e))) ∙ was)
-        | inr less ↦ inr (place_same n x.left x.right s t in_n lt (omega (arith, more, less)))
-      ]
+    seen_then : (single : Bool) (s t : ℕ) → t < n → IsSeen seen' n single s t → IsSeen seen n single s t ⊎ ((x.left ≡ s) × (x.right ≡ t) × (was_seen single (sight_of (is_first p)) ≡ true))
+    seen_then single s t lt was = elim (cases_eq k (s * n + t)) [
+      | inl is ↦ (let e = place_same n x.left x.right s t in_n lt is in inr (e.0, e.1, ap (was_seen single) (sym (there (s * n + t) is)) ∙ was))
+      | inr other ↦ inl (ap (was_seen single) (sym (elsewhere (s * n + t) other)) ∙ was)
     ]
 
     -- a key of a pair before this one
@@ -158,7 +180,8 @@ module _ (order : List ℕ) (all : Bool) (M N : Machine) (m n : ℕ) (ps : List 
       left = f.left;
       right = f.right;
       far = f.far;
-      was_seen = stays_seen f.pair.left f.pair.right f.was_seen;
+      some = f.some;
+      was_seen = stays_seen (is_first q) f.pair.left f.pair.right f.was_seen;
       first = λ t u at_t at_u. f.first t u (old_key i t lt at_t) (old_key f.place u (slice_get_within ps f.place f.pair f.at) at_u);
     }
 
@@ -205,16 +228,23 @@ module _ (order : List ℕ) (all : Bool) (M N : Machine) (m n : ℕ) (ps : List 
       | inr new_r ↦ (let f : r.far ≡ x.far = ap (λ (z : Pair). z.far) new_r.1 in let g : p.far ≡ q.far = ap (λ (z : Pair). z.far) (one_at ps place p q at (old_place q has_q)) in omega (arith, f, g, next.far))
     ]
 
-    known : (s t : ℕ) → s < m → t < n → IsSeen seen' n s t → (i : ℕ) × (q : Pair) × HasAt ps' i q × (q.left ≡ s) × (q.right ≡ t)
-    known s t sm tn was = elim (seen_then s t tn was) [
-      | inl old ↦ (let f = h.known s t sm tn old in (f.0, f.1, before_last ps x f.0 f.1 f.2, f.3, f.4))
-      | inr new ↦ (length ps, x, at_last ps x, new.0, new.1)
+    known : (single : Bool) (s t : ℕ) → s < m → t < n → IsSeen seen' n single s t → (i : ℕ) × (q : Pair) × HasAt ps' i q × (q.left ≡ s) × (q.right ≡ t) × (1 ≤ q.far)
+    known single s t sm tn was = elim (seen_then single s t tn was) [
+      | inl old ↦ (let f = h.known single s t sm tn old in (f.0, f.1, before_last ps x f.0 f.1 f.2, f.3, f.4, f.5))
+      | inr new ↦ (length ps, x, at_last ps x, new.0, new.1, omega (arith, next.far))
     ]
 
-    agrees : (s t : ℕ) → s < m → t < n → IsSeen seen' n s t → deeds_in order all M s ≡ deeds_at all N t
-    agrees s t sm tn was = elim (seen_then s t tn was) [
-      | inl old ↦ h.agree s t sm tn old
-      | inr new ↦ ap (deeds_in order all M) (sym new.0) ∙ same ∙ ap (deeds_at all N) new.1
+    -- what is done alike of a longer text is done alike of a single byte
+    now_agree : (first single : Bool) → was_seen single (sight_of first) ≡ true → deeds_in order first M x.left ≡ deeds_at first N x.right → deeds_in order single M x.left ≡ deeds_at single N x.right
+    now_agree true true e alike = alike
+    now_agree true false e alike = absurd cc
+    now_agree false true e alike = single_too order M N x.left x.right alike
+    now_agree false false e alike = alike
+
+    agrees : (single : Bool) (s t : ℕ) → s < m → t < n → IsSeen seen' n single s t → deeds_in order single M s ≡ deeds_at single N t
+    agrees single s t sm tn was = elim (seen_then single s t tn was) [
+      | inl old ↦ h.agree single s t sm tn old
+      | inr new ↦ ap (deeds_in order single M) (sym new.0) ∙ now_agree (is_first p) single new.2 same ∙ ap (deeds_at single N) new.1
     ]
 
     found_new : IsFound M N n ps' keys' seen' place p b
@@ -225,7 +255,8 @@ module _ (order : List ℕ) (all : Bool) (M N : Machine) (m n : ℕ) (ps : List 
       left = next.left;
       right = next.right;
       far = omega (arith, next.far);
-      was_seen = get_or-set_at seen k k true false refl inside;
+      some = omega (arith, next.far);
+      was_seen = ap (was_seen (is_first p)) (there k refl) ∙ sees (is_first p);
       first = λ t u at_t at_u. inl (new_key (length ps) u refl at_u ∙ ap (λ z. z ++ b ∷ []) (one_at h.keys place here.0 t here.1 (old_key place t placed at_t)));
     }
 
@@ -242,7 +273,7 @@ module _ (order : List ℕ) (all : Bool) (M N : Machine) (m n : ℕ) (ps : List 
         past_it i e (inl less) = omega (arith, e, less, placed)
         past_it i e (inr here) = (let f = here.0 in omega (arith, e, f, placed))
 
-    pub seen_now : Searched order all M N m n ps' seen' place (b + 1)
+    pub seen_now : Searched order M N m n ps' seen' place (b + 1)
     seen_now = record {
       linked = linked;
       within = within;
@@ -255,7 +286,7 @@ module _ (order : List ℕ) (all : Bool) (M N : Machine) (m n : ℕ) (ps : List 
       ascending = ascending;
       ahead = ahead;
       starts = λ c line lt. (let f = h.starts c line lt in (f.0, f.1, before_last ps x f.0 f.1 f.2, f.3, before_last h.keys (here.0 ++ b ∷ []) f.0 (key c line []) f.4));
-      size = length-set seen k true ∙ h.size;
+      size = length-set seen k (sight_of (is_first p)) ∙ h.size;
       known = known;
       agree = agrees;
       closed = closed;

@@ -1,16 +1,10 @@
 -- What is told of two machines. (This project's.)
-use Rattle.std.specs.Prelude.{◌≡◌, ℕ, ◌<◌, Bool, true, false, Option, Some, None, List, ◌⊎◌}
+use Rattle.std.specs.Prelude.{◌≡◌, ℕ, ◌<◌, Option, Some, None, List}
 use Rattle.lex_semantics.specs.Machine.{Machine}
-use Rattle.lex_semantics.specs.MachineLaws.{NoReject, SomeReject}
 use Rattle.lexlook_tables.specs.declared.same.tables.Comparison.{Comparison}
 use Rattle.lexlook_tables.specs.declared.same.tables.Comparison.TheVariants.{Same, Conditions, Ends, Texts}
 use Rattle.lexlook_tables.specs.Same.{AlwaysAgree, Differs, number_in}
 use Rattle.lexlook_tables.specs.Scans.{ScanAlike, BeginTogether}
-
--- all rules that a state accepts count where some rule has REJECT, and else the first alone
-abbrev pub Counts : Bool → Machine → Machine → Type 0
-Counts true M N = SomeReject M ⊎ SomeReject N
-Counts false M N = NoReject M × NoReject N
 
 -- at the end of the input both do the same in each condition, or they do not in this one
 abbrev pub HaveEnds : List ℕ → Machine → Machine → Option ℕ → Type 0
@@ -22,9 +16,7 @@ HaveEnds order M N (Some c) = (c < M.conditions) × (M.ending c ≡ N.ending (nu
 pub record DoSame (order : List ℕ) (M N : Machine) : Type 0 where
   pub conditions : M.conditions ≡ N.conditions
   pub ends : HaveEnds order M N None
-  pub all : Bool
-  pub counts : Counts all M N
-  pub same : AlwaysAgree order all M N
+  pub same : AlwaysAgree order M N
   pub scan : BeginTogether order → ScanAlike M N
 
 abbrev pub Compares : List ℕ → Machine → Machine → Comparison → Type 0
@@ -32,4 +24,4 @@ Compares order M N Same = DoSame order M N
 Compares order M N Conditions = M.conditions ≡ N.conditions → ⊥
 Compares order M N (Ends c) = (M.conditions ≡ N.conditions) × HaveEnds order M N (Some c)
 Compares order M N (Texts d) =
-    (M.conditions ≡ N.conditions) × HaveEnds order M N None × (all : Bool) × Counts all M N × Differs order all M N d
+    (M.conditions ≡ N.conditions) × HaveEnds order M N None × Differs order M N d

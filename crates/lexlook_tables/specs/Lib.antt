@@ -1,4 +1,5 @@
 pub mod Same
+pub mod SameExamples
 pub mod Searching
 pub mod Scans
 pub mod Comparing

@@ -1,13 +1,19 @@
 -- A search over pairs of states, one of each machine, from those in which matches start. (This project's.)
-use Rattle.std.specs.Prelude.{◌≡◌, ℕ, suc, ◌+◌, ◌*◌, ◌≤◌, ◌<◌, Bool, true, false, List, [], ◌∷◌, ◌++◌, length, reverse, Some, ◌⊎◌, slice_get, slice_index_or, ⊤}
+use Rattle.std.specs.Prelude.{◌≡◌, ℕ, suc, ◌+◌, ◌*◌, ◌≤◌, ◌<◌, Bool, true, false, List, [], ◌∷◌, ◌++◌, length, map, reverse, Some, ◌⊎◌, nat_eq, slice_get, slice_index_or, ⊤}
 use Rattle.lex_semantics.specs.Text.{IsText}
 use Rattle.lex_semantics.specs.Machine.{Machine, state_after, walk}
-use Rattle.lexlook_tables.specs.Same.{deeds_at, deeds_in, number_in, key}
+use Rattle.lexlook_tables.specs.Same.{deed_of, deed_in, asked, deeds_at, deeds_in, number_in, key}
 use Rattle.lexauto_reports.specs.BackWords.{Precedes, NotAfter}
 use Rattle.lexlook_tables.specs.declared.same.pairs.From.{From}
 use Rattle.lexlook_tables.specs.declared.same.pairs.From.TheVariants.{Start, Byte}
 use Rattle.lexlook_tables.specs.declared.same.pairs.Pair.{Pair}
+use Rattle.lexlook_tables.specs.declared.same.pairs.Sight.{Sight}
+use Rattle.lexlook_tables.specs.declared.same.pairs.Sight.TheVariants.{Unseen, Single, Longer}
 use Rattle.lexlook_tables.specs.declared.same.differing.Difference.{Difference}
+
+-- by these rules, which accept a text, both do the same of it
+abbrev pub DoAlike : List ℕ → Bool → Machine → Machine → List ℕ → List ℕ → Type 0
+DoAlike order single M N is js = map (deed_in order M) (asked single M is) ≡ map (deed_of N) (asked single N js)
 
 abbrev pub HasAt : List Pair → ℕ → Pair → Type 0
 HasAt ps i p = slice_get ps i ≡ Some p
@@ -47,31 +53,47 @@ abbrev pub start_key : From → List ℕ
 start_key (Start c line) = key c line []
 start_key (Byte j b) = []
 
--- the pair of these states was seen, where the second machine has n states
-abbrev pub IsSeen : List Bool → ℕ → ℕ → ℕ → Type 0
-IsSeen seen n s t = slice_index_or seen (s * n + t) false ≡ true
+-- a text was seen that leads there: a single byte, or a longer one, of which more is asked
+abbrev pub was_seen : Bool → Sight → Bool
+was_seen single Unseen = false
+was_seen single Single = single
+was_seen single Longer = true
 
--- how many pairs of states were not seen yet
-abbrev pub unseen : List Bool → ℕ
+abbrev pub sight_of : Bool → Sight
+sight_of true = Single
+sight_of false = Longer
+
+-- a text was seen that leads to the pair of these states, where the second machine has n states
+abbrev pub IsSeen : List Sight → ℕ → Bool → ℕ → ℕ → Type 0
+IsSeen seen n single s t = was_seen single (slice_index_or seen (s * n + t) Unseen) ≡ true
+
+-- how often pairs of states may still be seen
+abbrev pub unseen : List Sight → ℕ
 unseen [] = 0
-unseen (true ∷ seen) = unseen seen
-unseen (false ∷ seen) = suc (unseen seen)
+unseen (Unseen ∷ seen) = suc (suc (unseen seen))
+unseen (Single ∷ seen) = suc (unseen seen)
+unseen (Longer ∷ seen) = unseen seen
+
+-- a byte after a text that leads to this pair is a single one
+abbrev pub is_first : Pair → Bool
+is_first p = nat_eq p.far 0
 
 -- a pair that a byte leads to from the one at this place was found, by a text that is not after
-pub record IsFound (M N : Machine) (n : ℕ) (ps : List Pair) (keys : List (List ℕ)) (seen : List Bool) (i : ℕ) (p : Pair)
-    (b : ℕ) : Type 0 where
+pub record IsFound (M N : Machine) (n : ℕ) (ps : List Pair) (keys : List (List ℕ)) (seen : List Sight) (i : ℕ)
+    (p : Pair) (b : ℕ) : Type 0 where
   pub place : ℕ
   pub pair : Pair
   pub at : HasAt ps place pair
   pub left : pair.left ≡ M.next p.left b
   pub right : pair.right ≡ N.next p.right b
   pub far : pair.far ≤ suc p.far
-  pub was_seen : IsSeen seen n pair.left pair.right
+  pub some : 1 ≤ pair.far
+  pub was_seen : IsSeen seen n (is_first p) pair.left pair.right
   pub first : (t u : List ℕ) → KeyAt keys i t → KeyAt keys place u → NotAfter u (t ++ b ∷ [])
 
 -- The pairs found so far, where those before this place were widened by each byte, and the one at this place by the
 -- bytes below b.
-pub record Searched (order : List ℕ) (all : Bool) (M N : Machine) (m n : ℕ) (ps : List Pair) (seen : List Bool)
+pub record Searched (order : List ℕ) (M N : Machine) (m n : ℕ) (ps : List Pair) (seen : List Sight)
     (at b : ℕ) : Type 0 where
   pub linked : AreLinked order M N ps
   pub within : (i : ℕ) (p : Pair) → HasAt ps i p → (p.left < m) × (p.right < n)
@@ -86,9 +108,10 @@ pub record Searched (order : List ℕ) (all : Bool) (M N : Machine) (m n : ℕ) 
   pub starts : (c : ℕ) (line : Bool) → c < M.conditions → (i : ℕ) × (p : Pair) × HasAt ps i p
       × IsStart order M N c line p × KeyAt keys i (key c line [])
   pub size : length seen ≡ m * n
-  pub known : (s t : ℕ) → s < m → t < n → IsSeen seen n s t → (i : ℕ) × (p : Pair) × HasAt ps i p × (p.left ≡ s)
-      × (p.right ≡ t)
-  pub agree : (s t : ℕ) → s < m → t < n → IsSeen seen n s t → deeds_in order all M s ≡ deeds_at all N t
+  pub known : (single : Bool) (s t : ℕ) → s < m → t < n → IsSeen seen n single s t → (i : ℕ) × (p : Pair)
+      × HasAt ps i p × (p.left ≡ s) × (p.right ≡ t) × (1 ≤ p.far)
+  pub agree : (single : Bool) (s t : ℕ) → s < m → t < n → IsSeen seen n single s t
+      → deeds_in order single M s ≡ deeds_at single N t
   pub closed : (i : ℕ) (p : Pair) (c : ℕ) → HasAt ps i p → c < 256 → (i < at) ⊎ ((i ≡ at) × (c < b))
       → IsFound M N n ps keys seen i p c
 
@@ -103,9 +126,10 @@ pub record AreStarts (order : List ℕ) (M N : Machine) (m n : ℕ) (ps : List P
       → Precedes (start_key p.from) (start_key q.from)
 
 -- of a match that the byte ends, after a text that leads to the pair at this place, they do not do the same
-abbrev pub DifferAt : List ℕ → Bool → Machine → Machine → List Pair → ℕ → ℕ → Type 0
-DifferAt order all M N ps at b =
-    (p : Pair) → HasAt ps at p → deeds_in order all M (M.next p.left b) ≡ deeds_at all N (N.next p.right b) → ⊥
+abbrev pub DifferAt : List ℕ → Machine → Machine → List Pair → ℕ → ℕ → Type 0
+DifferAt order M N ps at b =
+    (p : Pair) → HasAt ps at p
+    → deeds_in order (is_first p) M (M.next p.left b) ≡ deeds_at (is_first p) N (N.next p.right b) → ⊥
 
 -- one list goes on where the other ends
 abbrev pub GoesOn : List Pair → List Pair → Type 0

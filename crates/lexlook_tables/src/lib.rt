@@ -3,7 +3,7 @@
 //!
 //! - `same`: whether two machines do the same of each match, and else the first text of which they do not. `deeds`
 //!   compares what two rules do, `pairs` searches over pairs of states, one of each machine, `differing` goes back from a
-//!   pair to its text, and `tables` compares end actions first, and then matches.
+//!   pair to its text, and `tables` compares end actions first, and then matches. `examples` has worked examples.
 //! - `lines`: what stands against cuts. `actions` looks at the statements of a rule, `reaching` finds the states that
 //!   texts lead to, `newlines` looks at what a newline leads to, `cutting` does so for each condition, and `tables` calls it
 //!   for a table.
@@ -14,7 +14,10 @@
 //! (docs/MANUAL.md).
 //!
 //! - **Rules are compared by what they do**, statement by statement, and not by what is written in the end: that is a
-//!   question about all inputs. The default rule does nothing here, since it does the same in all files.
+//!   question about all inputs. The default rule counts as one that has ECHO, for a text of a single byte. So a pair of states is
+//!   looked at twice where a single byte leads there and a longer text too.
+//! - **A rule without REJECT and without trailing context ends the list of those that count.** One with trailing context does
+//!   not, since no law of machines says that its text fits.
 //! - **Of the shortest texts one in the first condition is shown**, and then the first in byte order. The search finishes
 //!   each condition for a length before the next one, and looks at a pair of states once.
 //! - **The pairing of conditions is a list of numbers, and the empty list pairs each number with itself.** So one search
@@ -30,5 +33,6 @@ mod same;
 
 pub use lines::{MachineSizes, Obstacle, find_obstacle, find_obstacle_in};
 pub use same::{
-    Comparison, Difference, PairSizes, compare, counts_all, number_in, rules_after, tell_apart,
+    Comparison, Difference, PairSizes, compare, examples_of_same, number_in, rules_after,
+    tell_apart,
 };

@@ -3,9 +3,11 @@
 
 mod deeds;
 mod differing;
+mod examples;
 mod pairs;
 mod tables;
 
 pub use deeds::{number_in, rules_after};
 pub use differing::{Difference, PairSizes, tell_apart};
-pub use tables::{Comparison, compare, counts_all};
+pub use examples::examples_of_same;
+pub use tables::{Comparison, compare};

@@ -1,12 +1,10 @@
 //! The line that tells of what two files do not do the same.
-ghost use Rattle.std.specs.Prelude.{◌≡◌, ◌<◌, ℕ, Bool, List, ◌++◌, length, IfOk, IfSome, OnOk, codes};
-ghost use Rattle.lex_semantics.specs.Text.{Among};
+ghost use Rattle.std.specs.Prelude.{◌≡◌, ◌<◌, ℕ, List, ◌++◌, length, IfOk, IfSome, OnOk, codes};
 ghost use Rattle.lextab_packed.specs.Machines.{table_machine};
 ghost use Rattle.lexspec.specs.Views.{conditions_in, rules_in};
-ghost use Rattle.lexlook_calls.specs.Lines.{taken, taken_by, naming, text_place, both, side_words, told_line};
+ghost use Rattle.lexlook_calls.specs.Lines.{asked_words, taken, taken_by, naming, text_place, both, side_words, told_line};
 ghost use Rattle.lexlook_calls.specs.Lines.{side_as, IsLabelled};
 ghost use Rattle.lexlook_calls.specs.Compared.{HoldsOfSides};
-ghost use Rattle.lexlook_tables.specs.Comparing.{Counts};
 ghost use Rattle.lexlook_tables.specs.Same.{number_in};
 ghost use Rattle.lexlook_tables.specs.declared.same.tables.Comparison.{Comparison};
 ghost use Rattle.lexlook_calls.specs.Sides.{read_as};
@@ -14,8 +12,9 @@ ghost use Rattle.lexlook_calls.specs.Sides.{read_as};
 use crate::labels::{add_condition, add_rule, add_start, add_string};
 use crate::sides::Side;
 use lexlook_specs::add;
-use lexlook_tables::{Comparison, Difference, counts_all, number_in, rules_after};
+use lexlook_tables::{Comparison, Difference, number_in, rules_after};
 use lexspec::Spec;
+use lextab_packed::Tables;
 use std::alloc::{AllocError, Global};
 
 /// A file that is compared, with its name.
@@ -25,16 +24,44 @@ pub(crate) struct Named<'a> {
     pub side: &'a Side,
 }
 
+/// How many rules there are.
+fn count_of(tables: &Tables) -> u32
+    ensures { result ≡ (table_machine tables.now).count }
+{
+    tables.parts().rules.len() as u32
+}
+
+/// Appends a rule of which a match asks, where there are so many: the one behind them is the default rule.
+fn add_asked(
+    text: &mut Vec<u8>,
+    given: &Option<Spec>,
+    count: u32,
+    rule: u32,
+) -> Result<(), AllocError>
+    requires { IfSome (read_as given.now) (λ S. length (rules_in S) ≡ count) }
+    ensures { OnOk result (text.new.items ≡ text.old.items ++ asked_words (read_as given.now) count rule) }
+{
+    if rule < count {
+        return add_rule(text, given, rule);
+    }
+    add(text, b" the default rule")
+}
+
 /// Appends the rules of which a match asks.
-fn add_taken(text: &mut Vec<u8>, given: &Option<Spec>, rules: &[u32]) -> Result<(), AllocError>
-    requires { (i : ℕ) → Among rules.now i → IfSome (read_as given.now) (λ S. i < length (rules_in S)) }
-    ensures { OnOk result (text.new.items ≡ text.old.items ++ taken (read_as given.now) rules.now) }
+fn add_taken(
+    text: &mut Vec<u8>,
+    given: &Option<Spec>,
+    count: u32,
+    rules: &[u32],
+) -> Result<(), AllocError>
+    requires { IfSome (read_as given.now) (λ S. length (rules_in S) ≡ count) }
+    ensures { OnOk result (text.new.items ≡ text.old.items ++ taken (read_as given.now) count rules.now) }
 {
     if rules.is_empty() {
         return add(text, b" nothing");
     }
     for rule in rules {
-        add_rule(text, given, *rule)?;
+        add_asked(text, given, count, *rule)?;
     }
     Ok(())
 }
@@ -44,13 +71,15 @@ fn add_side(
     text: &mut Vec<u8>,
     name: &[u8],
     given: &Option<Spec>,
+    count: u32,
     rules: &[u32],
 ) -> Result<(), AllocError>
-    requires { (i : ℕ) → Among rules.now i → IfSome (read_as given.now) (λ S. i < length (rules_in S)) }
-    ensures { OnOk result (text.new.items ≡ text.old.items ++ side_words name.now (read_as given.now) rules.now) }
+    requires { IfSome (read_as given.now) (λ S. length (rules_in S) ≡ count) }
+    ensures { OnOk result (text.new.items
+        ≡ text.old.items ++ side_words name.now (read_as given.now) count rules.now) }
 {
     add(text, name)?;
-    add_taken(text, given, rules)
+    add_taken(text, given, count, rules)
 }
 
 /// Appends in which condition and after which text.
@@ -81,21 +110,23 @@ fn add_both(text: &mut Vec<u8>, name: &[u8], other: &[u8]) -> Result<(), AllocEr
 
 /// Appends a file's name, and what it does of a text.
 fn add_taken_by(
+    alloc: Global,
     text: &mut Vec<u8>,
     name: &[u8],
     side: &Side,
-    all: bool,
     condition: u8,
     difference: &Difference,
 ) -> Result<(), AllocError>
     requires condition { condition < (table_machine side.now.tables).conditions }
     requires labels { IsLabelled (side_as name.now side.now) }
     ensures { OnOk result (text.new.items ≡ text.old.items
-        ++ taken_by (side_as name.now side.now) all condition difference.now) }
+        ++ taken_by (side_as name.now side.now) condition difference.now) }
 {
     let bytes = difference.text.as_slice();
-    let rules = rules_after(&side.tables, all, condition, difference.line_start, bytes);
-    add_side(text, name, &side.spec, rules)
+    let line_start = difference.line_start;
+    let count = count_of(&side.tables);
+    let rules = rules_after(alloc, &side.tables, count, condition, line_start, bytes)?;
+    add_side(text, name, &side.spec, count, rules.as_slice())
 }
 
 /// The specification that names the conditions of both.
@@ -110,11 +141,11 @@ fn naming<'a>(given: &'a Option<Spec>, other: &'a Option<Spec>) -> &'a Option<Sp
 
 /// Appends the line of a text of which two files do not do the same.
 fn add_difference(
+    alloc: Global,
     text: &mut Vec<u8>,
     left: Named<'_>,
     right: Named<'_>,
     order: &[u8],
-    all: bool,
     difference: &Difference,
 ) -> Result<(), AllocError>
     requires left { difference.now.condition < (table_machine left.side.now.tables).conditions }
@@ -125,20 +156,20 @@ fn add_difference(
     requires right_labels { IsLabelled (side_as right.name.now right.side.now) }
     ensures { OnOk result (text.new.items ≡ text.old.items
         ++ told_line (side_as left.entry.name.now left.entry.side.now)
-        (side_as right.entry.name.now right.entry.side.now) order.now all (Comparison.Texts difference.now)) }
+        (side_as right.entry.name.now right.entry.side.now) order.now (Comparison.Texts difference.now)) }
 {
     let there = number_in(order, difference.condition);
     add_place(text, naming(&left.side.spec, &right.side.spec), difference)?;
     add_taken_by(
+        alloc,
         text,
         left.name,
         left.side,
-        all,
         difference.condition,
         difference,
     )?;
     add(text, b", ")?;
-    add_taken_by(text, right.name, right.side, all, there, difference)?;
+    add_taken_by(alloc, text, right.name, right.side, there, difference)?;
     add(text, b"\n")
 }
 
@@ -154,9 +185,9 @@ fn add_end(
         ≡ (table_machine right.side.now.tables).conditions }
     requires left_labels { IsLabelled (side_as left.name.now left.side.now) }
     requires right_labels { IsLabelled (side_as right.name.now right.side.now) }
-    ensures { (order : List ℕ) (all : Bool) → OnOk result (text.new.items ≡ text.old.items
+    ensures { (order : List ℕ) → OnOk result (text.new.items ≡ text.old.items
         ++ told_line (side_as left.entry.name.now left.entry.side.now)
-        (side_as right.entry.name.now right.entry.side.now) order all (Comparison.Ends condition)) }
+        (side_as right.entry.name.now right.entry.side.now) order (Comparison.Ends condition)) }
 {
     add(text, b"in ")?;
     add_condition(text, naming(&left.side.spec, &right.side.spec), condition)?;
@@ -177,11 +208,11 @@ fn add_conditions(text: &mut Vec<u8>, name: &[u8], other: &[u8]) -> Result<(), A
 
 /// Appends the line of what is told of two files, and no byte where they do the same.
 fn add_told(
+    alloc: Global,
     text: &mut Vec<u8>,
     left: Named<'_>,
     right: Named<'_>,
     order: &[u8],
-    all: bool,
     told: &Comparison,
 ) -> Result<(), AllocError>
     requires left_labels { IsLabelled (side_as left.name.now left.side.now) }
@@ -190,13 +221,15 @@ fn add_told(
         order.now told.now }
     ensures { OnOk result (text.new.items ≡ text.old.items
         ++ told_line (side_as left.entry.name.now left.entry.side.now)
-        (side_as right.entry.name.now right.entry.side.now) order.now all told.now) }
+        (side_as right.entry.name.now right.entry.side.now) order.now told.now) }
 {
     match told {
         Comparison::Same => add(text, b""),
         Comparison::Conditions => add_conditions(text, left.name, right.name),
         Comparison::Ends(condition) => add_end(text, left, right, *condition),
-        Comparison::Texts(difference) => add_difference(text, left, right, order, all, difference),
+        Comparison::Texts(difference) => add_difference(
+            alloc, text, left, right, order, difference,
+        ),
     }
 }
 
@@ -212,13 +245,10 @@ pub(crate) fn told_line(
     requires right_labels { IsLabelled (side_as right.name.now right.side.now) }
     requires holds { HoldsOfSides (side_as left.name.now left.side.now) (side_as right.name.now right.side.now)
         order.now told.now }
-    ensures { IfOk result (λ line. (all : Bool)
-        × Counts all (table_machine left.entry.side.now.tables) (table_machine right.entry.side.now.tables)
-        × (line.items ≡ told_line (side_as left.entry.name.now left.entry.side.now)
-        (side_as right.entry.name.now right.entry.side.now) order.now all told.now)) }
+    ensures { IfOk result (λ line. line.items ≡ told_line (side_as left.entry.name.now left.entry.side.now)
+        (side_as right.entry.name.now right.entry.side.now) order.now told.now) }
 {
-    let all = counts_all(&left.side.tables, &right.side.tables);
     let mut text = Vec::new(alloc);
-    add_told(&mut text, left, right, order, all, told)?;
+    add_told(alloc, &mut text, left, right, order, told)?;
     Ok(text)
 }

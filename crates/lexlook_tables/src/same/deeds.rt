@@ -1,10 +1,14 @@
 //! Whether two rules do the same.
-ghost use Rattle.std.specs.Prelude.{◌≡◌, ℕ, ◌<◌, true, false, map};
+ghost use Rattle.std.specs.Prelude.{◌≡◌, ℕ, ◌<◌, true, false, ◌⊎◌, List, [], map, IfOk};
+ghost use Rattle.lex_semantics.specs.Text.{Among};
 ghost use Rattle.lex_semantics.specs.Machine.{state_after};
 ghost use Rattle.lexlook_tables.specs.Same.{deed_of, deed_in, rules_at, deeds_at, deeds_in, number_in, renumbered};
+ghost use Rattle.lexlook_tables.specs.Same.{is_single, may_yield, asked};
+ghost use Rattle.lexlook_tables.specs.Searching.{DoAlike};
 ghost use Rattle.lex_machine.specs.Views.{statement_of, cut_of};
 
-use lex_machine::{Cut, Machine, Statement};
+use lex_machine::{Cut, Machine, Statement, has_reject};
+use std::alloc::{AllocError, Global};
 
 /// The number that a condition of the left machine has in the right one.
 pub fn number_in(order: &[u8], condition: u8) -> u8
@@ -82,48 +86,82 @@ fn do_same<A: Machine, B: Machine>(order: &[u8], left: &A, rule: u32, right: &B,
     cut == other_cut && are_same(order, statements, others)
 }
 
-/// The rules of which a match that ends in this state asks.
-fn rules_at<M: Machine>(machine: &M, all: bool, state: u32) -> &[u32]
-    requires { state < M.states machine.now }
-    ensures { result.now ≡ rules_at all (M.machine machine.now) state }
+/// Whether a rule that matches may leave the text to the next one: by REJECT, or by its trailing context.
+fn may_yield<M: Machine>(machine: &M, rule: u32) -> bool
+    requires { rule < (M.machine machine.now).count }
+    ensures { result ≡ may_yield (deed_of (M.machine machine.now) rule) }
 {
-    let rules = machine.accepts(state);
-    if all || rules.is_empty() {
-        rules
+    let (cut, statements) = machine.rule(rule);
+    has_reject(statements) || cut != Cut::Whole
+}
+
+/// Whether a rule does what the default rule does.
+fn copies<M: Machine>(machine: &M, rule: u32) -> bool
+    requires { rule < (M.machine machine.now).count }
+    ensures yes { result ≡ true
+        → deed_of (M.machine machine.now) rule ≡ deed_of (M.machine machine.now) (M.machine machine.now).count }
+    ensures no { result ≡ false
+        → deed_of (M.machine machine.now) rule ≡ deed_of (M.machine machine.now) (M.machine machine.now).count → ⊥ }
+{
+    let (cut, statements) = machine.rule(rule);
+    cut == Cut::Whole && statements.len() == 1 && matches!(&statements[0], Statement::Echo)
+}
+
+/// Whether both do the same of a text where the rules of one side have ended: the other has no more, or does what the
+/// default rule does of a single byte.
+fn rest_agrees<A: Machine, B: Machine>(
+    left: &A,
+    right: &B,
+    single: bool,
+    rules: &[u32],
+    others: &[u32],
+) -> bool
+    requires rules { (i : ℕ) → Among rules.now i → i < (A.machine left.now).count }
+    requires others { (i : ℕ) → Among others.now i → i < (B.machine right.now).count }
+    requires one { (rules.now ≡ []) ⊎ (others.now ≡ []) }
+    ensures yes { result ≡ true → (order : List ℕ) → DoAlike order single (A.machine left.now) (B.machine right.now)
+        rules.now others.now }
+    ensures no { result ≡ false → (order : List ℕ) → DoAlike order single (A.machine left.now) (B.machine right.now)
+        rules.now others.now → ⊥ }
+{
+    if !rules.is_empty() {
+        single && copies(left, rules[0])
+    } else if !others.is_empty() {
+        single && copies(right, others[0])
     } else {
-        &rules[..1]
+        true
     }
 }
 
-/// Whether both do the same of a match that ends in these states.
+/// Whether both do the same of a match that ends in these states, of a single byte or of more.
 pub fn agree<A: Machine, B: Machine>(
     order: &[u8],
     left: &A,
     right: &B,
-    all: bool,
+    single: bool,
     state: u32,
     other: u32,
 ) -> bool
     requires state { state < A.states left.now }
     requires other { other < B.states right.now }
     ensures yes { result ≡ true
-        → deeds_in order.now all (A.machine left.now) state ≡ deeds_at all (B.machine right.now) other }
+        → deeds_in order.now single (A.machine left.now) state ≡ deeds_at single (B.machine right.now) other }
     ensures no { result ≡ false
-        → deeds_in order.now all (A.machine left.now) state ≡ deeds_at all (B.machine right.now) other → ⊥ }
+        → deeds_in order.now single (A.machine left.now) state ≡ deeds_at single (B.machine right.now) other → ⊥ }
 {
-    let rules = rules_at(left, all, state);
-    let others = rules_at(right, all, other);
-    if rules.len() != others.len() {
-        return false;
-    }
+    let rules = left.accepts(state);
+    let others = right.accepts(other);
     let mut at = 0usize;
-    'places: while at < rules.len() {
+    'places: while at < rules.len() && at < others.len() {
         if !do_same(order, left, rules[at], right, others[at]) {
             return false;
         }
+        if !may_yield(left, rules[at]) {
+            return true;
+        }
         at += 1;
     }
-    true
+    rest_agrees(left, right, single, &rules[at..], &others[at..])
 }
 
 /// The state after a text, from a condition on, at the start of a line or not.
@@ -139,21 +177,52 @@ fn state_after<M: Machine>(machine: &M, condition: u8, line_start: bool, text: &
     state
 }
 
-/// The rules of which a match of this text asks, from a condition on, at the start of a line or not.
-pub fn rules_after<'a, M: Machine>(
-    machine: &'a M,
-    all: bool,
+/// The rules of which a match asks, where these accept a text. The default rule has the number after the last.
+fn asked<M: Machine>(
+    alloc: Global,
+    machine: &M,
+    count: u32,
+    single: bool,
+    rules: &[u32],
+) -> Result<Vec<u32>, AllocError>
+    requires count { count ≡ (M.machine machine.now).count }
+    requires rules { (i : ℕ) → Among rules.now i → i < (M.machine machine.now).count }
+    ensures { IfOk result (λ v. v.items ≡ asked single (M.machine machine.now) rules.now) }
+{
+    let mut asked = Vec::new(alloc);
+    for rule in rules {
+        asked.push(*rule)?;
+        if !may_yield(machine, *rule) {
+            return Ok(asked);
+        }
+    }
+    if single {
+        asked.push(count)?;
+    }
+    Ok(asked)
+}
+
+/// The rules of which a match of this text asks, from a condition on, at the start of a line or not: up to the first that
+/// is taken for certain. The default rule has the number after the last: there are so many rules.
+pub fn rules_after<M: Machine>(
+    alloc: Global,
+    machine: &M,
+    count: u32,
     condition: u8,
     line_start: bool,
     text: &[u8],
-) -> &'a [u32]
-    requires { condition < (M.machine machine.now).conditions }
-    ensures { result.now ≡ rules_at all (M.machine machine.now)
-        (state_after (M.machine machine.now) condition line_start text.now) }
+) -> Result<Vec<u32>, AllocError>
+    requires count { count ≡ (M.machine machine.now).count }
+    requires condition { condition < (M.machine machine.now).conditions }
+    ensures { IfOk result (λ rules. rules.items ≡ rules_at (is_single text.now) (M.machine machine.now)
+        (state_after (M.machine machine.now) condition line_start text.now)) }
 {
-    rules_at(
+    let state = state_after(machine, condition, line_start, text);
+    asked(
+        alloc,
         machine,
-        all,
-        state_after(machine, condition, line_start, text),
+        count,
+        text.len() == 1,
+        machine.accepts(state),
     )
 }

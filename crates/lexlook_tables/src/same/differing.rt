@@ -5,7 +5,7 @@ ghost use Rattle.lexlook_tables.specs.declared.same.pairs.Pair.{Pair};
 ghost use Rattle.lexlook_tables.specs.Same.{AlwaysAgree, Differs, key, number_in};
 ghost use Rattle.lexlook_tables.specs.Searching.{HasAt, KeyAt, AreKeyed, AreLinked, LeadBack, IsTextOf};
 
-use crate::same::pairs::{From, Pair, starts, widen};
+use crate::same::pairs::{From, Pair, Sight, starts, widen};
 use lex_machine::Machine;
 use std::alloc::{AllocError, Global};
 
@@ -61,18 +61,17 @@ fn text_to(alloc: Global, pairs: &[Pair], place: usize, byte: u8) -> Result<Diff
     }
 }
 
-/// The first of the texts of which two machines do not do the same, from some condition on: of which their first
-/// accepted rules differ in what they do, or, where `all` says so, any of those that REJECT goes on to. Shorter texts
-/// come first, then those of the first condition, then those not at the start of a line, and then the first in byte
-/// order. Nothing where they do the same of each text. A condition of the left machine has the number in the right one
-/// that stands at its place in `order`, or else its own. It takes a byte of memory for each pair of states, and 32 for
-/// each pair that a text leads to.
+/// The first of the texts of which two machines do not do the same, from some condition on: of which the rules that a
+/// match asks for differ in what they do, up to the first that is taken for certain. Of a single byte the default rule is
+/// the last of them. Shorter texts come first, then those of the first condition, then those not at the start of a line,
+/// and then the first in byte order. Nothing where they do the same of each text. A condition of the left machine has the
+/// number in the right one that stands at its place in `order`, or else its own. It takes a byte of memory for each pair of
+/// states, and 32 for each pair that a text leads to, twice that for one that a single byte leads to.
 pub fn tell_apart<A: Machine, B: Machine>(
     alloc: Global,
     order: &[u8],
     left: &A,
     right: &B,
-    all: bool,
     sizes: PairSizes,
 ) -> Result<Option<Difference>, AllocError>
     requires left_states { sizes.left ≡ A.states left.now }
@@ -81,16 +80,16 @@ pub fn tell_apart<A: Machine, B: Machine>(
     requires right_conditions { (c : ℕ) → c < sizes.conditions
         → number_in order.now c < (B.machine right.now).conditions }
     ensures same { IfOk result (λ found. found ≡ None
-        → AlwaysAgree order.now all (A.machine left.now) (B.machine right.now)) }
+        → AlwaysAgree order.now (A.machine left.now) (B.machine right.now)) }
     ensures differ { IfOk result (λ found. IfSome found
-        (Differs order.now all (A.machine left.now) (B.machine right.now))) }
+        (Differs order.now (A.machine left.now) (B.machine right.now))) }
 {
     let width = sizes.right as usize;
     let mut pairs = starts(alloc, order, left, right, sizes.conditions)?;
-    let mut seen = vec![in alloc; false; sizes.left as usize * width]?;
+    let mut seen = vec![in alloc; Sight::Unseen; sizes.left as usize * width]?;
     let mut place = 0usize;
     'pairs: while place < pairs.len() {
-        match widen(order, left, right, all, width, &mut pairs, &mut seen, place)? {
+        match widen(order, left, right, width, &mut pairs, &mut seen, place)? {
             None => place += 1,
             Some(byte) => return Ok(Some(text_to(alloc, pairs.as_slice(), place, byte)?)),
         }

@@ -3,6 +3,7 @@ ghost use Rattle.std.specs.Prelude.{◌≡◌, ◌+◌, ◌*◌, ◌^◌, ◌<�
 ghost use Rattle.lexlook_tables.specs.declared.same.pairs.From.{From};
 ghost use Rattle.lexlook_tables.specs.Same.{number_in};
 ghost use Rattle.lexlook_tables.specs.Searching.{HasAt, IsNext, AreStarts, Searched, DifferAt, GoesOn, unseen};
+ghost use Rattle.lexlook_tables.specs.Searching.{was_seen, sight_of};
 
 use crate::same::deeds::{agree, number_in};
 use lex_machine::Machine;
@@ -24,6 +25,35 @@ pub(crate) struct Pair {
     pub right: u32,
     pub far: usize,
     pub from: From,
+}
+
+/// Whether a text was seen that leads to a pair of states.
+#[derive(Clone, Copy)]
+pub(crate) enum Sight {
+    /// None was.
+    Unseen,
+    /// A single byte was, which the default rule matches too.
+    Single,
+    /// A longer one was.
+    Longer,
+}
+
+/// Whether a text was seen, a single byte or a longer one, that leads to the same states.
+fn was_seen(sight: Sight, single: bool) -> bool
+    ensures { result ≡ was_seen single sight }
+{
+    match sight {
+        Sight::Unseen => false,
+        Sight::Single => single,
+        Sight::Longer => true,
+    }
+}
+
+/// What is seen by a single byte, or by a longer text.
+fn sight_of(single: bool) -> Sight
+    ensures { result ≡ sight_of single }
+{
+    if single { Sight::Single } else { Sight::Longer }
 }
 
 /// Both machines where a match starts.
@@ -105,36 +135,36 @@ pub(crate) fn widen<A: Machine, B: Machine>(
     order: &[u8],
     left: &A,
     right: &B,
-    all: bool,
     width: usize,
     pairs: &mut Vec<Pair>,
-    seen: &mut Vec<bool>,
+    seen: &mut Vec<Sight>,
     place: usize,
 ) -> Result<Option<u8>, AllocError>
     requires place { place < length pairs.old.items }
     requires width { width ≡ B.states right.now }
-    requires searched { Searched order.now all (A.machine left.now) (B.machine right.now)
+    requires searched { Searched order.now (A.machine left.now) (B.machine right.now)
         (A.states left.now) (B.states right.now) pairs.old.items seen.old.items place 0 }
     ensures longer { OnOk result (length pairs.old.items ≤ length pairs.new.items) }
     ensures fewer { OnOk result (unseen seen.new.items + length pairs.new.items
         ≤ unseen seen.old.items + length pairs.old.items) }
     ensures none { IfOk result (λ found. found ≡ None
-        → Searched order.now all (A.machine left.now) (B.machine right.now)
+        → Searched order.now (A.machine left.now) (B.machine right.now)
         (A.states left.now) (B.states right.now) pairs.new.items seen.new.items place 256) }
     ensures some { IfOk result (λ found. IfSome found (λ byte.
-        Searched order.now all (A.machine left.now) (B.machine right.now)
+        Searched order.now (A.machine left.now) (B.machine right.now)
         (A.states left.now) (B.states right.now) pairs.new.items seen.new.items place byte
-        × DifferAt order.now all (A.machine left.now) (B.machine right.now) pairs.new.items place byte)) }
+        × DifferAt order.now (A.machine left.now) (B.machine right.now) pairs.new.items place byte)) }
 {
     let pair = pairs[place];
+    let single = pair.far == 0;
     'bytes: for byte in 0..256u32 {
         let next = next_pair(left, right, pair, place, byte as u8);
         let at = next.left as usize * width + next.right as usize;
-        if !seen[at] {
-            if !agree(order, left, right, all, next.left, next.right) {
+        if !was_seen(seen[at], single) {
+            if !agree(order, left, right, single, next.left, next.right) {
                 return Ok(Some(byte as u8));
             }
-            seen[at] = true;
+            seen[at] = sight_of(single);
             pairs.push(next)?;
         }
     }

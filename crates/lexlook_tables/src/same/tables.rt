@@ -3,7 +3,7 @@ ghost use Rattle.std.specs.Prelude.{◌≡◌, ℕ, ◌<◌, ◌≤◌, true, fa
 ghost use Rattle.lex_machine.specs.Views.{end_action_of};
 ghost use Rattle.lextab_packed.specs.Machines.{table_machine};
 ghost use Rattle.lexlook_tables.specs.Same.{number_in};
-ghost use Rattle.lexlook_tables.specs.Comparing.{Compares, Counts, HaveEnds};
+ghost use Rattle.lexlook_tables.specs.Comparing.{Compares, HaveEnds};
 
 use crate::same::deeds::number_in;
 use crate::same::differing::{Difference, PairSizes, tell_apart};
@@ -46,13 +46,6 @@ fn other_end(order: &[u8], left: &Tables, right: &Tables, conditions: u8) -> Opt
     None
 }
 
-/// Whether all rules that a state accepts count, since some rule has REJECT.
-pub fn counts_all(left: &Tables, right: &Tables) -> bool
-    ensures { Counts result (table_machine left.now) (table_machine right.now) }
-{
-    left.rejects() || right.rejects()
-}
-
 /// Says whether two tables do the same of each match, from each condition on, and at the end of the input. A condition
 /// of the left one has the number in the right one that stands at its place in `order`, or else its own. Where they do
 /// not, it shows a condition, and the first text, as `tell_apart` does.
@@ -78,12 +71,9 @@ pub fn compare(
     };
     match other_end(order, left, right, sizes.conditions) {
         Some(condition) => Ok(Comparison::Ends(condition)),
-        None => {
-            let all = counts_all(left, right);
-            match tell_apart(alloc, order, left, right, all, sizes)? {
-                None => Ok(Comparison::Same),
-                Some(difference) => Ok(Comparison::Texts(difference)),
-            }
-        }
+        None => match tell_apart(alloc, order, left, right, sizes)? {
+            None => Ok(Comparison::Same),
+            Some(difference) => Ok(Comparison::Texts(difference)),
+        },
     }
 }

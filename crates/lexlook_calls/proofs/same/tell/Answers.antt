@@ -16,9 +16,7 @@ returns-in-Err-put-clause-told g c = record {
   told = c.in-Ok.found.told;
   holds = subst (λ o. HoldsOfSides (side_as c.args.left.name.now c.args.left.side.now) (side_as c.args.right.name.now c.args.right.side.now) o c.in-Ok.found.told) (sym c.as_slice.ensures.value)
       (c.in-Ok.ensures c.args.left.name.now c.args.right.name.now);
-  all = c.in-Ok-told_line.ensures.0;
-  counts = c.in-Ok-told_line.ensures.1;
-  written = subst (λ bytes. Appended {T = Bool} {E = LookError} (λ xs. g.K.Sink.wrote c.args.sink.now xs c.put.new.self) bytes (Err Write)) (c.as_slice-2.ensures.value ∙ c.in-Ok-told_line.ensures.2) c.in-Err-put.ensures.bytes;
+  written = subst (λ bytes. Appended {T = Bool} {E = LookError} (λ xs. g.K.Sink.wrote c.args.sink.now xs c.put.new.self) bytes (Err Write)) (c.as_slice-2.ensures.value ∙ c.in-Ok-told_line.ensures) c.in-Err-put.ensures.bytes;
 }
 
 pub returns-clause-told : goal.returns-clause-told
@@ -28,9 +26,7 @@ returns-clause-told g c = (
     told = c.in-Ok.found.told;
     holds = subst (λ o. HoldsOfSides (side_as c.args.left.name.now c.args.left.side.now) (side_as c.args.right.name.now c.args.right.side.now) o c.in-Ok.found.told) (sym c.as_slice.ensures.value)
         (c.in-Ok.ensures c.args.left.name.now c.args.right.name.now);
-    all = c.in-Ok-told_line.ensures.0;
-    counts = c.in-Ok-told_line.ensures.1;
-    written = subst (λ bytes. g.K.Sink.wrote c.args.sink.now bytes c.put.new.self) (c.as_slice-2.ensures.value ∙ c.in-Ok-told_line.ensures.2) c.in-Ok-put.ensures.bytes;
+    written = subst (λ bytes. g.K.Sink.wrote c.args.sink.now bytes c.put.new.self) (c.as_slice-2.ensures.value ∙ c.in-Ok-told_line.ensures) c.in-Ok-put.ensures.bytes;
   },
   c.is_same.ensures,
 )

@@ -1,29 +1,45 @@
-use Rattle.std.proofs.Common.{sym, ap, ◌∙◌, arith}
-use Rattle.std.specs.Prelude.{map}
+use Rattle.std.proofs.Common.{sym, subst, ◌∙◌, arith}
+use Rattle.std.proofs.lemmas.List.{take_rest}
+use Rattle.lex_semantics.specs.Text.{Among}
 use Rattle.lex_semantics.specs.Machine.{Machine}
-use Rattle.lexlook_tables.specs.Same.{deed_of, deed_in}
-use Rattle.lexlook_tables.proofs.Lists.{one_more, same_at}
-use Rattle.lexlook_tables.proofs.Asked.{in_count}
+use Rattle.lexlook_tables.specs.Searching.{DoAlike}
+use Rattle.lexlook_tables.proofs.Asked.{among_later, accepted, accepted_at, alike_next, alike_last}
 use Rattle.lexlook_tables.proofs.same.deeds.agree.Goals as goal
+use Rattle.lexlook_tables.proofs.same.deeds.agree.Goals.{then-places-test+else-at-others, else-places-test}
 
 pub do_same-requires-clause-rule : goal.do_same-requires-clause-rule
-do_same-requires-clause-rule g c = in_count (g.A.Machine.machine c.args.left.now) (g.A.Machine.laws c.args.left.now) c.args.all c.args.state c.rules_at-rules.result.now c.places.at c.rules_at-rules.ensures (omega (arith, c.places-test.true))
+do_same-requires-clause-rule g c = accepted_at (g.A.Machine.machine c.args.left.now) (g.A.Machine.laws c.args.left.now) c.args.state c.accepts-rules.result.now c.accepts-rules.ensures c.places.at (omega (arith, c.places-test.true))
 
 pub do_same-requires-clause-other : goal.do_same-requires-clause-other
-do_same-requires-clause-other g c =
-    in_count (g.B.Machine.machine c.args.right.now) (g.B.Machine.laws c.args.right.now) c.args.all c.args.other c.rules_at-others.result.now c.places.at c.rules_at-others.ensures (omega (arith, c.places-test.true, c.if-rules-others.false))
+do_same-requires-clause-other g c = accepted_at (g.B.Machine.machine c.args.right.now) (g.B.Machine.laws c.args.right.now) c.args.other c.accepts-others.result.now c.accepts-others.ensures c.places.at (omega (arith, c.if-at-others.true))
 
-pub returns-then-not-do_same-clause-no : goal.returns-then-not-do_same-clause-no
-returns-then-not-do_same-clause-no g c = λ no same.
-    let M : Machine = g.A.Machine.machine c.args.left.now in
-    let N : Machine = g.B.Machine.machine c.args.right.now in
-    c.do_same.ensures.no c.if-not-do_same.true
-    (same_at (deed_in c.args.order.now M) (deed_of N) c.rules_at-rules.result.now c.rules_at-others.result.now c.places.at 0 0 (omega (arith, c.places-test.true)) (omega (arith, c.places-test.true, c.if-rules-others.false))
-    (ap (map (deed_in c.args.order.now M)) c.rules_at-rules.ensures ∙ same ∙ sym (ap (map (deed_of N)) c.rules_at-others.ensures)))
+pub may_yield-requires : goal.may_yield-requires
+may_yield-requires g c = accepted_at (g.A.Machine.machine c.args.left.now) (g.A.Machine.laws c.args.left.now) c.args.state c.accepts-rules.result.now c.accepts-rules.ensures c.places.at (omega (arith, c.places-test.true))
+
+pub returns-then-not-may_yield-clause-yes : goal.returns-then-not-may_yield-clause-yes
+returns-then-not-may_yield-clause-yes g c = λ _. subst (λ l. DoAlike c.args.order.now c.args.single M N l (N.accepts c.args.other)) c.accepts-rules.ensures
+    (subst (DoAlike c.args.order.now c.args.single M N c.accepts-rules.result.now) c.accepts-others.ensures
+    (alike_last c.args.order.now M N c.args.single c.accepts-rules.result.now c.accepts-others.result.now c.places.at (omega (arith, c.places-test.true)) (omega (arith, c.if-at-others.true)) c.places.invariant.alike
+    (c.do_same.ensures.yes c.if-not-do_same.false) (sym c.may_yield.ensures ∙ c.if-not-may_yield.true)))
+  where
+    M : Machine
+    M = g.A.Machine.machine c.args.left.now
+
+    N : Machine
+    N = g.B.Machine.machine c.args.right.now
 
 pub places-preserved : goal.places-preserved
 places-preserved g c = record {
   within = omega (arith, c.places-test.true);
-  same = one_more (deed_in c.args.order.now (g.A.Machine.machine c.args.left.now)) (deed_of (g.B.Machine.machine c.args.right.now)) c.rules_at-rules.result.now c.rules_at-others.result.now c.places.at 0 0 (omega (arith, c.places-test.true)) (omega (arith, c.places-test.true, c.if-rules-others.false)) c.places.invariant.same
-      (c.do_same.ensures.yes c.if-not-do_same.false);
+  inside = omega (arith, c.if-at-others.true);
+  alike = alike_next c.args.order.now (g.A.Machine.machine c.args.left.now) (g.B.Machine.machine c.args.right.now) c.args.single c.accepts-rules.result.now c.accepts-others.result.now c.places.at (omega (arith, c.places-test.true)) (omega (arith, c.if-at-others.true))
+      c.places.invariant.alike (c.do_same.ensures.yes c.if-not-do_same.false) (sym c.may_yield.ensures ∙ c.if-not-may_yield.false);
 }
+
+pub rest_agrees-requires-clause-rules : goal.rest_agrees-requires-clause-rules
+rest_agrees-requires-clause-rules g c = λ i a. accepted (g.A.Machine.machine c.args.left.now) (g.A.Machine.laws c.args.left.now) c.args.state c.accepts-rules.result.now c.accepts-rules.ensures i
+    (among_later c.accepts-rules.result.now c.places.at i (subst (λ l. Among l i) (take_rest c.accepts-rules.result.now c.places.at) a))
+
+pub rest_agrees-requires-clause-others : goal.rest_agrees-requires-clause-others
+rest_agrees-requires-clause-others g c = λ i a. accepted (g.B.Machine.machine c.args.right.now) (g.B.Machine.laws c.args.right.now) c.args.other c.accepts-others.result.now c.accepts-others.ensures i
+    (among_later c.accepts-others.result.now c.places.at i (subst (λ l. Among l i) (take_rest c.accepts-others.result.now c.places.at) a))

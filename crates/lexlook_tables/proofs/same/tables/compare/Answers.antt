@@ -2,7 +2,8 @@ use Rattle.std.proofs.Common.{arith}
 use Rattle.std.proofs.lemmas.Grind.{common_steps}
 use Rattle.std.proofs.lemmas.List.{length-map}
 use Rattle.lextab_packed.specs.Views.{condition_of}
-use Rattle.lexlook_tables.proofs.Alone.{tables_scan_alike}
+use Rattle.lextab_packed.specs.Machines.{table_machine}
+use Rattle.lexlook_tables.proofs.Scanning.{scan_alike}
 use Rattle.lexlook_tables.proofs.same.tables.compare.Goals as goal
 
 pub returns-in-None-2 : goal.returns-in-None-2
@@ -13,8 +14,6 @@ returns-in-None-2 c =
     record {
       conditions = grind (arith, common_steps, l, r, c.if-conditions-len.false, c.len-conditions.ensures, c.len.ensures, c.parts.ensures, c.parts-2.ensures);
       ends = c.in-None.ensures;
-      all = c.counts_all-all.result;
-      counts = c.counts_all-all.ensures;
       same = same;
-      scan = tables_scan_alike c.args.order.now c.counts_all-all.result c.args.left.now c.args.right.now c.counts_all-all.ensures same c.in-None.ensures;
+      scan = scan_alike c.args.order.now (table_machine c.args.left.now) (table_machine c.args.right.now) c.args.left.now.laws c.args.right.now.laws same c.in-None.ensures;
     }
