@@ -188,6 +188,39 @@ fn a_fault_of_the_stack_is_told_again(rt: HostRuntime) -> Result<(), Fail> {
     Ok(())
 }
 
+/// Whether tokens that one piece decides come one by one, each with its text, where a piece and the end come between them.
+fn hands_on_between_pieces(alloc: Global, file: &[u8]) -> bool {
+    const FIRST: &[Row] = &[(0, 0, 0, "ab", 1, 1)];
+    const NEXT: &[Row] = &[(2, 2, 0, " ", 1, 3), (1, 3, 0, "12", 1, 4)];
+    const LAST: &[Row] = &[
+        (2, 5, 0, "\n", 1, 6),
+        (0, 6, 0, "cd", 2, 1),
+        (2, 8, 0, " ", 2, 3),
+        (1, 9, 0, "34", 2, 4),
+        (2, 11, 0, " ", 2, 6),
+    ];
+    let mut stream = TokenStream::closed();
+    let so = open_stream(alloc, &mut stream, file, true) == Answer::Done
+        && feed_stream(alloc, &mut stream, b"ab 12\ncd 3") == Answer::Done
+        && count_told(alloc, &mut stream, FIRST, 0, true) == 1
+        && feed_stream(alloc, &mut stream, b"4 ") == Answer::Done
+        && shows(alloc, &mut stream, "ab")
+        && count_told(alloc, &mut stream, NEXT, 0, true) == 2
+        && end_stream(alloc, &mut stream) == Answer::Done
+        && shows(alloc, &mut stream, "12")
+        && count_told(alloc, &mut stream, LAST, 0, true) == 5
+        && answers(alloc, &mut stream, Answer::Ended, 0);
+    stream.close(alloc);
+    so
+}
+
+#[test]
+fn tokens_come_one_by_one_between_pieces(rt: HostRuntime) -> Result<(), Fail> {
+    let file = made(rt.alloc(), b"%%\n[a-z]+ ;\n[0-9]+ ;\n[ \\n] ;\n")?;
+    assert!(rt; hands_on_between_pieces(rt.alloc(), file.written()));
+    Ok(())
+}
+
 /// Whether a stream has all its tokens, or stops at a request for memory that was refused, which is told again. A piece that was
 /// refused is fed once more.
 fn streams_or_stops(alloc: Global, file: &[u8]) -> bool {

@@ -41,6 +41,18 @@ end_within start ts zero = no_earlier start ts
 end_within start [] (suc i) = omega arith
 end_within start (t ∷ ts) (suc i) = end_within (start + t.length) ts i
 
+-- the tokens from a place on
+pub drop_next : (ts : List BriefToken) (i : ℕ) (d : BriefToken) → i < length ts → drop i ts ≡ slice_index_or ts i d ∷ drop (suc i) ts
+drop_next [] i d low = absurd (omega (arith, low))
+drop_next (t ∷ ts) zero d low = refl
+drop_next (t ∷ ts) (suc i) d low = drop_next ts i d (omega (arith, low))
+
+pub next_small : (ts : List BriefToken) (start i : ℕ) (d : BriefToken) → i < length ts → end_of start (drop i ts) < 2 ^ 64 → start + (slice_index_or ts i d).length < 2 ^ 64
+next_small ts start i d low small =
+    let t = slice_index_or ts i d in
+    let le = no_earlier (start + t.length) (drop (suc i) ts) in
+    omega (arith, le, ap (end_of start) (drop_next ts i d low), small)
+
 -- the token at a place
 pub end_next : (start : ℕ) (ts : List BriefToken) (i : ℕ) (d : BriefToken) → i < length ts → end_of start (take (suc i) ts) ≡ end_of start (take i ts) + (slice_index_or ts i d).length
 end_next start [] i d low = absurd (omega (arith, low))

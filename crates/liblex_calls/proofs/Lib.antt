@@ -8,6 +8,7 @@ mod Held
 mod HeldRules
 mod HeldStream
 mod Lining
+mod Heading
 mod Flowing
 mod Opened
 mod Piecing

@@ -18,6 +18,7 @@ pub mod Rules
 pub mod Progress
 pub mod Handles
 pub mod Loading
+pub mod Ahead
 pub mod Told
 pub mod Streams
 pub mod Pieces

@@ -15,6 +15,7 @@
 //! - `handle`: the struct that C holds of a scan by pieces. `holder` and `loose` are the owning pointer in it, and
 //!   `by_pieces` has its calls.
 //! - `lines`: the line and the column of a token.
+//! - `ahead`: tokens that a scan tells ahead of those that it hands on. `texts`: the bytes that their texts are part of.
 //! - `token_scan`: a scan that is asked for its tokens one by one. `stream` is the struct that C holds of one, with
 //!   `stream_holder`, the owning pointer in it. `streaming` has its calls.
 //!
@@ -47,6 +48,7 @@
 //! - **Names of rules are told by a loaded table**, one by one: a table has what rules do, and so their names.
 #![tactic(auto)]
 
+mod ahead;
 mod answer;
 mod backlog;
 mod brief;
@@ -74,6 +76,7 @@ mod stream;
 mod stream_holder;
 mod streaming;
 mod tables;
+mod texts;
 mod token_scan;
 
 pub use answer::Answer;

@@ -83,7 +83,16 @@ impl Lines {
         }
     }
 
+    /// Whether lines are counted.
+    #[inline(always)]
+    pub(crate) fn are_counted(&self) -> bool
+        ensures { result ≡ self.now.counts }
+    {
+        self.counts
+    }
+
     /// Goes on to the next token, where lines are counted, and tells where it stands.
+    #[inline(never)]
     pub(crate) fn tell(&mut self, start: u64, text: &[u8]) -> Spot
         ensures counts { self.new.counts ≡ self.old.counts }
         ensures told { (fed : List ℕ) (tokens : List TokenModel) (t : TokenModel)

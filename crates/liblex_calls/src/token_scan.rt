@@ -1,16 +1,19 @@
 //! A scan that is fed pieces, and is asked for its tokens one by one.
-ghost use Rattle.std.specs.Prelude.{◌≡◌, ℕ, Bool, true, false, List, []};
+ghost use Rattle.std.specs.Prelude.{◌≡◌, ℕ, ◌+◌, ◌-◌, ◌^◌, ◌<◌, ◌≤◌, Bool, true, false, List, [], ◌∷◌, ◌++◌, length};
+ghost use Rattle.lex_semantics.specs.Text.{part};
+ghost use Rattle.liblex_calls.specs.Ahead.{text_shown};
+ghost use Rattle.liblex_calls.specs.Lines.{Counted, Follows, IsSpotOf};
 ghost use Rattle.lexscan.specs.declared.token.Token.{Token as TokenModel};
 ghost use Rattle.liblex_calls.specs.Rules.{rules_machine};
 ghost use Rattle.liblex_calls.specs.Listing.{next_token};
 
+use crate::ahead::Ahead;
 use crate::answer::Answer;
 use crate::buffers::hand_out;
 use crate::lines::{Lines, Spot};
 use crate::listing::rule_number;
 use crate::rules::Rules;
 use crate::stage::Stage;
-use lexkit::RunError;
 use lexscan::{PullScanner, Pulled, PulledToken};
 use std::alloc::Global;
 
@@ -43,21 +46,41 @@ fn shown(token: PulledToken, spot: Spot) -> NextToken
     }
 }
 
+/// Goes on to a token whose text is shown, where lines are counted, and tells where it stands. Else its text is not asked for.
+#[inline(always)]
+fn spot_of(lines: &mut Lines, start: u64, ahead: &Ahead, scanner: &PullScanner<Rules>) -> Spot
+    ensures counts { lines.new.counts ≡ lines.old.counts }
+    ensures told { (fed : List ℕ) (tokens : List TokenModel) (t : TokenModel)
+        → Counted lines.old.counts fed tokens lines.old → Follows tokens t.start → start ≡ t.start
+        → t.end ≡ t.start + length (text_shown scanner.now ahead.now)
+        → (t.start ≤ length fed → t.end ≤ length fed) → length fed + 1 < 2 ^ 64
+        → text_shown scanner.now ahead.now ≡ part fed t.start t.end
+        → Counted lines.old.counts fed (tokens ++ t ∷ []) lines.new × IsSpotOf lines.old.counts fed t.start result }
+{
+    if !lines.are_counted() {
+        return Spot { line: 0, column: 0 };
+    }
+    lines.tell(start, ahead.text(scanner))
+}
+
 /// A scan that is fed pieces, and is asked for its tokens one by one.
 #[derive(Drop)]
 pub struct TokenScan {
     scanner: PullScanner<Rules>,
+    /// The tokens that the scanner has told ahead of those that were handed on.
+    ahead: Ahead,
     /// Goes on until the end or a fault is told.
     stage: Stage,
     lines: Lines,
 }
 
 impl TokenScan {
-    ghost use Rattle.lexscan.specs.Scanners.{pull_text};
+    ghost use Rattle.lexscan.specs.Scanners.{pull_finished};
     ghost use Rattle.liblex_calls.specs.Buffers.{HandedOut, FitsInto};
     ghost use Rattle.liblex_calls.specs.Files.{IsMachineOf};
     ghost use Rattle.liblex_calls.specs.Stages.{status_in};
-    ghost use Rattle.liblex_calls.specs.Told.{Told, FeedTells, NextTells, TellsAgain};
+    ghost use Rattle.liblex_calls.specs.Ahead.{tokens_ahead};
+    ghost use Rattle.liblex_calls.specs.Told.{Told, HandedOn, FeedTells, NextTells, TellsAgain};
 
     /// One that was fed nothing, and counts lines or not.
     pub(crate) fn new(alloc: Global, rules: Rules, lines: bool) -> TokenScan
@@ -66,6 +89,7 @@ impl TokenScan {
     {
         TokenScan {
             scanner: PullScanner::new(alloc, rules),
+            ahead: Ahead::new(alloc),
             stage: Stage::Going,
             lines: Lines::new(lines),
         }
@@ -84,10 +108,35 @@ impl TokenScan {
         if self.scanner.is_finished() {
             return Answer::Ended;
         }
+        if !self.ahead.texts.may_feed(piece.len()) {
+            return Answer::TooManyReads;
+        }
+        self.feed_on(piece)
+    }
+
+    /// The same, where it is not too much.
+    fn feed_on(&mut self, piece: &[u8]) -> Answer
+        requires going { self.old.stage ≡ Stage.Going }
+        requires unfinished { pull_finished self.old.scanner ≡ false }
+        requires few { self.old.ahead.texts.before + length self.old.ahead.texts.bytes.items + length piece.now < 2 ^ 64 - 1 }
+        ensures { (file : List ℕ) (lines told : Bool) (fed : List ℕ) (tokens : List TokenModel) (text : List ℕ)
+            → Told file lines told fed tokens text self.old
+            → FeedTells file lines told fed piece.now tokens text self.new result }
+    {
+        match self.ahead.texts.push(piece) {
+            Err(_) => return Answer::OutOfMemory,
+            Ok(()) => {}
+        }
         match self.scanner.feed(piece) {
-            Ok(()) => Answer::Done,
-            Err(RunError::TooManyReads) => Answer::TooManyReads,
-            Err(_) => Answer::OutOfMemory,
+            Ok(()) => {
+                self.ahead.texts.drop_before(self.ahead.last);
+                Answer::Done
+            }
+            // No more were fed than may be, and no turn was refused: there was no memory.
+            Err(_) => {
+                self.ahead.texts.take_back(piece.len());
+                Answer::OutOfMemory
+            }
         }
     }
 
@@ -114,6 +163,7 @@ impl TokenScan {
     }
 
     /// The same, with the status in the stage.
+    #[inline(always)]
     fn pull(&mut self, token: &mut NextToken) -> Answer
         ensures told { (file : List ℕ) (lines told : Bool) (fed : List ℕ) (tokens : List TokenModel) (text : List ℕ)
             → Told file lines told fed tokens text self.old
@@ -123,11 +173,42 @@ impl TokenScan {
         let Stage::Going = self.stage else {
             return self.stage.feed_answer(0);
         };
+        // Most tokens were told ahead.
+        match self.ahead.next() {
+            Some(found) => self.hand_on(found, token),
+            None => self.pull_several(token),
+        }
+    }
+
+    /// The same, where no token is left that was told ahead: the next ones are told in one go.
+    #[inline(never)]
+    fn pull_several(&mut self, token: &mut NextToken) -> Answer
+        requires going { self.old.stage ≡ Stage.Going }
+        requires none { tokens_ahead self.old.ahead ≡ [] }
+        ensures { (file : List ℕ) (lines told : Bool) (fed : List ℕ) (tokens : List TokenModel) (text : List ℕ)
+            → Told file lines told fed tokens text self.old
+            → NextTells file lines told fed tokens self.new token.old token.new (status_in self.new.stage) result }
+    {
+        self.ahead.tell(&mut self.scanner);
+        match self.ahead.next() {
+            Some(found) => self.hand_on(found, token),
+            None => self.pull_one(token),
+        }
+    }
+
+    /// The same by one turn.
+    fn pull_one(&mut self, token: &mut NextToken) -> Answer
+        requires going { self.old.stage ≡ Stage.Going }
+        requires none { tokens_ahead self.old.ahead ≡ [] }
+        requires given { self.old.ahead.given ≡ 0 }
+        ensures { (file : List ℕ) (lines told : Bool) (fed : List ℕ) (tokens : List TokenModel) (text : List ℕ)
+            → Told file lines told fed tokens text self.old
+            → NextTells file lines told fed tokens self.new token.old token.new (status_in self.new.stage) result }
+    {
         match self.scanner.next() {
             Ok(Pulled::Token(found)) => {
-                let spot = self.lines.tell(found.start, self.scanner.text());
-                *token = shown(found, spot);
-                Answer::Done
+                self.ahead.last = found.start;
+                self.hand_on(found, token)
             }
             Ok(Pulled::More) => Answer::More,
             Ok(Pulled::Ended(status)) => {
@@ -141,11 +222,23 @@ impl TokenScan {
         }
     }
 
+    /// Tells a token, with where it stands.
+    #[inline(always)]
+    fn hand_on(&mut self, found: PulledToken, token: &mut NextToken) -> Answer
+        ensures { (file : List ℕ) (lines told : Bool) (fed : List ℕ) (tokens : List TokenModel)
+            → HandedOn file lines told fed tokens found self.old
+            → NextTells file lines told fed tokens self.new token.old token.new (status_in self.new.stage) result }
+    {
+        let spot = spot_of(&mut self.lines, found.start, &self.ahead, &self.scanner);
+        *token = shown(found, spot);
+        Answer::Done
+    }
+
     /// Hands out the text of the token that was told last, and after each other answer nothing.
     pub(crate) fn hand_text(&self, buffer: &mut [u8], count: &mut usize) -> Answer
-        ensures handed { HandedOut (pull_text self.now.scanner) buffer.old buffer.new count.new }
-        ensures fits { FitsInto (pull_text self.now.scanner) buffer.old result }
+        ensures handed { HandedOut (text_shown self.now.scanner self.now.ahead) buffer.old buffer.new count.new }
+        ensures fits { FitsInto (text_shown self.now.scanner self.now.ahead) buffer.old result }
     {
-        hand_out(self.scanner.text(), buffer, count)
+        hand_out(self.ahead.text(&self.scanner), buffer, count)
     }
 }
