@@ -9,7 +9,7 @@ use Rattle.lex_command.specs.Flags.{flag_rule, has_flag, is_separator, pattern_r
 use Rattle.lex_command.specs.declared.look.args.About.{About}
 use Rattle.lex_command.specs.declared.look.args.About.TheVariants.{Help, UnicodeVersion, Version}
 use Rattle.lex_command.specs.declared.look.args.Look.{Look}
-use Rattle.lex_command.specs.declared.look.args.Look.TheVariants.{About as OfItself, Check, Header, Letters, One, Same}
+use Rattle.lex_command.specs.declared.look.args.Look.TheVariants.{About as OfItself, Check, Count as Counts, Header, Letters, One, Same}
 use Rattle.lex_command.specs.declared.look.args.Subcommand.{Subcommand}
 use Rattle.lex_command.specs.declared.look.args.Subcommand.TheVariants.{Picture, Lines, Words, Trace}
 
@@ -53,6 +53,10 @@ check_words = flag_rule (codes "strict") 115 ∷ long_rule (codes "json") ∷ ne
 abbrev pub header_words : List Rule
 header_words = long_rule (codes "rust") ∷ one_file
 
+-- how the counts are told, and the file of `count`
+abbrev pub counts_words : List Rule
+counts_words = long_rule (codes "json") ∷ one_file
+
 -- the words begin after the program's name, and name a subcommand; clap knows no help
 abbrev pub no_subcommand : App
 no_subcommand =
@@ -71,6 +75,7 @@ lexlook_app = fold with_subcommand no_subcommand (
     ∷ sets_app.top
     ∷ (file_app (codes "check") check_words).top
     ∷ (file_app (codes "header") header_words).top
+    ∷ (file_app (codes "count") counts_words).top
     ∷ [])
 
 -- ---- what is asked for
@@ -113,13 +118,13 @@ IsLookOf (Some p) (Letters sets) =
     (p.0 ≡ codes "utf8") × (Some (map string_bytes sets.items) ≡ all_of (codes "set") p.1)
 IsLookOf (Some p) (Check files strict json patterns) = (p.0 ≡ codes "check")
     × (map string_bytes files.items ≡ files_of p.1)
-    × (strict ≡ has_flag (codes "strict") p.1)
-    × (json ≡ has_flag (codes "json") p.1)
-    × (patterns ≡ patterns_of p.1)
+    × (strict ≡ has_flag (codes "strict") p.1) × (json ≡ has_flag (codes "json") p.1) × (patterns ≡ patterns_of p.1)
 IsLookOf (Some p) (Header file rust patterns) = (p.0 ≡ codes "header")
     × (Some (string_bytes file) ≡ first_of (codes "file") p.1)
-    × (rust ≡ has_flag (codes "rust") p.1)
-    × (patterns ≡ patterns_of p.1)
+    × (rust ≡ has_flag (codes "rust") p.1) × (patterns ≡ patterns_of p.1)
+IsLookOf (Some p) (Counts file json patterns) = (p.0 ≡ codes "count")
+    × (Some (string_bytes file) ≡ first_of (codes "file") p.1)
+    × (json ≡ has_flag (codes "json") p.1) × (patterns ≡ patterns_of p.1)
 IsLookOf p look = ⊥
 
 -- The words ask for something of the program itself if one of them does, before any `--`. Else they are a line of the

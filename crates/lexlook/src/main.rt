@@ -4,12 +4,12 @@
 //! - `reading`: the files that are read, of which those that are compared or cut may be table files.
 //! - `failure`: what ends the program before its work is done, and the line that tells it.
 //!
-//! What is asked for is read by lex_command. What is written and answered is that of lexlook_calls and lexlook_check, and
-//! proved there. A read and a status are as those of the program lex, by lexkit.
+//! What is asked for is read by lex_command. What is written and answered is that of lexlook_calls, lexlook_check and
+//! lexlook_counts, and proved there. A read and a status are as those of the program lex, by lexkit.
 //!
 //! A subcommand has its words in lex_command, its call in lexlook_calls or a room of its own, and here its case of `tell`.
 //! What that writes `show` puts on standard output and flushes, and answers the status: 1 for an answer no. A trace and the
-//! definition of sets have functions of their own, since the one reads too and the other has no options.
+//! definition of sets have functions of their own, since the one reads too and the other has no options. So have counts.
 //!
 //! - **A line of a failure names the file**, where one is refused or not read. Of two that are compared it is the first if
 //!   that is refused beside itself, since the call tells the failure alone.
@@ -33,6 +33,7 @@ use lexlook_calls::{
     Given, Language, LookError, draw, tell_header, tell_lines, tell_same, tell_words, trace,
 };
 use lexlook_check::{Form, SourceFile, tell_check};
+use lexlook_counts::{CountForm, tell_counts};
 use lexlook_unicode::{DefinitionError, UNICODE, definition_of};
 use std::alloc::{AllocError, Global};
 use std::io;
@@ -171,6 +172,28 @@ fn show_trace(rt: &HostRuntime, text: &[u8], options: Options) -> Result<ExitCod
     Ok(ExitCode::from(result?))
 }
 
+/// Scans standard input, and writes to standard output how often rules match it. Nothing is written before the end.
+fn show_counts(
+    rt: &HostRuntime,
+    text: &[u8],
+    json: bool,
+    options: Options,
+) -> Result<ExitCode, Failure>
+    requires few_positions { options.limits.positions ≤ MAX_POSITIONS }
+    requires few_states { options.limits.states ≤ MAX_STATES }
+{
+    let form = if json {
+        CountForm::Json
+    } else {
+        CountForm::Columns
+    };
+    let mut source = FromBytes::new(ByteReader::new(rt.alloc(), rt.reader())?);
+    let mut sink = ToBytes::new(ByteWriter::new(rt.alloc(), io::writer(rt))?);
+    let status = tell_counts(rt.alloc(), text, options, form, &mut source, &mut sink)?;
+    sink.flush()?;
+    Ok(ExitCode::from(status))
+}
+
 /// Writes the definition of sets of code points to standard output. A word that names no set is usage, and so are sets of
 /// which there is no pattern.
 fn show_letters(rt: &HostRuntime, sets: &[String]) -> Result<ExitCode, Failure> {
@@ -267,6 +290,15 @@ fn run(rt: &HostRuntime) -> Result<ExitCode, LookFailure> {
             let read = read_files(rt, files)?;
             let files = read.as_slice();
             Ok(show_check(rt, files, strict, json, options_of(patterns))?)
+        }
+        Look::Count {
+            file,
+            json,
+            patterns,
+        } => {
+            let read = read_spec_file(rt, file)?;
+            let shown = show_counts(rt, read.bytes.as_slice(), json, options_of(patterns));
+            shown_of(shown, read.name)
         }
         Look::Header {
             file,

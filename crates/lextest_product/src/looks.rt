@@ -9,6 +9,7 @@ use lexlook_calls::{
     trace as trace_of,
 };
 use lexlook_check::{Form, SourceFile, tell_check};
+use lexlook_counts::{CountForm, tell_counts};
 use lexlook_tables::{Comparison, Difference, compare as compared, find_obstacle_in};
 use std::alloc::{AllocError, Global};
 
@@ -142,6 +143,20 @@ pub(crate) fn trace(alloc: Global, row: &Row<'_>) -> Result<Answer, AllocError> 
     let mut sink = MemorySink::new(alloc);
     let text = row.value("spec");
     let answer = trace_of(alloc, text, options_of(row), &mut source, &mut sink);
+    answer_of(alloc, answer, sink, source.calls())
+}
+
+/// Writes how often rules match an input.
+pub(crate) fn counts(alloc: Global, row: &Row<'_>) -> Result<Answer, AllocError> {
+    let form = if row.has_flag("--json") {
+        CountForm::Json
+    } else {
+        CountForm::Columns
+    };
+    let mut source = MemorySource::new(row.value("input"));
+    let mut sink = MemorySink::new(alloc);
+    let text = row.value("spec");
+    let answer = tell_counts(alloc, text, options_of(row), form, &mut source, &mut sink);
     answer_of(alloc, answer, sink, source.calls())
 }
 

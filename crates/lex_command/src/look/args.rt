@@ -4,7 +4,7 @@ ghost use Rattle.std.specs.Prelude.{string_bytes};
 ghost use Rattle.clap.specs.Words.{app_of, found_of, rows_of, rule_of, subcommand_rows_of, with_rule, with_subcommand};
 ghost use Rattle.lex_command.specs.LookLine.{AsksToShow, IsLookOf, about_of, file_app, first_about, lexlook_app, name_of};
 ghost use Rattle.lex_command.specs.CommandLine.{words_rule};
-ghost use Rattle.lex_command.specs.LookLine.{check_words, header_words, long_rule, needed_rule, needed_words_rule, sets_app};
+ghost use Rattle.lex_command.specs.LookLine.{check_words, counts_words, header_words, long_rule, needed_rule, needed_words_rule, sets_app};
 ghost use Rattle.lex_command.specs.LookLine.{told_version};
 
 use crate::error::ArgsError;
@@ -70,6 +70,14 @@ pub enum Look {
         /// How patterns are read.
         patterns: PatternFlags,
     },
+    /// How often the rules of this specification match standard input.
+    Count {
+        file: String,
+        /// Whether that is told as JSON.
+        json: bool,
+        /// How patterns are read.
+        patterns: PatternFlags,
+    },
     /// The rules of this specification as constants of a program.
     Header {
         file: String,
@@ -81,8 +89,8 @@ pub enum Look {
 }
 
 /// Reads the words after the program's name: `picture FILE`, `same FILE FILE`, `lines FILE`, `words FILE`, `trace FILE`,
-/// `check FILE..` or `header FILE`, with `-i` or `-X` or without, and `check` with `-s` and `--json` too, `header` with
-/// `--rust`, `utf8 SET..`, or any words with `--help`, `-h` or `--version`. Behind `utf8` the version is that of Unicode. Flags may
+/// `check FILE..`, `count FILE` or `header FILE`, with `-i` or `-X` or without, and `check` with `-s` and `--json` too,
+/// `count` with `--json`, `header` with `--rust`, `utf8 SET..`, or any words with `--help`, `-h` or `--version`. Behind `utf8` the version is that of Unicode. Flags may
 /// be repeated. Words that it refuses by `Usage` ask for nothing.
 pub fn read_args(alloc: Global, words: &[String]) -> Result<Look, ArgsError>
     ensures asked { IfOk result (AsksToShow (map string_bytes words.now)) }
@@ -287,6 +295,25 @@ fn with_header<'a>(alloc: Global, top: Command<'a>) -> Result<Command<'a>, Alloc
     top.subcommand(header_command(alloc)?)
 }
 
+/// The words of `count`: how patterns are read, whether counts are told as JSON, and its file.
+fn count_command<'a>(alloc: Global) -> Result<Command<'a>, AllocError>
+    ensures { IfOk result (λ c. app_of c ≡ file_app (codes "count") counts_words) }
+{
+    let flags = &[("fold", 'i'), ("posix", 'X')];
+    let command = Command::new(alloc, "count").disable_help_flag(true);
+    let command = with_flags(alloc, command, flags)?;
+    let command = command.arg(long_flag(alloc, "json"))?;
+    command.arg(needed_word(alloc, "file"))
+}
+
+/// The words with `count`.
+fn with_count<'a>(alloc: Global, top: Command<'a>) -> Result<Command<'a>, AllocError>
+    ensures { IfOk result (λ c. app_of c
+        ≡ with_subcommand (app_of top.entry) (file_app (codes "count") counts_words).top) }
+{
+    top.subcommand(count_command(alloc)?)
+}
+
 const ONE: &[&str] = &["file"];
 
 /// The subcommands that have files and no words of their own.
@@ -310,7 +337,8 @@ fn command<'a>(alloc: Global) -> Result<Command<'a>, AllocError>
     let top = with_looks(alloc, top, LOOKS)?;
     let top = with_letters(alloc, top)?;
     let top = with_check(alloc, top)?;
-    with_header(alloc, top)
+    let top = with_header(alloc, top)?;
+    with_count(alloc, top)
 }
 
 /// What the matches ask for.
@@ -324,6 +352,7 @@ fn look_of(alloc: Global, matches: &ArgMatches<'_>) -> Result<Look, ArgsError>
         Some((name, found)) if name == "utf8" => letters_look(alloc, found),
         Some((name, found)) if name == "check" => check_look(alloc, found),
         Some((name, found)) if name == "header" => header_look(alloc, found),
+        Some((name, found)) if name == "count" => count_look(alloc, found),
         Some((name, found)) => one_look(alloc, name, found),
         None => Err(ArgsError::Usage),
     }
@@ -351,7 +380,7 @@ fn named(name: &str) -> Option<Subcommand>
 fn one_look(alloc: Global, name: &str, found: &ArgMatches<'_>) -> Result<Look, ArgsError>
     ensures asked { IfOk result (IsLookOf (Some (name.now, rows_of (found_of found.now)))) }
     ensures refused { IfErr result (λ e. e ≡ ArgsError.Usage → name.now ≢ codes "same" → name.now ≢ codes "utf8"
-        → name.now ≢ codes "check" → name.now ≢ codes "header"
+        → name.now ≢ codes "check" → name.now ≢ codes "header" → name.now ≢ codes "count"
         → (look : Look) → IsLookOf (Some (name.now, rows_of (found_of found.now))) look → ⊥) }
 {
     let what = match named(name) {
@@ -430,6 +459,23 @@ fn header_look(alloc: Global, found: &ArgMatches<'_>) -> Result<Look, ArgsError>
     Ok(Look::Header {
         file: String::from_str(alloc, file)?,
         rust: has(found, "rust"),
+        patterns: patterns_of(found),
+    })
+}
+
+/// The counts that the matches behind their name ask for.
+fn count_look(alloc: Global, found: &ArgMatches<'_>) -> Result<Look, ArgsError>
+    ensures asked { IfOk result (IsLookOf (Some (codes "count", rows_of (found_of found.now)))) }
+    ensures refused { IfErr result (λ e. e ≡ ArgsError.Usage
+        → (look : Look) → IsLookOf (Some (codes "count", rows_of (found_of found.now))) look → ⊥) }
+{
+    let file = match value_of(found, "file") {
+        None => return Err(ArgsError::Usage),
+        Some(file) => file,
+    };
+    Ok(Look::Count {
+        file: String::from_str(alloc, file)?,
+        json: has(found, "json"),
         patterns: patterns_of(found),
     })
 }

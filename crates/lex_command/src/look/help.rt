@@ -22,7 +22,10 @@ const HELP: &str = "lexlook shows what a specification of lex does.\n\n\
     every fault of the specification that the files are together, by lines or as JSON, with status 1\n    \
     where there is one; with -s it is one that the default rule copies a byte\n\
     lexlook header FILE [-i] [-X] [--rust]\n    \
-    the names and numbers of its rules for a program in C, as an enum, or in Rust, as constants\n\n\
+    the names and numbers of its rules for a program in C, as an enum, or in Rust, as constants\n\
+    lexlook count FILE [-i] [-X] [--json]\n    \
+    how often each rule matches standard input, with the bytes of its texts, and the turns in each\n    \
+    start condition, by columns or as JSON, and the scan's status\n\n\
     FILE may be - for standard input. With -i letters stand for both cases. With -X an interval\n\
     applies to the whole series to its left. A SET is U+0400-U+04FF, Lu, Greek, XID_Start or the like,\n\
     by the version of Unicode that lexlook utf8 --version tells.\n";

@@ -1,0 +1,36 @@
+use Rattle.std.proofs.Common.{ℕ, Ok, Option, arith, subst}
+use Rattle.lextab_packed.specs.FlatViews.{tables_of}
+use Rattle.lextab_packed.specs.Machines.{table_machine}
+use Rattle.lexlook_counts.specs.Counting.{CountsOn}
+use Rattle.lexlook_counts.proofs.Fed.{by_memory, few_ends, fresh, has_told}
+use Rattle.lexlook_counts.proofs.counting.count_source.Goals as goal
+
+pub steps-init : goal.steps-init
+steps-init g c = fresh g.S.Source.gave g.S.Source.ends g.S.Source.failures (table_machine (tables_of c.args.machine)) c.args.rules c.args.conditions c.args.source.now c.in-Ok.scan (g.met.S.Source.gave_none c.args.source.now) c.in-Ok.ensures
+
+pub step-requires-clause-told : goal.step-requires-clause-told
+step-requires-clause-told g c = has_told g.S.Source.gave g.S.Source.ends g.S.Source.failures (table_machine (tables_of c.args.machine)) c.args.rules c.args.conditions c.args.source.now c.steps.source c.steps.scan c.steps.invariant
+
+pub step-requires-clause-ends : goal.step-requires-clause-ends
+step-requires-clause-ends g c = few_ends g.S.Source.gave g.S.Source.ends g.S.Source.failures (table_machine (tables_of c.args.machine)) c.args.rules c.args.conditions c.args.source.now c.steps.source c.steps.scan c.steps.invariant c.requires.ends
+
+pub step-requires-clause-reads : goal.step-requires-clause-reads
+step-requires-clause-reads g c = omega (arith, c.steps.invariant.reads, c.requires.reads)
+
+pub returns-in-Ok-Some : goal.returns-in-Ok-Some
+returns-in-Ok-Some g c =
+    let M = table_machine (tables_of c.args.machine) in
+    subst (λ (o : Option ℕ). CountsOn g.S.Source.gave g.S.Source.ends g.S.Source.failures M c.args.rules c.args.conditions c.args.source.now c.step.new.source c.step.new.self (Ok o)) c.in-Ok-Some.field-0-is
+    (c.in-Ok-Some.ensures M c.args.rules c.args.conditions c.args.source.now c.steps.invariant)
+
+pub returns-in-Err-step : goal.returns-in-Err-step
+returns-in-Err-step g c = c.in-Err-step.ensures (table_machine (tables_of c.args.machine)) c.args.rules c.args.conditions c.args.source.now c.steps.invariant
+
+pub steps-preserved : goal.steps-preserved
+steps-preserved g c =
+    let M = table_machine (tables_of c.args.machine) in
+    subst (λ (o : Option ℕ). CountsOn g.S.Source.gave g.S.Source.ends g.S.Source.failures M c.args.rules c.args.conditions c.args.source.now c.step.new.source c.step.new.self (Ok o)) c.in-Ok-None.field-0-is
+    (c.in-Ok-None.ensures M c.args.rules c.args.conditions c.args.source.now c.steps.invariant)
+
+pub returns : goal.returns
+returns g c = by_memory g.S.Source.gave g.S.Source.ends g.S.Source.failures (table_machine (tables_of c.args.machine)) c.args.rules c.args.conditions c.args.source.now c.steps.source c.steps.scan c.steps.invariant

@@ -1,0 +1,17 @@
+use Rattle.std.proofs.Common.{◌≡◌, ◌∙◌, ℕ, List, ap, map}
+use Rattle.std.specs.Borrow.{Bor}
+use Rattle.std.proofs.lemmas.Result.{IfOk-weaker}
+use Rattle.lexspec.specs.Views.{conditions_in, rules_in, spec_of}
+use Rattle.lexkit.specs.Generated.{lines_of}
+use Rattle.lexlook_counts.specs.CountLines.{count_lines}
+use Rattle.lexlook_counts.proofs.telling.lines_for.Goals as goal
+
+pub returns : goal.returns
+returns c =
+    let S = spec_of c.args.spec.now in
+    let names : map (λ (n : Bor (List ℕ)). n.now) c.deref-2.result.now ≡ map (λ k. k.name) (conditions_in S) =
+    ap (map (λ (n : Bor (List ℕ)). n.now)) c.deref-2.ensures.value ∙ c.in_ok-names.ensures ∙ ap (map (λ k. k.name)) c.conditions.ensures.conditions in
+    let lines : c.deref.result.now ≡ lines_of (rules_in S) = c.deref.ensures.value ∙ c.in_ok-lines.ensures ∙ ap lines_of c.rules.ensures.rules in
+    IfOk-weaker c.count_lines.result _ _ (λ text h. h
+    ∙ ap (λ (l : List ℕ). count_lines c.args.form l (map (λ (n : Bor (List ℕ)). n.now) c.deref-2.result.now) c.args.counted.now.tally) lines
+    ∙ ap (λ (n : List (List ℕ)). count_lines c.args.form (lines_of (rules_in S)) n c.args.counted.now.tally) names) c.count_lines.ensures

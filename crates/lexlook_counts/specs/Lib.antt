@@ -1,0 +1,5 @@
+pub mod Counts
+pub mod CountLines
+pub mod CountExamples
+pub mod Counting
+pub mod Told
