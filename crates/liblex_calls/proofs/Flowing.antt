@@ -156,6 +156,10 @@ kept_handed file lines told fed tokens text p q t going T on scanner stage same 
 pub none_left : (file : List ℕ) (lines told : Bool) (fed : List ℕ) (tokens : List Token) (text : List ℕ) (p : TokenScan) (b : Ahead) → b ≡ p.ahead → Told file lines told fed tokens text p → Told file lines told fed tokens text (record p { ahead = b })
 none_left file lines told fed tokens text p b is T = subst (λ (a : Ahead). Told file lines told fed tokens text (record p { ahead = a })) (sym is) T
 
+-- how many turns are made one by one changes nothing
+pub by_turns : (file : List ℕ) (lines told : Bool) (fed : List ℕ) (tokens : List Token) (text : List ℕ) (p : TokenScan) (n : ℕ) → Told file lines told fed tokens text p → Told file lines told fed tokens text (record p { turns = n })
+by_turns file lines told fed tokens text p n T = told_by file lines told fed tokens text (record p { turns = n }) (pull_machine p.scanner) refl T.machine T.is_text T.finished T.shows T.held T.counts T.counted T.stands
+
 -- the next ones are told ahead
 pub told_ahead : (file : List ℕ) (lines told : Bool) (fed : List ℕ) (tokens : List Token) (text : List ℕ) (p q : TokenScan) → p.stage ≡ stages.Going → Told file lines told fed tokens text p → pull_machine q.scanner ≡ pull_machine p.scanner → pull_finished q.scanner ≡ pull_finished p.scanner → text_shown q.scanner q.ahead ≡ [] → q.ahead.texts ≡ p.ahead.texts →
     (IsAhead (token_machine p) fed (pull_finished p.scanner) tokens (pull_state p.scanner) (pull_waiting p.scanner) p.ahead → IsAhead (token_machine p) fed (pull_finished p.scanner) tokens (pull_state q.scanner) (pull_waiting q.scanner) q.ahead) → q.stage ≡ p.stage → q.lines ≡ p.lines →

@@ -1,5 +1,5 @@
 //! Tokens that a scan tells ahead of those that it hands on, and the bytes that their texts are part of.
-ghost use Rattle.std.specs.Prelude.{◌≡◌, ℕ, ◌+◌, ◌^◌, ◌<◌, ◌≤◌, List, [], length, drop};
+ghost use Rattle.std.specs.Prelude.{◌≡◌, ℕ, ◌+◌, ◌^◌, ◌<◌, ◌≤◌, true, List, [], length, drop};
 ghost use Rattle.lexscan.specs.declared.token.Token.{Token as TokenModel};
 ghost use Rattle.lexscan.specs.Series.{end_of};
 ghost use Rattle.liblex_calls.specs.Rules.{rules_machine};
@@ -65,6 +65,13 @@ impl Ahead {
             length: usize::from(token.length),
             condition: token.condition,
         })
+    }
+
+    /// Whether none of them was handed on.
+    pub(crate) fn none_given(&self) -> bool
+        ensures { result ≡ true → self.now.given ≡ 0 }
+    {
+        self.given == 0
     }
 
     /// Has a scan tell the next ones in one go, once all were handed on. There may be none.

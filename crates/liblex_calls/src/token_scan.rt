@@ -63,6 +63,9 @@ fn spot_of(lines: &mut Lines, start: u64, ahead: &Ahead, scanner: &PullScanner<R
     lines.tell(start, ahead.text(scanner))
 }
 
+/// How many tokens are told by a turn for each, where none was found by looking for many: their rules may be such that none is.
+const TURNS: u8 = 8;
+
 /// A scan that is fed pieces, and is asked for its tokens one by one.
 #[derive(Drop)]
 pub struct TokenScan {
@@ -72,6 +75,8 @@ pub struct TokenScan {
     /// Goes on until the end or a fault is told.
     stage: Stage,
     lines: Lines,
+    /// How many tokens are told by a turn for each, before many are looked for in one go again.
+    turns: u8,
 }
 
 impl TokenScan {
@@ -92,6 +97,7 @@ impl TokenScan {
             ahead: Ahead::new(alloc),
             stage: Stage::Going,
             lines: Lines::new(lines),
+            turns: 0,
         }
     }
 
@@ -180,7 +186,8 @@ impl TokenScan {
         }
     }
 
-    /// The same, where no token is left that was told ahead: the next ones are told in one go.
+    /// The same, where no token is left that was told ahead: the next ones are told in one go, but for some turns behind a
+    /// place where none was.
     #[inline(never)]
     fn pull_several(&mut self, token: &mut NextToken) -> Answer
         requires going { self.old.stage ≡ Stage.Going }
@@ -189,10 +196,17 @@ impl TokenScan {
             → Told file lines told fed tokens text self.old
             → NextTells file lines told fed tokens self.new token.old token.new (status_in self.new.stage) result }
     {
+        if self.turns > 0 && self.ahead.none_given() {
+            self.turns -= 1;
+            return self.pull_one(token);
+        }
         self.ahead.tell(&mut self.scanner);
         match self.ahead.next() {
             Some(found) => self.hand_on(found, token),
-            None => self.pull_one(token),
+            None => {
+                self.turns = TURNS;
+                self.pull_one(token)
+            }
         }
     }
 

@@ -11,7 +11,7 @@ use Rattle.liblex_calls.proofs.token_scan.TokenScan.end.Goals as goal
 pub returns-clause-told : goal.returns-clause-told
 returns-clause-told c file lines told fed tokens text T =
     let p = c.args.self.now in
-    let q : TokenScan = record { scanner = c.finish.new.self; ahead = p.ahead; stage = p.stage; lines = p.lines } in
+    let q : TokenScan = record { scanner = c.finish.new.self; ahead = p.ahead; stage = p.stage; lines = p.lines; turns = p.turns } in
     let M = token_machine p in
     let all = tokens ++ tokens_ahead p.ahead in
     let more = subst (λ (b : Bool). TokensTold M fed b all (pull_state p.scanner) (pull_waiting p.scanner) → TokensTold M fed true all (pull_state q.scanner) (pull_waiting q.scanner)) T.finished (c.finish.ensures.told fed all) in

@@ -20,7 +20,7 @@ returns c file lines told fed tokens H =
     let whole = whole_token t in
     let now = tokens ++ whole ∷ [] in
     let spot : Spot = c.spot_of-spot.result in
-    let q : TokenScan = record { scanner = p.scanner; ahead = p.ahead; stage = p.stage; lines = c.spot_of-spot.new.lines } in
+    let q : TokenScan = record { scanner = p.scanner; ahead = p.ahead; stage = p.stage; lines = c.spot_of-spot.new.lines; turns = p.turns } in
     let (turns, first) = H.ahead.handed fed (H.is_text, just_these fed told) in
     let place = follows (rules_of_machine (token_machine p)) fed turns tokens whole first in
     let shows = H.shows in

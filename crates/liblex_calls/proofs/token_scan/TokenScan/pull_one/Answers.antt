@@ -29,7 +29,7 @@ returns-in-Ok-More c file lines told fed tokens text T =
     let p = c.args.self.now in
     let a = p.ahead in
     let M = token_machine p in
-    let q : TokenScan = record { scanner = c.next.new.self; ahead = a; stage = p.stage; lines = p.lines } in
+    let q : TokenScan = record { scanner = c.next.new.self; ahead = a; stage = p.stage; lines = p.lines; turns = p.turns } in
     let h = stands_at file lines told fed tokens text p _ c.requires.going T in
     let before = just_told M fed told tokens (pull_state p.scanner) (pull_waiting p.scanner) a c.requires.none h in
     let after = pulled_ok M fed (pull_finished p.scanner) told tokens (pull_state p.scanner) (pull_state q.scanner) (pull_waiting p.scanner) (pull_waiting q.scanner) (pull_text q.scanner) c.in-Ok-More.field-0 pulls.More c.in-Ok-More.field-0-is T.finished (c.in-Ok-More.ensures.pulled fed tokens) before in
@@ -55,7 +55,7 @@ returns-in-Err c file lines told fed tokens text T =
     let p = c.args.self.now in
     let e = c.in-Err.error in
     let stage = c.after_fault-self.result in
-    let q : TokenScan = record { scanner = c.next.new.self; ahead = p.ahead; stage = stage; lines = p.lines } in
+    let q : TokenScan = record { scanner = c.next.new.self; ahead = p.ahead; stage = stage; lines = p.lines; turns = p.turns } in
     let is : stage ≡ fault_of e = c.after_fault-self.ensures in
     let h = stands_at file lines told fed tokens text p _ c.requires.going T in
     let before = just_told (token_machine p) fed told tokens (pull_state p.scanner) (pull_waiting p.scanner) p.ahead c.requires.none h in
