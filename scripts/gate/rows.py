@@ -254,15 +254,17 @@ def faulty_rows(spec, line, expected):
 def examples_of_lexlook(text):
     """The text of manual_looks.txt: what lexlook writes in the chapters on it."""
     small = after(text, "Say that `small.l` is this specification:")
-    pictures, comparing, cutting, taken, traced, every, named = (
+    pictures, comparing, cutting, taken, traced, every, counted, named = (
         chapter(text, title)
         for title in (
-            "Pictures", "Comparing", "Cutting at newlines", "Texts that rules take", "Lines of matches", "Every fault", "Names of rules"
+            "Pictures", "Comparing", "Cutting at newlines", "Texts that rules take", "Lines of matches", "Every fault", "Counts of matches",
+            "Names of rules",
         )
     )
     words = after(comparing, "Say that `words.l` is this:")
     compared = after(comparing, "Then `lexlook same small.l words.l`")
     given = re.search(r"`printf '([^']*)' \| lexlook trace a\.l`", traced)[1]
+    sums = re.search(r"`printf '([^']*)' \| lexlook count a\.l`", counted)[1].replace("\\n", "\n")
     cuts = [line for names, rows in tables(cutting) for line in rows if "As in" in names]
     return file(
         "# The examples of lexlook in docs/MANUAL.md: written by scripts/gate/rows.py.\n",
@@ -271,6 +273,14 @@ def examples_of_lexlook(text):
         *(row("lines", ("spec", lines_of(cut["As in"])), ("written", code(cut["What is written"]) + "\n")) for cut in cuts),
         row("words", ("spec", after(taken, "Of this one")), ("written", after(taken, "it writes\n"))),
         row("trace", ("spec", after(traced, "Say that `a.l` is this:")), ("input", given), ("written", after(traced, "Then `printf"))),
+        row(
+            "trace",
+            ("flag", "--offsets"),
+            ("spec", after(traced, "Say that `a.l` is this:")),
+            ("input", given),
+            ("written", after(traced, "With `--offsets` each match")),
+        ),
+        row("counts", ("spec", after(counted, "Say that `a.l` is this")), ("input", sums), ("written", after(counted, "Then `printf"))),
         row(
             "check",
             ("names", "draft.l b.l"),

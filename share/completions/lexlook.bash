@@ -8,6 +8,7 @@ _lexlook() {
         local flags='-i -X'
         [[ ${COMP_WORDS[1]} == check ]] && flags+=' -s --json'
         [[ ${COMP_WORDS[1]} == header ]] && flags+=' --rust'
+        [[ ${COMP_WORDS[1]} == trace ]] && flags+=' --offsets'
         [[ ${COMP_WORDS[1]} == count ]] && flags+=' --json'
         mapfile -t COMPREPLY < <(compgen -W "$flags" -- "$2")
     fi

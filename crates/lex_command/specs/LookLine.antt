@@ -1,5 +1,6 @@
 -- What the words of the command line of lexlook ask for.
-use Rattle.std.specs.Prelude.{◌≡◌, ◌||◌, if◌then◌else◌, true, List, [], ◌∷◌, Option, Some, None, fold, map, codes, string_bytes}
+use Rattle.std.specs.Prelude.{◌≡◌, ◌||◌, if◌then◌else◌, ⊤, true, List, [], ◌∷◌, ◌++◌, Option, Some, None, fold, map, codes, string_bytes}
+use Rattle.std.specs.Borrow.{Bor}
 use Rattle.std.specs.Str.{bytes_eq}
 use Rattle.clap.specs.Words.{App, Row, Rule, Text, all_of, fault_of, first_of, new_app, new_rule, subcommand_of, with_rule, with_subcommand}
 use Rattle.clap.specs.Simple.{on_top}
@@ -9,9 +10,9 @@ use Rattle.lex_command.specs.Flags.{flag_rule, has_flag, is_separator, pattern_r
 use Rattle.lex_command.specs.declared.look.args.About.{About}
 use Rattle.lex_command.specs.declared.look.args.About.TheVariants.{Help, UnicodeVersion, Version}
 use Rattle.lex_command.specs.declared.look.args.Look.{Look}
-use Rattle.lex_command.specs.declared.look.args.Look.TheVariants.{About as OfItself, Check, Count as Counts, Header, Letters, One, Same}
+use Rattle.lex_command.specs.declared.look.args.Look.TheVariants.{About as OfItself, Check, Letters, One, Same}
 use Rattle.lex_command.specs.declared.look.args.Subcommand.{Subcommand}
-use Rattle.lex_command.specs.declared.look.args.Subcommand.TheVariants.{Picture, Lines, Words, Trace}
+use Rattle.lex_command.specs.declared.look.args.Subcommand.TheVariants.{Count as Counts, Header, Lines, Picture, Trace, Words}
 
 -- ---- the program's command line, in clap's terms
 
@@ -49,13 +50,13 @@ long_rule word = record (new_rule word) { long = Some word; action = Some Count 
 abbrev pub check_words : List Rule
 check_words = flag_rule (codes "strict") 115 ∷ long_rule (codes "json") ∷ needed_words_rule (codes "file") ∷ []
 
--- for which language the constants are, and the file of `header`
-abbrev pub header_words : List Rule
-header_words = long_rule (codes "rust") ∷ one_file
+-- a flag of a subcommand's own, and its file
+abbrev pub flagged_file : Text → List Rule
+flagged_file flag = long_rule flag ∷ one_file
 
--- how the counts are told, and the file of `count`
-abbrev pub counts_words : List Rule
-counts_words = long_rule (codes "json") ∷ one_file
+-- A name that the code has for words of a subcommand: the flags of its own, and its files.
+abbrev pub own_rules : List (Bor Text) → List (Bor Text) → List Rule
+own_rules flags files = map (λ flag. long_rule flag.now) flags ++ map (λ file. needed_rule file.now) files
 
 -- the words begin after the program's name, and name a subcommand; clap knows no help
 abbrev pub no_subcommand : App
@@ -71,11 +72,11 @@ lexlook_app = fold with_subcommand no_subcommand (
     ∷ (file_app (codes "same") two_files).top
     ∷ (file_app (codes "lines") one_file).top
     ∷ (file_app (codes "words") one_file).top
-    ∷ (file_app (codes "trace") one_file).top
+    ∷ (file_app (codes "trace") (flagged_file (codes "offsets"))).top
+    ∷ (file_app (codes "header") (flagged_file (codes "rust"))).top
+    ∷ (file_app (codes "count") (flagged_file (codes "json"))).top
     ∷ sets_app.top
     ∷ (file_app (codes "check") check_words).top
-    ∷ (file_app (codes "header") header_words).top
-    ∷ (file_app (codes "count") counts_words).top
     ∷ [])
 
 -- ---- what is asked for
@@ -103,13 +104,22 @@ abbrev pub name_of : Subcommand → Text
 name_of Picture = codes "picture"
 name_of Lines = codes "lines"
 name_of Words = codes "words"
-name_of Trace = codes "trace"
+name_of (Trace offsets) = codes "trace"
+name_of (Header rust) = codes "header"
+name_of (Counts json) = codes "count"
+
+-- its own flag is said to stand there if it does
+abbrev pub HasOwn : Subcommand → List Row → Type 0
+HasOwn (Trace offsets) met = offsets ≡ has_flag (codes "offsets") met
+HasOwn (Header rust) met = rust ≡ has_flag (codes "rust") met
+HasOwn (Counts json) met = json ≡ has_flag (codes "json") met
+HasOwn other met = ⊤
 
 -- what a subcommand asks for, by its name and what stands behind it: the files, with `-i` and `-X` as they stand there
 abbrev pub IsLookOf : Option (Text × List Row) → Look → Type 0
 IsLookOf (Some p) (One what file patterns) = (p.0 ≡ name_of what)
     × (Some (string_bytes file) ≡ first_of (codes "file") p.1)
-    × (patterns ≡ patterns_of p.1)
+    × HasOwn what p.1 × (patterns ≡ patterns_of p.1)
 IsLookOf (Some p) (Same left right patterns) = (p.0 ≡ codes "same")
     × (Some (string_bytes left) ≡ first_of (codes "left") p.1)
     × (Some (string_bytes right) ≡ first_of (codes "right") p.1)
@@ -119,12 +129,6 @@ IsLookOf (Some p) (Letters sets) =
 IsLookOf (Some p) (Check files strict json patterns) = (p.0 ≡ codes "check")
     × (map string_bytes files.items ≡ files_of p.1)
     × (strict ≡ has_flag (codes "strict") p.1) × (json ≡ has_flag (codes "json") p.1) × (patterns ≡ patterns_of p.1)
-IsLookOf (Some p) (Header file rust patterns) = (p.0 ≡ codes "header")
-    × (Some (string_bytes file) ≡ first_of (codes "file") p.1)
-    × (rust ≡ has_flag (codes "rust") p.1) × (patterns ≡ patterns_of p.1)
-IsLookOf (Some p) (Counts file json patterns) = (p.0 ≡ codes "count")
-    × (Some (string_bytes file) ≡ first_of (codes "file") p.1)
-    × (json ≡ has_flag (codes "json") p.1) × (patterns ≡ patterns_of p.1)
 IsLookOf p look = ⊥
 
 -- The words ask for something of the program itself if one of them does, before any `--`. Else they are a line of the

@@ -33,7 +33,7 @@ use lexlook_calls::{
     Given, Language, LookError, draw, tell_header, tell_lines, tell_same, tell_words, trace,
 };
 use lexlook_check::{Form, SourceFile, tell_check};
-use lexlook_counts::{CountForm, tell_counts};
+use lexlook_counts::{CountForm, tell_counts, tell_places};
 use lexlook_unicode::{DefinitionError, UNICODE, definition_of};
 use std::alloc::{AllocError, Global};
 use std::io;
@@ -157,19 +157,29 @@ fn compare_files(
     }
 }
 
-/// Writes a line for each match of a scan of standard input. It is flushed before a read that may wait.
-fn show_trace(rt: &HostRuntime, text: &[u8], options: Options) -> Result<ExitCode, Failure>
+/// Writes a line for each match of a scan of standard input, with its place or not. What has no places is flushed before a
+/// read that may wait.
+fn show_trace(
+    rt: &HostRuntime,
+    text: &[u8],
+    offsets: bool,
+    options: Options,
+) -> Result<ExitCode, Failure>
     requires few_positions { options.limits.positions ≤ MAX_POSITIONS }
     requires few_states { options.limits.states ≤ MAX_STATES }
 {
     let mut source = FromBytes::new(ByteReader::new(rt.alloc(), rt.reader())?);
     let mut sink = ToBytes::new(ByteWriter::new(rt.alloc(), io::writer(rt))?);
-    let result = trace(rt.alloc(), text, options, &mut source, &mut sink);
-    if result.is_err() {
-        // What was written before the fault is still to be seen, and the fault is reported in any case.
-        let _ = sink.flush();
-    }
-    Ok(ExitCode::from(result?))
+    let result = if offsets {
+        tell_places(rt.alloc(), text, options, &mut source, &mut sink)
+    } else {
+        trace(rt.alloc(), text, options, &mut source, &mut sink)
+    };
+    // What was written before a fault is still to be seen, and the fault of the scan is the one that is reported.
+    let flushed = sink.flush();
+    let status = result?;
+    flushed?;
+    Ok(ExitCode::from(status))
 }
 
 /// Scans standard input, and writes to standard output how often rules match it. Nothing is written before the end.
@@ -228,7 +238,7 @@ fn show_check(
 fn read_one(rt: &HostRuntime, what: Subcommand, file: String) -> Result<ReadFile, LookFailure> {
     match what {
         Subcommand::Lines => read_file(rt, file, MAX_TABLE_BYTES + 1),
-        Subcommand::Picture | Subcommand::Words | Subcommand::Trace => read_spec_file(rt, file),
+        _ => read_spec_file(rt, file),
     }
 }
 
@@ -246,7 +256,12 @@ fn show_one(
         Subcommand::Picture => show(rt, Told::Picture(bytes), options),
         Subcommand::Lines => show(rt, Told::Lines(bytes), options),
         Subcommand::Words => show(rt, Told::Words(bytes), options),
-        Subcommand::Trace => show_trace(rt, bytes, options),
+        Subcommand::Trace { offsets } => show_trace(rt, bytes, offsets, options),
+        Subcommand::Count { json } => show_counts(rt, bytes, json, options),
+        Subcommand::Header { rust } => {
+            let language = if rust { Language::Rust } else { Language::C };
+            show(rt, Told::Header(bytes, language), options)
+        }
     }
 }
 
@@ -290,26 +305,6 @@ fn run(rt: &HostRuntime) -> Result<ExitCode, LookFailure> {
             let read = read_files(rt, files)?;
             let files = read.as_slice();
             Ok(show_check(rt, files, strict, json, options_of(patterns))?)
-        }
-        Look::Count {
-            file,
-            json,
-            patterns,
-        } => {
-            let read = read_spec_file(rt, file)?;
-            let shown = show_counts(rt, read.bytes.as_slice(), json, options_of(patterns));
-            shown_of(shown, read.name)
-        }
-        Look::Header {
-            file,
-            rust,
-            patterns,
-        } => {
-            let read = read_spec_file(rt, file)?;
-            let language = if rust { Language::Rust } else { Language::C };
-            let header = Told::Header(read.bytes.as_slice(), language);
-            let shown = show(rt, header, options_of(patterns));
-            shown_of(shown, read.name)
         }
     }
 }

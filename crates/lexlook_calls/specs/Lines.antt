@@ -1,10 +1,9 @@
 -- The line that tells of what two files do not do the same. (This project's.)
-use Rattle.std.specs.Prelude.{◌≡◌, ℕ, ◌==◌, ◌&&◌, Bool, true, false, if◌then◌else◌, nat_le, nat_lt, List, [], ◌∷◌, ◌++◌, slice_index, slice_index_or, length, Option, Some, None, IfSome, codes, decimal}
+use Rattle.std.specs.Prelude.{◌≡◌, ℕ, Bool, true, false, if◌then◌else◌, nat_lt, List, [], ◌∷◌, ◌++◌, slice_index, slice_index_or, length, Option, Some, None, IfSome, codes, decimal}
 use Rattle.std.specs.List.{concat, flat_map}
 use Rattle.lex_semantics.specs.Spec.{Spec}
 use Rattle.lex_semantics.specs.Machine.{Machine, state_after}
-use Rattle.lex_io.specs.Octal.{octal}
-use Rattle.lexlook_specs.specs.Pictures.{quoted_byte}
+use Rattle.lexlook_specs.specs.Pictures.{in_quotes}
 use Rattle.lexlook_tables.specs.Same.{is_single, number_in, rules_at}
 use Rattle.lexlook_tables.specs.declared.same.differing.Difference.{Difference}
 use Rattle.lexlook_tables.specs.declared.same.tables.Comparison.{Comparison}
@@ -14,14 +13,6 @@ use Rattle.lexkit.specs.Generated.{lines_of}
 use Rattle.lexlook_calls.specs.Looks.{names_of}
 use Rattle.lexlook_calls.specs.Sides.{read_as}
 use Rattle.lexlook_calls.specs.declared.sides.Side.{Side as Made}
-
--- a byte in a quoted string of a pattern (POSIX, Table of Escape Sequences; flex, Patterns)
-abbrev pub in_quotes : ℕ → List ℕ
-in_quotes b =
-    if b == 9 then codes "\\t"
-    else if b == 10 then codes "\\n"
-    else if nat_le 32 b && nat_le b 126 then quoted_byte b
-    else octal b
 
 -- a condition by its name in the specification, or without one by its number
 abbrev pub condition_words : Option Spec → ℕ → List ℕ

@@ -11,13 +11,14 @@ use Rattle.lexkit.specs.Generated.{lines_of}
 use Rattle.lexkit.specs.Headline.{IsWithin, Refusal, reading}
 use Rattle.lexkit.specs.declared.options.Options.{Options}
 use Rattle.lexlook_specs.specs.Matches.{matches_of}
+use Rattle.lexlook_specs.specs.Pictures.{in_quotes}
 use Rattle.lexlook_specs.specs.Words.{AreWords}
 use Rattle.lexlook_specs.specs.declared.words.finding.ShownText.{ShownText}
 use Rattle.lexlook_specs.specs.declared.words.finding.Word.{Word}
 use Rattle.lexlook_specs.specs.declared.words.finding.Word.TheVariants.{Taken, Never}
 use Rattle.lexlook_specs.specs.declared.words.finding.Words.{Words}
 use Rattle.lexlook_calls.specs.Looks.{names_of}
-use Rattle.lexlook_calls.specs.Lines.{in_quotes, start_words}
+use Rattle.lexlook_calls.specs.Lines.{start_words}
 use Rattle.lexlook_calls.specs.declared.error.LookError.{LookError}
 use Rattle.lexlook_calls.specs.declared.error.LookError.TheVariants.{Refused, Table, OutOfMemory, Write}
 

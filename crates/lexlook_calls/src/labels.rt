@@ -1,15 +1,13 @@
 //! What conditions, rules and texts are called in the lines that are written.
 ghost use Rattle.std.specs.Prelude.{◌≡◌, ◌<◌, Bool, [], ◌++◌, length, map, slice_index, slice_index_or};
 ghost use Rattle.std.specs.Prelude.{IfOk, IfSome, OnOk};
-ghost use Rattle.std.specs.List.{flat_map};
 ghost use Rattle.lexspec_actions.specs.Views.{condition_of};
 ghost use Rattle.lexspec.specs.Views.{conditions_in, rules_in, spec_of};
 ghost use Rattle.lexkit.specs.Generated.{lines_of};
 ghost use Rattle.lexlook_calls.specs.Looks.{names_of};
-ghost use Rattle.lexlook_calls.specs.Lines.{in_quotes, condition_words, rule_words, start_words};
+ghost use Rattle.lexlook_calls.specs.Lines.{condition_words, rule_words, start_words};
 ghost use Rattle.lexlook_calls.specs.Sides.{read_as};
 
-use lex_io::octal;
 use lexlook_specs::{add, add_number};
 use lexspec::{Condition, Spec};
 use std::alloc::{AllocError, Global};
@@ -23,29 +21,6 @@ pub(crate) fn names_of(alloc: Global, conditions: &[Condition]) -> Result<Vec<&[
         names.push(condition.name.as_slice())?;
     }
     Ok(names)
-}
-
-/// Appends a byte as it is spelled in a quoted string of a pattern.
-fn add_in_quotes(text: &mut Vec<u8>, byte: u8) -> Result<(), AllocError>
-    ensures { OnOk result (text.new.items ≡ text.old.items ++ in_quotes byte) }
-{
-    match byte {
-        b'\t' => add(text, b"\\t"),
-        b'\n' => add(text, b"\\n"),
-        b'"' | b'\\' => add(text, &[b'\\', byte]),
-        b' '..=b'~' => add(text, &[byte]),
-        _ => add(text, &octal(byte)),
-    }
-}
-
-/// Appends bytes as they are spelled in a quoted string of a pattern.
-pub(crate) fn add_string(text: &mut Vec<u8>, bytes: &[u8]) -> Result<(), AllocError>
-    ensures { OnOk result (text.new.items ≡ text.old.items ++ flat_map in_quotes bytes.now) }
-{
-    for byte in bytes {
-        add_in_quotes(text, *byte)?;
-    }
-    Ok(())
 }
 
 /// The name of a condition.

@@ -15,10 +15,12 @@ ghost use Rattle.lexlook_calls.specs.Words.{AreLabelled, AreWordsOf, HasLabel, H
 ghost use Rattle.lexlook_calls.specs.Words.{default_line, lines_of_default, line_words, never_words, lines_of_rules, shown_place, word_line, word_lines};
 
 use crate::error::LookError;
-use crate::labels::{add_start, add_string, names_of};
+use crate::labels::{add_start, names_of};
 use lexauto::build;
 use lexkit::{GenError, Limits, Options, Sink, lines_of, read_text};
-use lexlook_specs::{ShownText, Word, Words, add, add_number, find_words, rejecting, rejects_of};
+use lexlook_specs::{
+    ShownText, Word, Words, add, add_number, add_string, find_words, rejecting, rejects_of,
+};
 use lexspec::Spec;
 use std::alloc::{AllocError, Global};
 

@@ -1,5 +1,5 @@
--- What is counted of a source, step by step.
-use Rattle.std.proofs.Common.{◌≡◌, ℕ, ◌+◌, ◌-◌, ◌^◌, ◌<◌, inl, inr, ◌⊎◌, Bool, false, List, [], ◌++◌, Result, Err, refl, sym, ap, subst, ◌∙◌, arith}
+-- What is read of a source, step by step.
+use Rattle.std.proofs.Common.{◌≡◌, ℕ, ◌+◌, ◌-◌, ◌^◌, ◌<◌, inl, inr, ◌⊎◌, Bool, false, List, [], ◌++◌, append-nil, Result, Err, refl, sym, ap, subst, ◌∙◌, arith}
 use Rattle.lex_semantics.specs.ByteSets.{bit_of}
 use Rattle.lex_semantics.specs.Machine.{Machine, rules_of_machine}
 use Rattle.lexscan.specs.Pulls.{AfterPull, TokensTold, StoppedSo}
@@ -10,9 +10,8 @@ use Rattle.lexscan_window.specs.Reads.{read_fault_count}
 use Rattle.lexscan_window.specs.declared.error.RunError.{RunError}
 use Rattle.lexscan_window.specs.declared.error.RunError.TheVariants as runs
 use Rattle.lexscan_window.specs.declared.state.State.{State}
-use Rattle.lexlook_counts.specs.Counting.{HasCounted, HasTold, IsFresh, StopsBy, counter_machine}
-use Rattle.lexlook_counts.specs.Counts.{IsTallyOf}
-use Rattle.lexlook_counts.specs.declared.counting.Counter.{Counter}
+use Rattle.lexlook_counts.specs.Reading.{HasRead, HasTold, IsNew, StopsBy, reader_machine}
+use Rattle.lexlook_counts.specs.declared.reading.TokenReader.{TokenReader}
 
 -- what a call tells, of a machine that is known
 pub pulled_by : (N M : Machine) (fed : List ℕ) (finished : Bool) (tokens : List Token) (s t : State) (waiting left text : List ℕ) (u v : Result Pulled RunError) → N ≡ M → u ≡ v → (TokensTold N fed finished tokens s waiting → AfterPull N fed finished tokens t left text u)
@@ -46,78 +45,72 @@ not_write e (inr (inr a)) b = let no : runs.TooManyReads ≡ runs.Write = sym a 
 no_bit : (n m : ℕ) (b : Bool) → b ≡ false → n ≡ m + bit_of b → n ≡ m
 no_bit n m b is e = let none : n ≡ m + 0 = e ∙ ap (λ (d : Bool). m + bit_of d) is in omega (arith, none)
 
-module _ {A : Type 0} (gave : A → List ℕ → A → Type 0) (ends_of reads_of : A → ℕ) (M : Machine) (rules conditions : ℕ) (s : A) where
+module _ {A : Type 0} (gave : A → List ℕ → A → Type 0) (ends_of reads_of : A → ℕ) (M : Machine) (s : A) where
   -- nothing was fed
-  pub fresh : (c : Counter) → gave s [] s → IsFresh M rules conditions c → HasCounted gave ends_of reads_of M rules conditions s s c
-  fresh c none f = record {
-    given = [];
-    tokens = [];
+  pub fresh : (r : TokenReader) → gave s [] s → IsNew M r → HasRead gave ends_of reads_of M s s [] [] r
+  fresh r none f = record {
     machine = f.machine;
     source = none;
     ends = (let zero : ends_of s ≡ ends_of s + 0 = omega arith in zero ∙ ap (λ (b : Bool). ends_of s + bit_of b) (sym f.unfinished));
     reads = refl;
-    told = subst (λ (b : Bool). TokensTold M [] b [] (pull_state c.scanner) (pull_waiting c.scanner)) (sym f.unfinished) f.told;
-    counts = f.counts;
+    told = subst (λ (b : Bool). TokensTold M [] b [] (pull_state r.scanner) (pull_waiting r.scanner)) (sym f.unfinished) f.told;
   }
 
-  module _ (s' : A) (c : Counter) (h : HasCounted gave ends_of reads_of M rules conditions s s' c) where
-    pub has_told : HasTold c
-    has_told = (h.given, h.tokens, subst (λ (K : Machine). TokensTold K h.given (pull_finished c.scanner) h.tokens (pull_state c.scanner) (pull_waiting c.scanner)) (sym h.machine) h.told)
+  module _ (s' : A) (given : List ℕ) (tokens : List Token) (r : TokenReader) (h : HasRead gave ends_of reads_of M s s' given tokens r) where
+    pub has_told : HasTold r
+    has_told = (given, tokens, subst (λ (K : Machine). TokensTold K given (pull_finished r.scanner) tokens (pull_state r.scanner) (pull_waiting r.scanner)) (sym h.machine) h.told)
 
-    pub few_ends : ends_of s < 2 ^ 64 - 1 → pull_finished c.scanner ≡ false → ends_of s' < 2 ^ 64 - 1
-    few_ends few open_end = let same = no_bit (ends_of s') (ends_of s) (pull_finished c.scanner) open_end h.ends in omega (arith, same, few)
+    pub few_ends : ends_of s < 2 ^ 64 - 1 → pull_finished r.scanner ≡ false → ends_of s' < 2 ^ 64 - 1
+    few_ends few open_end = let same = no_bit (ends_of s') (ends_of s) (pull_finished r.scanner) open_end h.ends in omega (arith, same, few)
 
-    -- some tokens more were told, and counted
-    pub still : (d : Counter) (tokens : List Token) → counter_machine d ≡ counter_machine c → pull_finished d.scanner ≡ pull_finished c.scanner
-        → TokensTold M h.given (pull_finished c.scanner) tokens (pull_state d.scanner) (pull_waiting d.scanner) → IsTallyOf rules conditions tokens d.tally → HasCounted gave ends_of reads_of M rules conditions s s' d
-    still d tokens machine finished told counts = record {
-      given = h.given;
-      tokens = tokens;
+    -- some tokens more were told
+    pub still : (q : TokenReader) (more : List Token) → reader_machine q ≡ reader_machine r → pull_finished q.scanner ≡ pull_finished r.scanner
+        → TokensTold M given (pull_finished r.scanner) more (pull_state q.scanner) (pull_waiting q.scanner) → HasRead gave ends_of reads_of M s s' given more q
+    still q more machine finished told = record {
       machine = machine ∙ h.machine;
       source = h.source;
       ends = h.ends ∙ ap (λ (b : Bool). ends_of s + bit_of b) (sym finished);
       reads = h.reads;
-      told = subst (λ (b : Bool). TokensTold M h.given b tokens (pull_state d.scanner) (pull_waiting d.scanner)) (sym finished) told;
-      counts = counts;
+      told = subst (λ (b : Bool). TokensTold M given b more (pull_state q.scanner) (pull_waiting q.scanner)) (sym finished) told;
     }
 
     -- memory ran out
-    pub by_memory : StopsBy gave ends_of reads_of M rules conditions s s' runs.OutOfMemory
+    pub by_memory : StopsBy gave ends_of reads_of M s s' given runs.OutOfMemory
     by_memory = record {
-      source = (h.given, h.source);
+      more = [];
+      source = subst (λ (l : List ℕ). gave s l s') (sym (append-nil given)) h.source;
       reads = (let zero : reads_of s' ≡ reads_of s + 0 = omega (arith, h.reads) in zero);
       stack = λ e. cc;
       not_write = λ e. cc;
     }
 
     -- the stack is at fault
-    pub by_stack : StoppedSo (rules_of_machine M) h.given (pull_finished c.scanner) h.tokens runs.Stack → StopsBy gave ends_of reads_of M rules conditions s s' runs.Stack
+    pub by_stack : StoppedSo (rules_of_machine M) given (pull_finished r.scanner) tokens runs.Stack → StopsBy gave ends_of reads_of M s s' given runs.Stack
     by_stack stopped = record {
-      source = (h.given, h.source);
+      more = [];
+      source = subst (λ (l : List ℕ). gave s l s') (sym (append-nil given)) h.source;
       reads = (let zero : reads_of s' ≡ reads_of s + 0 = omega (arith, h.reads) in zero);
-      stack = λ e. record { given = h.given; at_end = pull_finished c.scanner; tokens = h.tokens; source = h.source; ends = h.ends; stopped = stopped };
+      stack = λ e. record { given = given; at_end = pull_finished r.scanner; tokens = tokens; source = h.source; ends = h.ends; stopped = stopped };
       not_write = λ e. cc;
     }
 
     -- feeding is refused
-    pub by_feeding : (s'' : A) (more : List ℕ) (e : RunError) → gave s (h.given ++ more) s'' → reads_of s'' ≡ reads_of s' + read_fault_count {T = Unit {0}} (Err e) → IsFeedFault e → StopsBy gave ends_of reads_of M rules conditions s s'' e
+    pub by_feeding : (s'' : A) (more : List ℕ) (e : RunError) → gave s (given ++ more) s'' → reads_of s'' ≡ reads_of s' + read_fault_count {T = Unit {0}} (Err e) → IsFeedFault e → StopsBy gave ends_of reads_of M s s'' given e
     by_feeding s'' more e source reads fault = record {
-      source = (h.given ++ more, source);
+      more = more;
+      source = source;
       reads = (let same = reads_alike (Unit {0}) ℕ e in omega (arith, reads, h.reads, same));
       stack = λ is. absurd (not_stack e fault is);
       not_write = not_write e fault;
     }
 
     -- more was fed
-    pub fed_more : (s'' : A) (more : List ℕ) (d : Counter) → pull_finished c.scanner ≡ false → counter_machine d ≡ counter_machine c → gave s (h.given ++ more) s'' → ends_of s'' ≡ ends_of s' + bit_of (pull_finished d.scanner) → reads_of s'' ≡ reads_of s' + 0
-        → TokensTold M (h.given ++ more) (pull_finished d.scanner) h.tokens (pull_state d.scanner) (pull_waiting d.scanner) → IsTallyOf rules conditions h.tokens d.tally → HasCounted gave ends_of reads_of M rules conditions s s'' d
-    fed_more s'' more d open_end machine source ends reads told counts = record {
-      given = h.given ++ more;
-      tokens = h.tokens;
+    pub fed_more : (s'' : A) (more : List ℕ) (q : TokenReader) → pull_finished r.scanner ≡ false → reader_machine q ≡ reader_machine r → gave s (given ++ more) s'' → ends_of s'' ≡ ends_of s' + bit_of (pull_finished q.scanner) → reads_of s'' ≡ reads_of s' + 0
+        → TokensTold M (given ++ more) (pull_finished q.scanner) tokens (pull_state q.scanner) (pull_waiting q.scanner) → HasRead gave ends_of reads_of M s s'' (given ++ more) tokens q
+    fed_more s'' more q open_end machine source ends reads told = record {
       machine = machine ∙ h.machine;
       source = source;
-      ends = (let same = no_bit (ends_of s') (ends_of s) (pull_finished c.scanner) open_end h.ends in ends ∙ ap (λ (n : ℕ). n + bit_of (pull_finished d.scanner)) same);
+      ends = (let same = no_bit (ends_of s') (ends_of s) (pull_finished r.scanner) open_end h.ends in ends ∙ ap (λ (n : ℕ). n + bit_of (pull_finished q.scanner)) same);
       reads = omega (arith, reads, h.reads);
       told = told;
-      counts = counts;
     }

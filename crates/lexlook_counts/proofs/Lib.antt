@@ -1,3 +1,4 @@
 pub mod Tallying
 pub mod Fed
 pub mod Told
+pub mod Placing

@@ -1,5 +1,5 @@
 -- What is told of a scan by a table for a specification.
-use Rattle.std.proofs.Common.{◌≡◌, ◌∙◌, ℕ, ◌+◌, List, length, Result, Ok, Err, ap, arith, refl, subst}
+use Rattle.std.proofs.Common.{◌≡◌, ◌∙◌, ℕ, ◌+◌, List, [], ◌++◌, append-nil, length, Result, Ok, Err, ap, arith, refl, subst, sym}
 use Rattle.std.proofs.lemmas.List.FromFn.{length-map-range_with_len}
 use Rattle.lex_semantics.specs.Acting.{Status}
 use Rattle.lex_semantics.specs.Machine.{Machine}
@@ -20,7 +20,7 @@ use Rattle.lexkit.specs.declared.errors.GenError.{GenError}
 use Rattle.lexkit.specs.declared.errors.GenError.TheVariants as gens
 use Rattle.lexkit.specs.declared.errors.ScanError.TheVariants.{Run}
 use Rattle.lexkit.specs.declared.options.Options.{Options}
-use Rattle.lexlook_counts.specs.Counting.{CountsAll, CountsSource, StopsBy}
+use Rattle.lexlook_counts.specs.Counting.{CountingStops, CountsAll, CountsSource}
 use Rattle.lexlook_counts.specs.Counts.{IsTallyOf, rule_count, turn_count}
 use Rattle.lexlook_counts.specs.Told.{CountsStopped, CountsTold, IsMadeFor, LinesTold, TellsCounts, TellsOf}
 use Rattle.lexlook_counts.specs.declared.counting.Counted.{Counted}
@@ -69,13 +69,17 @@ recounted gave ends_of reads_of M n m n' m' s s' r e f h =
     subst (λ (k : ℕ). CountsSource gave ends_of reads_of M n' k s s' r) f (subst (λ (k : ℕ). CountsSource gave ends_of reads_of M k m s s' r) e h)
 
 -- memory ran out after all tokens were counted
-pub late_memory : {A : Type 0} (gave : A → List ℕ → A → Type 0) (ends_of reads_of : A → ℕ) (M : Machine) (n m : ℕ) (s s' : A) (status : ℕ) (t : Tally) → CountsAll gave ends_of reads_of M n m s s' status t → StopsBy gave ends_of reads_of M n m s s' runs.OutOfMemory
-late_memory gave ends_of reads_of M n m s s' status t h = record {
-  source = (h.given, h.source);
-  reads = (let zero : reads_of s' ≡ reads_of s + 0 = omega (arith, h.reads) in zero);
-  stack = λ e. cc;
-  not_write = λ e. cc;
-}
+pub late_memory : {A : Type 0} (gave : A → List ℕ → A → Type 0) (ends_of reads_of : A → ℕ) (M : Machine) (n m : ℕ) (s s' : A) (status : ℕ) (t : Tally) → CountsAll gave ends_of reads_of M n m s s' status t → CountingStops gave ends_of reads_of M n m s s' runs.OutOfMemory
+late_memory gave ends_of reads_of M n m s s' status t h = (
+  h.given,
+  record {
+    more = [];
+    source = subst (λ (l : List ℕ). gave s l s') (sym (append-nil h.given)) h.read.source;
+    reads = (let zero : reads_of s' ≡ reads_of s + 0 = omega (arith, h.read.reads) in zero);
+    stack = λ e. cc;
+    not_write = λ e. cc;
+  },
+)
 
 -- there are counts of each rule and condition
 pub each_rule : (n m : ℕ) (tokens : List Token) (t : Tally) → IsTallyOf n m tokens t → length t.rules.items ≡ n
@@ -86,10 +90,10 @@ each_condition n m tokens t h = ap length h.of_conditions ∙ length-map-range_w
 
 module _ {A B : Type 0} (gave : A → List ℕ → A → Type 0) (ends_of reads_of : A → ℕ) (wrote : B → List ℕ → B → Type 0) (M : Machine) (S : Spec) (form : CountForm) (s s' : A) (t : B) where
   -- counting stopped, and nothing was written
-  pub stops_told : (e : RunError) → StopsBy gave ends_of reads_of M (length S.rules) (length S.conditions) s s' e → TellsOf gave ends_of reads_of wrote M S form s s' t t (Err e)
+  pub stops_told : (e : RunError) → CountingStops gave ends_of reads_of M (length S.rules) (length S.conditions) s s' e → TellsOf gave ends_of reads_of wrote M S form s s' t t (Err e)
   stops_told runs.Read h = (h, refl)
   stops_told runs.TooManyReads h = (h, refl)
-  stops_told runs.Write h = absurd (h.not_write refl)
+  stops_told runs.Write h = absurd (h.1.not_write refl)
   stops_told runs.OutOfMemory h = (h, refl)
   stops_told runs.Stack h = (h, refl)
   stops_told runs.Failed h = (h, refl)
@@ -102,24 +106,24 @@ module _ {A B : Type 0} (gave : A → List ℕ → A → Type 0) (ends_of reads_
     spells = spells;
     within = made.within;
     given = h.counted.given;
-    at_end = h.counted.at_end;
+    at_end = h.counted.read.at_end;
     tokens = h.counted.tokens;
     tally = h.tally;
-    source = h.counted.source;
-    ends = h.counted.ends;
-    all = λ x c. table_tokens (table_machine (tables_of f)) S (laws_of (tables_of f)) sound made.table x h.counted.tokens (Status status) c.0 (h.counted.all x c);
+    source = h.counted.read.source;
+    ends = h.counted.read.ends;
+    all = λ x c. table_tokens (table_machine (tables_of f)) S (laws_of (tables_of f)) sound made.table x h.counted.tokens (Status status) c.0 (h.counted.read.all x c);
     counts = h.counted.counts;
     written = h.written;
   }
 
-  stopped_told : (e : RunError) → StopsBy gave ends_of reads_of (table_machine (tables_of f)) (length S.rules) (length S.conditions) s s' e → t' ≡ t → CountsStopped gave ends_of wrote s s' t t' options form text e
+  stopped_told : (e : RunError) → CountingStops gave ends_of reads_of (table_machine (tables_of f)) (length S.rules) (length S.conditions) s s' e → t' ≡ t → CountsStopped gave ends_of wrote s s' t t' options form text e
   stopped_told e h unwritten = record {
     spec = S;
     spells = spells;
     within = made.within;
-    source = h.source;
+    source = (h.0 ++ h.1.more, h.1.source);
     unwritten = unwritten;
-    stack = λ is. (table_machine (tables_of f), made.table, h.stack is);
+    stack = λ is. (table_machine (tables_of f), made.table, h.1.stack is);
   }
 
   pub came_to : (status : ℕ) → TellsOf gave ends_of reads_of wrote (table_machine (tables_of f)) S form s s' t t' (Ok status) → TellsCounts gave ends_of wrote s s' t t' options form text (Ok status)

@@ -1,9 +1,11 @@
--- Worked examples of counts: a rule that matched twice, one that never did, and the default rule. (This project's.)
+-- Worked examples of counts and places: a rule that matched twice, one that never did, and the default rule. (This
+-- project's.)
 use Rattle.std.specs.Prelude.{◌≡◌, List, [], ◌∷◌, codes}
 use Rattle.lexscan.specs.declared.token.Token.{Token}
 use Rattle.lexscan_window.specs.declared.matched.MatchedRule.TheVariants.{Numbered, Default}
 use Rattle.lexlook_counts.specs.CountLines.{column, matched_line, never_line, json_line}
 use Rattle.lexlook_counts.specs.Counts.{rule_count, turn_count}
+use Rattle.lexlook_counts.specs.Places.{offset_lines}
 use Rattle.lexlook_counts.specs.declared.lines.Subject.TheVariants.{Line, DefaultRule}
 use Rattle.lexlook_counts.specs.declared.tally.RuleCount.{RuleCount}
 
@@ -31,4 +33,7 @@ pub record CountExamples : Type 0 where
       ≡ codes "           1            1            1 default rule\n"
   pub never : never_line (Line 3) no_matches ≡ codes "line 3: never\n"
   pub none : matched_line (Line 3) no_matches ≡ []
+  -- the rules stand at lines 7 and 9
+  pub placed : offset_lines (7 ∷ 9 ∷ []) (codes "abc\"d\n") three_tokens
+      ≡ codes "0 3 line 7 \"abc\"\n3 1 default rule \"\\\"\"\n4 2 line 7 \"d\\n\"\n"
   pub json : json_line (Line 3) no_matches ≡ codes "{\"line\":3,\"matches\":0,\"bytes\":0,\"longest\":0}\n"

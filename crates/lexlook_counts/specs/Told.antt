@@ -23,8 +23,9 @@ use Rattle.lexkit.specs.declared.errors.ScanError.{ScanError}
 use Rattle.lexkit.specs.declared.errors.ScanError.TheVariants.{Generate, Run, Table}
 use Rattle.lexkit.specs.declared.options.Options.{Options}
 use Rattle.lexlook_counts.specs.CountLines.{count_lines}
-use Rattle.lexlook_counts.specs.Counting.{CountsAll, FaultsSo, StopsBy}
+use Rattle.lexlook_counts.specs.Counting.{CountingStops, CountsAll}
 use Rattle.lexlook_counts.specs.Counts.{IsTallyOf}
+use Rattle.lexlook_counts.specs.Reading.{FaultsSo}
 use Rattle.lexlook_counts.specs.declared.lines.CountForm.{CountForm}
 use Rattle.lexlook_counts.specs.declared.tally.Tally.{Tally}
 
@@ -52,7 +53,7 @@ module _ {A B : Type 0} (gave : A → List ℕ → A → Type 0) (ends_of reads_
   TellsOf (Ok status) = LinesTold status (Ok status)
   TellsOf (Err runs.Write) = (status : ℕ) × LinesTold status (Err runs.Write)
   TellsOf (Err e) =
-      StopsBy gave ends_of reads_of M (length S.rules) (length S.conditions) s s' e × (t' ≡ t)
+      CountingStops gave ends_of reads_of M (length S.rules) (length S.conditions) s s' e × (t' ≡ t)
 
 -- The same, where a text is the specification.
 module _ {A B : Type 0} (gave : A → List ℕ → A → Type 0) (ends_of : A → ℕ) (wrote : B → List ℕ → B → Type 0)

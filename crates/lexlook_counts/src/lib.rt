@@ -1,9 +1,11 @@
-//! How often the rules of a specification match an input: what is counted, and the lines that tell it. It is for lexlook.
+//! How often the rules of a specification match an input, and where: what is counted, and the lines that tell it. It is for lexlook.
 //!
 //! - `tally`: the counts of the tokens so far, `Tally`, and one token more.
-//! - `counting`: a scan that reads a source to its end and counts its tokens, `count_source`.
+//! - `reading`: a scan that reads a source, and is asked for its tokens one by one, `TokenReader`.
+//! - `counting`: the same to its end, with the counts of the tokens, `count_source`.
 //! - `lines`: the lines of the counts, in columns or as JSON.
 //! - `telling`: the whole for a text and a source, `tell_counts`.
+//! - `places`: a line for each token, as they come, `tell_places`.
 //! - `laws`: worked examples of counts.
 //!
 //! It promises that the counts are those of all tokens of the scan of the source by the specification that the text spells
@@ -15,16 +17,19 @@
 //!   more than those of the input.
 //! - **What has not matched comes last in columns**, since these are the lines that one looks for. As JSON each rule has its line in
 //!   the order of the file.
-//! - **After a fault nothing is written.** Counts of a part of the input would look like those of all.
+//! - **After a fault no counts are written.** Counts of a part of the input would look like those of all.
 #![tactic(auto)]
 
 mod counting;
 mod laws;
 mod lines;
+mod places;
+mod reading;
 mod tally;
 mod telling;
 
 pub use laws::examples_of_counts;
 pub use lines::CountForm;
+pub use places::tell_places;
 pub use tally::{RuleCount, Tally};
 pub use telling::tell_counts;

@@ -9,7 +9,7 @@ use lexlook_specs::{add, add_number};
 use std::alloc::{AllocError, Global};
 
 /// How counts are told.
-#[derive(Clone, Copy, Debug, PartialEq, Eq)]
+#[derive(Clone, Copy)]
 pub enum CountForm {
     /// In columns, for reading.
     Columns,
@@ -19,7 +19,7 @@ pub enum CountForm {
 
 /// Which line of a rule this is.
 #[derive(Clone, Copy)]
-enum LineKind {
+pub(crate) enum LineKind {
     /// That of one that has matched.
     Matched,
     /// That of one that has not.
@@ -30,7 +30,7 @@ enum LineKind {
 
 /// Of which rule a line is.
 #[derive(Clone, Copy)]
-enum Subject {
+pub(crate) enum Subject {
     /// The one at this line of the file.
     Line(u32),
     DefaultRule,
@@ -51,7 +51,11 @@ fn add_column(text: &mut Vec<u8>, number: u64) -> Result<(), AllocError>
 }
 
 /// Appends what a rule is called.
-fn add_subject(text: &mut Vec<u8>, kind: LineKind, subject: Subject) -> Result<(), AllocError>
+pub(crate) fn add_subject(
+    text: &mut Vec<u8>,
+    kind: LineKind,
+    subject: Subject,
+) -> Result<(), AllocError>
     ensures { OnOk result (text.new.items ≡ text.old.items ++ counted_subject kind subject) }
 {
     match (kind, subject) {
@@ -94,7 +98,7 @@ fn add_never(text: &mut Vec<u8>, subject: Subject, count: RuleCount) -> Result<(
 }
 
 /// Appends a name of JSON with what stands before it, and a number.
-fn add_field(text: &mut Vec<u8>, front: &[u8], number: u64) -> Result<(), AllocError>
+pub(crate) fn add_field(text: &mut Vec<u8>, front: &[u8], number: u64) -> Result<(), AllocError>
     ensures { OnOk result (text.new.items ≡ text.old.items ++ json_field front.now number) }
 {
     let mut digits = Buffer::new();

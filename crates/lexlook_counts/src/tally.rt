@@ -10,7 +10,7 @@ use lexscan::{MatchedRule, PulledToken};
 use std::alloc::{AllocError, Global};
 
 /// What is counted of a rule: its matches, the bytes of their texts in all, and the longest.
-#[derive(Clone, Copy, Debug, PartialEq, Eq)]
+#[derive(Clone, Copy)]
 pub struct RuleCount {
     pub matches: u64,
     pub bytes: u64,

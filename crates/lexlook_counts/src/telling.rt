@@ -33,7 +33,7 @@ fn names_of(alloc: Global, conditions: &[Condition]) -> Result<Vec<&[u8]>, Alloc
 }
 
 /// The machine of a scan by a specification.
-fn machine_of(alloc: Global, spec: &Spec, limits: Limits) -> Result<Flat, GenError>
+pub(crate) fn machine_of(alloc: Global, spec: &Spec, limits: Limits) -> Result<Flat, GenError>
     requires few_positions { limits.positions ≤ max_positions }
     requires few_states { limits.states ≤ max_states }
     ensures made { IfOk result (IsMadeFor limits (spec_of spec.now)) }

@@ -1,6 +1,7 @@
 -- The picture of an automaton, in the language DOT of Graphviz. (This project's.)
-use Rattle.std.specs.Prelude.{ℕ, zero, suc, ◌-◌, ◌==◌, Bool, true, false, ◌||◌, if◌then◌else◌, List, [], ◌∷◌, ◌++◌, length, slice_index, slice_index_or, codes, decimal}
+use Rattle.std.specs.Prelude.{ℕ, zero, suc, ◌-◌, ◌==◌, nat_le, Bool, true, false, ◌||◌, ◌&&◌, if◌then◌else◌, List, [], ◌∷◌, ◌++◌, length, slice_index, slice_index_or, codes, decimal}
 use Rattle.std.specs.List.{concat, range_with_len, flat_map}
+use Rattle.lex_io.specs.Octal.{octal}
 use Rattle.lexauto_dfa.specs.Automata.{states_of, start_of, next_of, accepts_of}
 use Rattle.lexauto_dfa.specs.declared.dfa.Dfa.{Dfa}
 use Rattle.lexlook_specs.specs.Classes.{all_bytes, class_of}
@@ -11,6 +12,14 @@ quoted_byte b = if (b == 34) || (b == 92) then 92 ∷ b ∷ [] else b ∷ []
 
 abbrev pub quoted : List ℕ → List ℕ
 quoted text = flat_map quoted_byte text
+
+-- a byte in a quoted string of a pattern (POSIX, Table of Escape Sequences; flex, Patterns)
+abbrev pub in_quotes : ℕ → List ℕ
+in_quotes b =
+    if b == 9 then codes "\\t"
+    else if b == 10 then codes "\\n"
+    else if nat_le 32 b && nat_le b 126 then quoted_byte b
+    else octal b
 
 -- a start: a node with the condition's name, and an arrow from it, unless the state is the dead one
 abbrev pub arrow : List ℕ → ℕ → List ℕ

@@ -29,6 +29,6 @@ mod picture;
 mod trace;
 mod words;
 
-pub use picture::{PictureError, add, add_number, write_picture};
+pub use picture::{PictureError, add, add_number, add_string, write_picture};
 pub use trace::{tells_runs, tells_turns, traced};
 pub use words::{ShownText, Word, Words, copied_bytes, find_words, rejecting, rejects_of};

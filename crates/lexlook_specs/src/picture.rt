@@ -7,6 +7,6 @@ mod error;
 mod nodes;
 mod writing;
 
-pub use adding::{add, add_number};
+pub use adding::{add, add_number, add_string};
 pub use error::PictureError;
 pub use writing::write_picture;

@@ -9,7 +9,7 @@ use lexlook_calls::{
     trace as trace_of,
 };
 use lexlook_check::{Form, SourceFile, tell_check};
-use lexlook_counts::{CountForm, tell_counts};
+use lexlook_counts::{CountForm, tell_counts, tell_places};
 use lexlook_tables::{Comparison, Difference, compare as compared, find_obstacle_in};
 use std::alloc::{AllocError, Global};
 
@@ -137,12 +137,16 @@ pub(crate) fn check(alloc: Global, row: &Row<'_>) -> Result<Answer, AllocError> 
     })
 }
 
-/// Writes the lines of the matches of a scan.
+/// Writes the lines of the matches of a scan, with their places or not.
 pub(crate) fn trace(alloc: Global, row: &Row<'_>) -> Result<Answer, AllocError> {
     let mut source = MemorySource::new(row.value("input"));
     let mut sink = MemorySink::new(alloc);
     let text = row.value("spec");
-    let answer = trace_of(alloc, text, options_of(row), &mut source, &mut sink);
+    let answer = if row.has_flag("--offsets") {
+        tell_places(alloc, text, options_of(row), &mut source, &mut sink)
+    } else {
+        trace_of(alloc, text, options_of(row), &mut source, &mut sink)
+    };
     answer_of(alloc, answer, sink, source.calls())
 }
 

@@ -2,9 +2,9 @@
 ghost use Rattle.std.specs.Prelude.{◌≡◌, ◌≢◌, IfErr, IfOk, IfSome, None, Some, codes, false, fold, map};
 ghost use Rattle.std.specs.Prelude.{string_bytes};
 ghost use Rattle.clap.specs.Words.{app_of, found_of, rows_of, rule_of, subcommand_rows_of, with_rule, with_subcommand};
-ghost use Rattle.lex_command.specs.LookLine.{AsksToShow, IsLookOf, about_of, file_app, first_about, lexlook_app, name_of};
+ghost use Rattle.lex_command.specs.LookLine.{AsksToShow, HasOwn, IsLookOf, about_of, file_app, first_about, lexlook_app, name_of};
 ghost use Rattle.lex_command.specs.CommandLine.{words_rule};
-ghost use Rattle.lex_command.specs.LookLine.{check_words, counts_words, header_words, long_rule, needed_rule, needed_words_rule, sets_app};
+ghost use Rattle.lex_command.specs.LookLine.{check_words, long_rule, needed_rule, needed_words_rule, own_rules, sets_app};
 ghost use Rattle.lex_command.specs.LookLine.{told_version};
 
 use crate::error::ArgsError;
@@ -23,7 +23,20 @@ pub enum Subcommand {
     /// The texts that the rules of a specification take.
     Words,
     /// The lines of the matches of a scan by a specification.
-    Trace,
+    Trace {
+        /// Whether they are those of places.
+        offsets: bool,
+    },
+    /// The rules of a specification as constants of a program.
+    Header {
+        /// Whether the program is in Rust, and not in C.
+        rust: bool,
+    },
+    /// How often the rules of a specification match standard input.
+    Count {
+        /// Whether that is told as JSON.
+        json: bool,
+    },
 }
 
 /// What the program tells of itself.
@@ -70,27 +83,11 @@ pub enum Look {
         /// How patterns are read.
         patterns: PatternFlags,
     },
-    /// How often the rules of this specification match standard input.
-    Count {
-        file: String,
-        /// Whether that is told as JSON.
-        json: bool,
-        /// How patterns are read.
-        patterns: PatternFlags,
-    },
-    /// The rules of this specification as constants of a program.
-    Header {
-        file: String,
-        /// Whether the program is in Rust, and not in C.
-        rust: bool,
-        /// How patterns are read.
-        patterns: PatternFlags,
-    },
 }
 
 /// Reads the words after the program's name: `picture FILE`, `same FILE FILE`, `lines FILE`, `words FILE`, `trace FILE`,
-/// `check FILE..`, `count FILE` or `header FILE`, with `-i` or `-X` or without, and `check` with `-s` and `--json` too,
-/// `count` with `--json`, `header` with `--rust`, `utf8 SET..`, or any words with `--help`, `-h` or `--version`. Behind `utf8` the version is that of Unicode. Flags may
+/// `header FILE`, `count FILE` or `check FILE..`, with `-i` or `-X` or without, and `check` with `-s` and `--json` too,
+/// `trace` with `--offsets`, `header` with `--rust`, `count` with `--json`, `utf8 SET..`, or any words with `--help`, `-h` or `--version`. Behind `utf8` the version is that of Unicode. Flags may
 /// be repeated. Words that it refuses by `Usage` ask for nothing.
 pub fn read_args(alloc: Global, words: &[String]) -> Result<Look, ArgsError>
     ensures asked { IfOk result (AsksToShow (map string_bytes words.now)) }
@@ -179,18 +176,35 @@ fn with_files<'a>(
     Ok(with)
 }
 
-/// The words of a subcommand: how patterns are read, and its files.
+/// The command with these flags more, each a word.
+fn with_long_flags<'a>(
+    alloc: Global,
+    command: Command<'a>,
+    words: &[&'a str],
+) -> Result<Command<'a>, AllocError>
+    ensures { IfOk result (λ c. app_of c
+        ≡ fold with_rule (app_of command.entry) (map (λ word. long_rule word.now) words.now)) }
+{
+    let mut with = command;
+    for word in words {
+        with = with.arg(long_flag(alloc, *word))?;
+    }
+    Ok(with)
+}
+
+/// The words of a subcommand: how patterns are read, flags of its own, and its files.
 fn file_command<'a>(
     alloc: Global,
     name: &'a str,
+    words: &[&'a str],
     files: &[&'a str],
 ) -> Result<Command<'a>, AllocError>
-    ensures { IfOk result (λ c. app_of c
-        ≡ file_app name.entry.now (map (λ file. needed_rule file.now) files.now)) }
+    ensures { IfOk result (λ c. app_of c ≡ file_app name.entry.now (own_rules words.now files.now)) }
 {
     let flags = &[("fold", 'i'), ("posix", 'X')];
     let command = Command::new(alloc, name).disable_help_flag(true);
     let command = with_flags(alloc, command, flags)?;
+    let command = with_long_flags(alloc, command, words)?;
     with_files(alloc, command, files)
 }
 
@@ -199,26 +213,27 @@ fn with_look<'a>(
     alloc: Global,
     top: Command<'a>,
     name: &'a str,
+    words: &[&'a str],
     files: &[&'a str],
 ) -> Result<Command<'a>, AllocError>
-    ensures { IfOk result (λ c. app_of c ≡ with_subcommand (app_of top.entry)
-        (file_app name.entry.now (map (λ file. needed_rule file.now) files.now)).top) }
+    ensures { IfOk result (λ c. app_of c
+        ≡ with_subcommand (app_of top.entry) (file_app name.entry.now (own_rules words.now files.now)).top) }
 {
-    top.subcommand(file_command(alloc, name, files)?)
+    top.subcommand(file_command(alloc, name, words, files)?)
 }
 
-/// The words with these subcommands more, each with what its files are called.
+/// The words with these subcommands more, each with its own flags and what its files are called.
 fn with_looks<'a>(
     alloc: Global,
     top: Command<'a>,
-    looks: &[(&'a str, &'a [&'a str])],
+    looks: &[(&'a str, &'a [&'a str], &'a [&'a str])],
 ) -> Result<Command<'a>, AllocError>
     ensures { IfOk result (λ c. app_of c ≡ fold with_subcommand (app_of top.entry)
-        (map (λ look. (file_app look.0.now (map (λ file. needed_rule file.now) look.1.now)).top) looks.now)) }
+        (map (λ look. (file_app look.0.now (own_rules look.1.now look.2.now)).top) looks.now)) }
 {
     let mut with = top;
-    for &(name, files) in looks {
-        with = with_look(alloc, with, name, files)?;
+    for &(name, words, files) in looks {
+        with = with_look(alloc, with, name, words, files)?;
     }
     Ok(with)
 }
@@ -276,53 +291,17 @@ fn with_check<'a>(alloc: Global, top: Command<'a>) -> Result<Command<'a>, AllocE
     top.subcommand(check_command(alloc)?)
 }
 
-/// The words of `header`: how patterns are read, whether it is for Rust, and its file.
-fn header_command<'a>(alloc: Global) -> Result<Command<'a>, AllocError>
-    ensures { IfOk result (λ c. app_of c ≡ file_app (codes "header") header_words) }
-{
-    let flags = &[("fold", 'i'), ("posix", 'X')];
-    let command = Command::new(alloc, "header").disable_help_flag(true);
-    let command = with_flags(alloc, command, flags)?;
-    let command = command.arg(long_flag(alloc, "rust"))?;
-    command.arg(needed_word(alloc, "file"))
-}
-
-/// The words with `header`.
-fn with_header<'a>(alloc: Global, top: Command<'a>) -> Result<Command<'a>, AllocError>
-    ensures { IfOk result (λ c. app_of c
-        ≡ with_subcommand (app_of top.entry) (file_app (codes "header") header_words).top) }
-{
-    top.subcommand(header_command(alloc)?)
-}
-
-/// The words of `count`: how patterns are read, whether counts are told as JSON, and its file.
-fn count_command<'a>(alloc: Global) -> Result<Command<'a>, AllocError>
-    ensures { IfOk result (λ c. app_of c ≡ file_app (codes "count") counts_words) }
-{
-    let flags = &[("fold", 'i'), ("posix", 'X')];
-    let command = Command::new(alloc, "count").disable_help_flag(true);
-    let command = with_flags(alloc, command, flags)?;
-    let command = command.arg(long_flag(alloc, "json"))?;
-    command.arg(needed_word(alloc, "file"))
-}
-
-/// The words with `count`.
-fn with_count<'a>(alloc: Global, top: Command<'a>) -> Result<Command<'a>, AllocError>
-    ensures { IfOk result (λ c. app_of c
-        ≡ with_subcommand (app_of top.entry) (file_app (codes "count") counts_words).top) }
-{
-    top.subcommand(count_command(alloc)?)
-}
-
 const ONE: &[&str] = &["file"];
 
-/// The subcommands that have files and no words of their own.
-const LOOKS: &[(&str, &[&str])] = &[
-    ("picture", ONE),
-    ("same", &["left", "right"]),
-    ("lines", ONE),
-    ("words", ONE),
-    ("trace", ONE),
+/// The subcommands of files: their names, the flags of their own, and what the files are called.
+const LOOKS: &[(&str, &[&str], &[&str])] = &[
+    ("picture", &[], ONE),
+    ("same", &[], &["left", "right"]),
+    ("lines", &[], ONE),
+    ("words", &[], ONE),
+    ("trace", &["offsets"], ONE),
+    ("header", &["rust"], ONE),
+    ("count", &["json"], ONE),
 ];
 
 /// The words that the program knows.
@@ -336,9 +315,7 @@ fn command<'a>(alloc: Global) -> Result<Command<'a>, AllocError>
         .subcommand_required(true);
     let top = with_looks(alloc, top, LOOKS)?;
     let top = with_letters(alloc, top)?;
-    let top = with_check(alloc, top)?;
-    let top = with_header(alloc, top)?;
-    with_count(alloc, top)
+    with_check(alloc, top)
 }
 
 /// What the matches ask for.
@@ -351,16 +328,14 @@ fn look_of(alloc: Global, matches: &ArgMatches<'_>) -> Result<Look, ArgsError>
         Some((name, found)) if name == "same" => same_look(alloc, found),
         Some((name, found)) if name == "utf8" => letters_look(alloc, found),
         Some((name, found)) if name == "check" => check_look(alloc, found),
-        Some((name, found)) if name == "header" => header_look(alloc, found),
-        Some((name, found)) if name == "count" => count_look(alloc, found),
         Some((name, found)) => one_look(alloc, name, found),
         None => Err(ArgsError::Usage),
     }
 }
 
-/// The subcommand of this name, among those of one file.
-fn named(name: &str) -> Option<Subcommand>
-    ensures some { IfSome result (λ what. name.now ≡ name_of what) }
+/// The subcommand of this name, among those of one file, with its own flag as it stands there.
+fn named(name: &str, found: &ArgMatches<'_>) -> Option<Subcommand>
+    ensures some { IfSome result (λ what. (name.now ≡ name_of what) × HasOwn what (rows_of (found_of found.now))) }
     ensures none { result ≡ None → (what : Subcommand) → name.now ≡ name_of what → ⊥ }
 {
     if name == "picture" {
@@ -370,7 +345,14 @@ fn named(name: &str) -> Option<Subcommand>
     } else if name == "words" {
         Some(Subcommand::Words)
     } else if name == "trace" {
-        Some(Subcommand::Trace)
+        let offsets = has(found, "offsets");
+        Some(Subcommand::Trace { offsets })
+    } else if name == "header" {
+        let rust = has(found, "rust");
+        Some(Subcommand::Header { rust })
+    } else if name == "count" {
+        let json = has(found, "json");
+        Some(Subcommand::Count { json })
     } else {
         None
     }
@@ -380,10 +362,9 @@ fn named(name: &str) -> Option<Subcommand>
 fn one_look(alloc: Global, name: &str, found: &ArgMatches<'_>) -> Result<Look, ArgsError>
     ensures asked { IfOk result (IsLookOf (Some (name.now, rows_of (found_of found.now)))) }
     ensures refused { IfErr result (λ e. e ≡ ArgsError.Usage → name.now ≢ codes "same" → name.now ≢ codes "utf8"
-        → name.now ≢ codes "check" → name.now ≢ codes "header" → name.now ≢ codes "count"
-        → (look : Look) → IsLookOf (Some (name.now, rows_of (found_of found.now))) look → ⊥) }
+        → name.now ≢ codes "check" → (look : Look) → IsLookOf (Some (name.now, rows_of (found_of found.now))) look → ⊥) }
 {
-    let what = match named(name) {
+    let what = match named(name, found) {
         None => return Err(ArgsError::Usage),
         Some(what) => what,
     };
@@ -441,40 +422,6 @@ fn check_look(alloc: Global, found: &ArgMatches<'_>) -> Result<Look, ArgsError>
     Ok(Look::Check {
         files: files_of(alloc, found)?,
         strict: has(found, "strict"),
-        json: has(found, "json"),
-        patterns: patterns_of(found),
-    })
-}
-
-/// The constants that the matches behind their name ask for.
-fn header_look(alloc: Global, found: &ArgMatches<'_>) -> Result<Look, ArgsError>
-    ensures asked { IfOk result (IsLookOf (Some (codes "header", rows_of (found_of found.now)))) }
-    ensures refused { IfErr result (λ e. e ≡ ArgsError.Usage
-        → (look : Look) → IsLookOf (Some (codes "header", rows_of (found_of found.now))) look → ⊥) }
-{
-    let file = match value_of(found, "file") {
-        None => return Err(ArgsError::Usage),
-        Some(file) => file,
-    };
-    Ok(Look::Header {
-        file: String::from_str(alloc, file)?,
-        rust: has(found, "rust"),
-        patterns: patterns_of(found),
-    })
-}
-
-/// The counts that the matches behind their name ask for.
-fn count_look(alloc: Global, found: &ArgMatches<'_>) -> Result<Look, ArgsError>
-    ensures asked { IfOk result (IsLookOf (Some (codes "count", rows_of (found_of found.now)))) }
-    ensures refused { IfErr result (λ e. e ≡ ArgsError.Usage
-        → (look : Look) → IsLookOf (Some (codes "count", rows_of (found_of found.now))) look → ⊥) }
-{
-    let file = match value_of(found, "file") {
-        None => return Err(ArgsError::Usage),
-        Some(file) => file,
-    };
-    Ok(Look::Count {
-        file: String::from_str(alloc, file)?,
         json: has(found, "json"),
         patterns: patterns_of(found),
     })

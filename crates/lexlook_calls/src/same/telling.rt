@@ -9,9 +9,9 @@ ghost use Rattle.lexlook_tables.specs.Same.{number_in};
 ghost use Rattle.lexlook_tables.specs.declared.same.tables.Comparison.{Comparison};
 ghost use Rattle.lexlook_calls.specs.Sides.{read_as};
 
-use crate::labels::{add_condition, add_rule, add_start, add_string};
+use crate::labels::{add_condition, add_rule, add_start};
 use crate::sides::Side;
-use lexlook_specs::add;
+use lexlook_specs::{add, add_string};
 use lexlook_tables::{Comparison, Difference, number_in, rules_after};
 use lexspec::Spec;
 use lextab_packed::Tables;

@@ -1,4 +1,4 @@
-use Rattle.std.proofs.Common.{ℕ, Ok, Option, arith, subst}
+use Rattle.std.proofs.Common.{ℕ, [], Ok, Option, arith, subst}
 use Rattle.lextab_packed.specs.FlatViews.{tables_of}
 use Rattle.lextab_packed.specs.Machines.{table_machine}
 use Rattle.lexlook_counts.specs.Counting.{CountsOn}
@@ -6,16 +6,23 @@ use Rattle.lexlook_counts.proofs.Fed.{by_memory, few_ends, fresh, has_told}
 use Rattle.lexlook_counts.proofs.counting.count_source.Goals as goal
 
 pub steps-init : goal.steps-init
-steps-init g c = fresh g.S.Source.gave g.S.Source.ends g.S.Source.failures (table_machine (tables_of c.args.machine)) c.args.rules c.args.conditions c.args.source.now c.in-Ok.scan (g.met.S.Source.gave_none c.args.source.now) c.in-Ok.ensures
+steps-init g c =
+    let M = table_machine (tables_of c.args.machine) in
+    let f = c.in-Ok.ensures in
+    record { given = []; tokens = []; read = fresh g.S.Source.gave g.S.Source.ends g.S.Source.failures M c.args.source.now c.in-Ok.scan.reader (g.met.S.Source.gave_none c.args.source.now) f.0; counts = f.1 }
 
 pub step-requires-clause-told : goal.step-requires-clause-told
-step-requires-clause-told g c = has_told g.S.Source.gave g.S.Source.ends g.S.Source.failures (table_machine (tables_of c.args.machine)) c.args.rules c.args.conditions c.args.source.now c.steps.source c.steps.scan c.steps.invariant
+step-requires-clause-told g c =
+    let h = c.steps.invariant in
+    has_told g.S.Source.gave g.S.Source.ends g.S.Source.failures (table_machine (tables_of c.args.machine)) c.args.source.now c.steps.source h.given h.tokens c.steps.scan.reader h.read
 
 pub step-requires-clause-ends : goal.step-requires-clause-ends
-step-requires-clause-ends g c = few_ends g.S.Source.gave g.S.Source.ends g.S.Source.failures (table_machine (tables_of c.args.machine)) c.args.rules c.args.conditions c.args.source.now c.steps.source c.steps.scan c.steps.invariant c.requires.ends
+step-requires-clause-ends g c =
+    let h = c.steps.invariant in
+    few_ends g.S.Source.gave g.S.Source.ends g.S.Source.failures (table_machine (tables_of c.args.machine)) c.args.source.now c.steps.source h.given h.tokens c.steps.scan.reader h.read c.requires.ends
 
 pub step-requires-clause-reads : goal.step-requires-clause-reads
-step-requires-clause-reads g c = omega (arith, c.steps.invariant.reads, c.requires.reads)
+step-requires-clause-reads g c = omega (arith, c.steps.invariant.read.reads, c.requires.reads)
 
 pub returns-in-Ok-Some : goal.returns-in-Ok-Some
 returns-in-Ok-Some g c =
@@ -33,4 +40,6 @@ steps-preserved g c =
     (c.in-Ok-None.ensures M c.args.rules c.args.conditions c.args.source.now c.steps.invariant)
 
 pub returns : goal.returns
-returns g c = by_memory g.S.Source.gave g.S.Source.ends g.S.Source.failures (table_machine (tables_of c.args.machine)) c.args.rules c.args.conditions c.args.source.now c.steps.source c.steps.scan c.steps.invariant
+returns g c =
+    let h = c.steps.invariant in
+    (h.given, by_memory g.S.Source.gave g.S.Source.ends g.S.Source.failures (table_machine (tables_of c.args.machine)) c.args.source.now c.steps.source h.given h.tokens c.steps.scan.reader h.read)

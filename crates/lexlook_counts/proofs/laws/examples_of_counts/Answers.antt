@@ -14,5 +14,6 @@ returns c = record {
   matched = refl;
   never = refl;
   none = refl;
+  placed = refl;
   json = refl;
 }

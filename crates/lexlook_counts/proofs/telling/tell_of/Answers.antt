@@ -30,10 +30,10 @@ returns-in-Err-clause-told g c =
     (recounted g.S.Source.gave g.S.Source.ends g.S.Source.failures M _ _ (length (rules_in S)) (length (conditions_in S)) c.args.source.now c.count_source.new.source (Err c.in-Err.error) rules conditions c.in-Err.ensures)
 
 pub returns-in-Err-clause-reads : goal.returns-in-Err-clause-reads
-returns-in-Err-clause-reads g c = c.in-Err.ensures.reads
+returns-in-Err-clause-reads g c = c.in-Err.ensures.1.reads
 
 pub returns-in-Err-clause-writes : goal.returns-in-Err-clause-writes
-returns-in-Err-clause-writes g c = let none = no_write ℕ c.in-Err.error c.in-Err.ensures.not_write in omega (arith, none)
+returns-in-Err-clause-writes g c = let none = no_write ℕ c.in-Err.error c.in-Err.ensures.1.not_write in omega (arith, none)
 
 pub returns-in-Err-lines_for-clause-told : goal.returns-in-Err-lines_for-clause-told
 returns-in-Err-lines_for-clause-told g c =

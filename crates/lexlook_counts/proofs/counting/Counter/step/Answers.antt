@@ -1,85 +1,24 @@
-use Rattle.std.proofs.Common.{◌≡◌, ◌∙◌, Bool, [], ◌∷◌, ◌++◌, Ok, Err, ap, false, subst, sym}
-use Rattle.lex_semantics.specs.Machine.{Machine}
-use Rattle.lexscan.specs.Pulls.{AfterPull, TokensTold, whole_token}
-use Rattle.lexscan.specs.Scanners.{pull_finished, pull_state, pull_text, pull_waiting}
-use Rattle.lexscan.specs.declared.pull.Pulled.{Pulled}
-use Rattle.lexscan.specs.declared.pull.Pulled.TheVariants as pulls
-use Rattle.lexscan_window.specs.declared.error.RunError.TheVariants as runs
-use Rattle.lextab_packed.specs.FlatViews.{tables_of}
-use Rattle.lextab_packed.specs.Machines.{table_machine}
-use Rattle.lextab_packed.specs.declared.flat.Flat.{Flat}
-use Rattle.lexlook_counts.specs.Counting.{counter_machine}
-use Rattle.lexlook_counts.specs.Counts.{IsTallyOf}
-use Rattle.lexlook_counts.specs.declared.counting.Counter.{Counter}
-use Rattle.lexlook_counts.proofs.Fed.{by_feeding, by_stack, fed_more, pulled_by, still}
+use Rattle.std.proofs.Common.{[], ◌∷◌, ◌++◌, subst, Ok}
+use Rattle.lexscan.specs.Pulls.{whole_token}
+use Rattle.lexlook_counts.specs.Reading.{ReadsOn}
+use Rattle.lexlook_counts.specs.declared.reading.Read.{Read}
 use Rattle.lexlook_counts.proofs.counting.Counter.step.Goals as goal
-
-pub feed_on-requires-clause-ends : goal.feed_on-requires-clause-ends
-feed_on-requires-clause-ends g c =
-    let w = c.args.self.now in
-    let s = c.next.new.self in
-    let (fed, tokens, told) = c.requires.told in
-    let after = subst (λ (u : Pulled). AfterPull (counter_machine w) fed (pull_finished w.scanner) tokens (pull_state s) (pull_waiting s) (pull_text s) (Ok u)) c.in-Ok-More.field-0-is (c.in-Ok-More.ensures.pulled fed tokens told) in
-    c.requires.ends after.0.1
-
-pub feed_on-requires-clause-unfinished : goal.feed_on-requires-clause-unfinished
-feed_on-requires-clause-unfinished g c =
-    let w = c.args.self.now in
-    let s = c.next.new.self in
-    let (fed, tokens, told) = c.requires.told in
-    let after = subst (λ (u : Pulled). AfterPull (counter_machine w) fed (pull_finished w.scanner) tokens (pull_state s) (pull_waiting s) (pull_text s) (Ok u)) c.in-Ok-More.field-0-is (c.in-Ok-More.ensures.pulled fed tokens told) in
-    c.next.ensures.finished ∙ after.0.1
 
 pub returns-in-Ok-Token : goal.returns-in-Ok-Token
 returns-in-Ok-Token g c M rules conditions s0 h =
-    let w = c.args.self.now in
-    let s = c.next.new.self in
     let t = c.in-Ok-Token.token in
-    let d : Counter = record { scanner = s; tally = c.count.new.self } in
-    let after = pulled_by (counter_machine w) M h.given (pull_finished w.scanner) h.tokens (pull_state w.scanner) (pull_state s) (pull_waiting w.scanner) (pull_waiting s) (pull_text s) (Ok c.in-Ok-Token.field-0) (Ok (pulls.Token t)) h.machine (ap Ok c.in-Ok-Token.field-0-is) (c.in-Ok-Token.ensures.pulled h.given h.tokens) h.told in
-    still g.S.Source.gave g.S.Source.ends g.S.Source.failures M rules conditions s0 c.args.source.now w h d (h.tokens ++ whole_token t ∷ []) (ap (λ (f : Flat). table_machine (tables_of f)) c.next.ensures.machine) c.next.ensures.finished after.0
-    (c.count.ensures rules conditions h.tokens h.counts)
+    let read = subst (λ (u : Read). ReadsOn g.S.Source.gave g.S.Source.ends g.S.Source.failures M s0 c.read_on.new.source h.given h.tokens c.read_on.new.self (Ok u)) c.in-Ok-Token.field-0-is (c.in-Ok-Token.ensures M s0 h.given h.tokens h.read) in
+    record { given = h.given; tokens = h.tokens ++ whole_token t ∷ []; read = read.0; counts = c.count.ensures rules conditions h.tokens h.counts }
+
+pub returns-in-Ok-Fed : goal.returns-in-Ok-Fed
+returns-in-Ok-Fed g c M rules conditions s0 h =
+    let read = subst (λ (u : Read). ReadsOn g.S.Source.gave g.S.Source.ends g.S.Source.failures M s0 c.read_on.new.source h.given h.tokens c.read_on.new.self (Ok u)) c.in-Ok-Fed.field-0-is (c.in-Ok-Fed.ensures M s0 h.given h.tokens h.read) in
+    record { given = h.given ++ read.0; tokens = h.tokens; read = read.1; counts = h.counts }
 
 pub returns-in-Ok-Ended : goal.returns-in-Ok-Ended
 returns-in-Ok-Ended g c M rules conditions s0 h =
-    let w = c.args.self.now in
-    let s = c.next.new.self in
-    let after = pulled_by (counter_machine w) M h.given (pull_finished w.scanner) h.tokens (pull_state w.scanner) (pull_state s) (pull_waiting w.scanner) (pull_waiting s) (pull_text s) (Ok c.in-Ok-Ended.field-0) (Ok (pulls.Ended c.in-Ok-Ended.status)) h.machine (ap Ok c.in-Ok-Ended.field-0-is) (c.in-Ok-Ended.ensures.pulled h.given h.tokens) h.told in
-    record {
-      given = h.given;
-      at_end = pull_finished w.scanner;
-      tokens = h.tokens;
-      source = h.source;
-      ends = h.ends;
-      reads = h.reads;
-      all = after.1;
-      counts = h.counts;
-    }
+    let read = subst (λ (u : Read). ReadsOn g.S.Source.gave g.S.Source.ends g.S.Source.failures M s0 c.read_on.new.source h.given h.tokens c.read_on.new.self (Ok u)) c.in-Ok-Ended.field-0-is (c.in-Ok-Ended.ensures M s0 h.given h.tokens h.read) in
+    record { given = h.given; tokens = h.tokens; read = read; counts = h.counts }
 
-pub returns-in-Err-feed_on : goal.returns-in-Err-feed_on
-returns-in-Err-feed_on g c M rules conditions s0 h =
-    let fed = c.feed_on.ensures.fed in
-    by_feeding g.S.Source.gave g.S.Source.ends g.S.Source.failures M rules conditions s0 c.args.source.now c.args.self.now h c.feed_on.new.source fed.given c.in-Err-feed_on.error
-    (g.met.S.Source.gave_more s0 c.args.source.now c.feed_on.new.source h.given fed.given h.source fed.source) c.in-Err-feed_on.ensures.reads c.in-Err-feed_on.ensures.refusals
-
-pub returns-in-Ok : goal.returns-in-Ok
-returns-in-Ok g c M rules conditions s0 h =
-    let w = c.args.self.now in
-    let s = c.next.new.self in
-    let d = c.feed_on.new.self in
-    let fed = c.in-Ok.ensures.fed in
-    let same : counter_machine (record { scanner = s; tally = w.tally }) ≡ counter_machine w = ap (λ (f : Flat). table_machine (tables_of f)) c.next.ensures.machine in
-    let after = pulled_by (counter_machine w) M h.given (pull_finished w.scanner) h.tokens (pull_state w.scanner) (pull_state s) (pull_waiting w.scanner) (pull_waiting s) (pull_text s) (Ok c.in-Ok-More.field-0) (Ok pulls.More) h.machine (ap Ok c.in-Ok-More.field-0-is) (c.in-Ok-More.ensures.pulled h.given h.tokens) h.told in
-    let open_end : pull_finished w.scanner ≡ false = after.0.1 in
-    let told = subst (λ (b : Bool). TokensTold M h.given b h.tokens (pull_state s) (pull_waiting s)) open_end after.0.0 in
-    let more = subst (λ (K : Machine). TokensTold K h.given false h.tokens (pull_state s) (pull_waiting s) → TokensTold K (h.given ++ fed.given) (pull_finished d.scanner) h.tokens (pull_state d.scanner) (pull_waiting d.scanner)) (same ∙ h.machine) (fed.told h.given h.tokens) in
-    fed_more g.S.Source.gave g.S.Source.ends g.S.Source.failures M rules conditions s0 c.args.source.now w h c.feed_on.new.source fed.given d open_end (c.feed_on.ensures.machine ∙ same)
-    (g.met.S.Source.gave_more s0 c.args.source.now c.feed_on.new.source h.given fed.given h.source fed.source) c.in-Ok.ensures.ends c.in-Ok.ensures.reads (more told)
-    (subst (λ t. IsTallyOf rules conditions h.tokens t) (sym c.feed_on.ensures.tally) h.counts)
-
-pub returns-in-Err-Stack : goal.returns-in-Err-Stack
-returns-in-Err-Stack g c M rules conditions s0 h =
-    let w = c.args.self.now in
-    let s = c.next.new.self in
-    let after = pulled_by (counter_machine w) M h.given (pull_finished w.scanner) h.tokens (pull_state w.scanner) (pull_state s) (pull_waiting w.scanner) (pull_waiting s) (pull_text s) (Err c.in-Err-Stack.field-0) (Err runs.Stack) h.machine (ap Err c.in-Err-Stack.field-0-is) (c.in-Err-Stack.ensures.pulled h.given h.tokens) h.told in
-    by_stack g.S.Source.gave g.S.Source.ends g.S.Source.failures M rules conditions s0 c.args.source.now w h after.0
+pub returns-in-Err : goal.returns-in-Err
+returns-in-Err g c M rules conditions s0 h = (h.given, c.in-Err.ensures M s0 h.given h.tokens h.read)

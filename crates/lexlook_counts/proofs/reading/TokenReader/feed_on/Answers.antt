@@ -4,8 +4,8 @@ use Rattle.lex_io.specs.Source.{given}
 use Rattle.lex_io.specs.declared.source.ReadFault.{ReadFault}
 use Rattle.lexscan.specs.Pulls.{TokensTold}
 use Rattle.lexscan.specs.Scanners.{pull_finished, pull_state, pull_waiting}
-use Rattle.lexlook_counts.specs.Counting.{counter_machine}
-use Rattle.lexlook_counts.proofs.counting.Counter.feed_on.Goals as goal
+use Rattle.lexlook_counts.specs.Reading.{reader_machine}
+use Rattle.lexlook_counts.proofs.reading.TokenReader.feed_on.Goals as goal
 
 pub returns-in-Err-clause-fed : goal.returns-in-Err-clause-fed
 returns-in-Err-clause-fed g c = record { given = []; source = g.met.S.Source.gave_none c.args.source.now; told = λ fed tokens h. tt }
@@ -19,7 +19,7 @@ returns-then-count-ne0-clause-fed g c =
     record {
       given = c.ahead-ready.result.now;
       source = subst (λ (xs : List ℕ). g.S.Source.gave c.args.source.now xs c.give.new.self) all c.give.ensures.bytes;
-      told = λ fed tokens h. subst (λ (b : Bool). TokensTold (counter_machine w) (fed ++ c.ahead-ready.result.now) b tokens (pull_state s) (pull_waiting s)) (sym (c.feed.ensures.unfinished ∙ c.requires.unfinished))
+      told = λ fed tokens h. subst (λ (b : Bool). TokensTold (reader_machine w) (fed ++ c.ahead-ready.result.now) b tokens (pull_state s) (pull_waiting s)) (sym (c.feed.ensures.unfinished ∙ c.requires.unfinished))
           (c.in-Ok.ensures.told fed tokens c.requires.unfinished h);
     }
 
@@ -30,9 +30,9 @@ returns-in-Ok-None-clause-fed g c =
     record {
       given = [];
       source = subst (λ (o : Option ℕ). g.S.Source.gave c.args.source.now (given {E = ReadFault} (Ok o)) c.next.new.self) c.in-Ok-None.field-0-is c.in-Ok-None.ensures.byte;
-      told = λ fed tokens h. subst (λ (l : List ℕ). TokensTold (counter_machine w) l (pull_finished s) tokens (pull_state s) (pull_waiting s)) (sym (append-nil fed))
-          (subst (λ (b : Bool). TokensTold (counter_machine w) fed b tokens (pull_state s) (pull_waiting s)) (sym c.finish.ensures.finished)
-          (c.finish.ensures.told fed tokens (subst (λ (b : Bool). TokensTold (counter_machine w) fed b tokens (pull_state w.scanner) (pull_waiting w.scanner)) (sym c.requires.unfinished) h)));
+      told = λ fed tokens h. subst (λ (l : List ℕ). TokensTold (reader_machine w) l (pull_finished s) tokens (pull_state s) (pull_waiting s)) (sym (append-nil fed))
+          (subst (λ (b : Bool). TokensTold (reader_machine w) fed b tokens (pull_state s) (pull_waiting s)) (sym c.finish.ensures.finished)
+          (c.finish.ensures.told fed tokens (subst (λ (b : Bool). TokensTold (reader_machine w) fed b tokens (pull_state w.scanner) (pull_waiting w.scanner)) (sym c.requires.unfinished) h)));
     }
 
 pub returns-in-Ok-feed-clause-fed : goal.returns-in-Ok-feed-clause-fed
@@ -42,6 +42,6 @@ returns-in-Ok-feed-clause-fed g c =
     record {
       given = c.in-Ok-Some.byte ∷ [];
       source = subst (λ (o : Option ℕ). g.S.Source.gave c.args.source.now (given {E = ReadFault} (Ok o)) c.next.new.self) c.in-Ok-Some.field-0-is c.in-Ok-Some.ensures.byte;
-      told = λ fed tokens h. subst (λ (b : Bool). TokensTold (counter_machine w) (fed ++ c.in-Ok-Some.byte ∷ []) b tokens (pull_state s) (pull_waiting s)) (sym (c.feed-in-Ok-Some.ensures.unfinished ∙ c.requires.unfinished))
+      told = λ fed tokens h. subst (λ (b : Bool). TokensTold (reader_machine w) (fed ++ c.in-Ok-Some.byte ∷ []) b tokens (pull_state s) (pull_waiting s)) (sym (c.feed-in-Ok-Some.ensures.unfinished ∙ c.requires.unfinished))
           (c.in-Ok-feed.ensures.told fed tokens c.requires.unfinished h);
     }
