@@ -1,11 +1,14 @@
 //! Definitions sections.
-use crate::specifications::PLAIN;
+use lexspec::ReadOptions;
 use lexspec_actions::{Condition, number_of};
-use lexspec_lines::{
-    Declarations, Section, Skipped, is_all_blank, is_blank, newlines_before, read_section,
-    skip_blanks, skip_block, split_before, split_line, starts_blank,
-};
+use lexspec_lines::{Declarations, Section, read_section};
 use std::test::Fail;
+
+/// Patterns as they stand, and intervals over items.
+const PLAIN: ReadOptions = ReadOptions {
+    fold: false,
+    posix: false,
+};
 
 const DECLARING: &[u8] =
     b"%s A\n%x B\n%option case-insensitive\nD [0-9]\n%{\nint n;\n%}\n%%\na ;\n";
@@ -46,44 +49,4 @@ fn are_declared(conditions: &[Condition]) -> bool {
     conditions.len() == 3
         && number_of(conditions, b"B") == Some(2)
         && number_of(conditions, b"C").is_none()
-}
-
-/// Whether texts are split at a newline and before a byte.
-fn splits() -> bool {
-    let (line, rest) = split_line(b"a b\nc".as_slice());
-    let (front, back) = split_before(|byte| byte == b':', b"ab:c".as_slice());
-    line == b"a b".as_slice()
-        && rest == b"c".as_slice()
-        && front == b"ab".as_slice()
-        && back == b":c".as_slice()
-}
-
-/// Whether blanks are told from other bytes.
-fn tells_blanks() -> bool {
-    let bytes = is_blank(b'\t') && is_blank(b' ') && !is_blank(b'\n');
-    let texts = is_all_blank(b" \t".as_slice()) && !is_all_blank(b" \n".as_slice());
-    let starts = starts_blank(b" a".as_slice()) && !starts_blank(b"a ".as_slice());
-    bytes && texts && starts && skip_blanks(b" \t a ".as_slice()) == b"a ".as_slice()
-}
-
-/// Lines and blanks of a text.
-#[test]
-fn lines_and_blanks(rt: HostRuntime) {
-    assert!(rt; splits());
-    assert!(rt; tells_blanks());
-    assert!(rt; newlines_before(b"a\nb\nc".as_slice(), b"c".as_slice()) == 2);
-    assert!(rt; skip_block(b"a\n%} b\nc".as_slice()) == Some(b"c".as_slice()));
-    assert!(rt; skip_block(b"a\n".as_slice()).is_none());
-}
-
-/// A run of code lines is reported once, and each block by itself.
-#[test]
-fn skipped_lines(rt: HostRuntime) -> Result<(), Fail> {
-    let mut skipped = Skipped::new(rt.alloc());
-    skipped.add_line(3)?;
-    skipped.add_line(4)?;
-    skipped.add_block(6)?;
-    skipped.add_line(9)?;
-    assert_eq!(rt; skipped.lines.as_slice(), [3, 6, 9].as_slice());
-    Ok(())
 }

@@ -1,13 +1,9 @@
-//! Worked values, that the clauses mean what they should.
-ghost use Rattle.std.specs.Option.{ForSome};
-ghost use Rattle.std.specs.Prelude.{◌≤◌, IfOk};
+//! Patterns that no text spells, classes whose members are counted by hand, and definitions that find no room.
+ghost use Rattle.std.specs.Prelude.{IfOk};
 ghost use Rattle.lex_semantics.specs.Shapes.{IsSoundTree};
 ghost use Rattle.lexre.specs.Views.{tree_of};
 
-use lexre::{
-    ByteSet, Defs, DefsError, Lengths, Pattern, lengths, one_cutting, one_tree, positions,
-    readings_use_own_positions,
-};
+use lexre::{ByteSet, Defs, DefsError, Lengths, Pattern, lengths, positions};
 use std::alloc::{AllocError, Global};
 use std::rc::Rc;
 use std::test::Fail;
@@ -25,15 +21,6 @@ fn star(alloc: Global, inner: Pattern) -> Result<Pattern, AllocError>
     ensures { IfOk result (λ p. IsSoundTree (tree_of p)) }
 {
     Ok(Pattern::Star(Rc::new(alloc, inner)?))
-}
-
-/// From m to n times, or from m times on.
-fn repeat(alloc: Global, inner: Pattern, m: u8, n: Option<u8>) -> Result<Pattern, AllocError>
-    requires sound { IsSoundTree (tree_of inner) }
-    requires in_order { ForSome n (λ n. (m ≤ n) × (1 ≤ n)) }
-    ensures { IfOk result (λ p. IsSoundTree (tree_of p)) }
-{
-    Ok(Pattern::Repeat(Rc::new(alloc, inner)?, m, n))
 }
 
 /// One after the other.
@@ -72,41 +59,6 @@ fn measures(pattern: &Pattern, bounds: Option<Bounds>, count: Option<u32>) -> bo
     requires { IsSoundTree (tree_of pattern.now) }
 {
     bounds_of(pattern) == bounds && positions(pattern) == count
-}
-
-#[test]
-fn laws() {
-    readings_use_own_positions();
-    one_tree();
-    one_cutting();
-}
-
-/// Whether letters get their other case, and no others.
-fn folds_letters() -> bool {
-    let letters = ByteSet::range(b'a', b'c').fold_case();
-    letters.contains(b'B') && letters.contains(b'c') && !letters.contains(b'd')
-}
-
-/// Whether signs beside the letters stay as they are.
-fn folds_signs() -> bool {
-    let signs = ByteSet::range(b'@', b'[');
-    signs.fold_case() == signs.union(&ByteSet::range(b'a', b'z'))
-}
-
-/// Whether a union has the bytes of both sets, and its complement the others.
-fn joins_sets() -> bool {
-    let letters = ByteSet::range(b'a', b'c').union(&ByteSet::of(b'x'));
-    let others = letters.complement();
-    let within = letters.contains(b'b') && letters.contains(b'x') && !letters.contains(b'd');
-    within && !others.contains(b'b') && others.contains(b'd')
-}
-
-#[test]
-fn sets(rt: HostRuntime) {
-    assert!(rt; folds_letters() && folds_signs() && joins_sets());
-    assert!(rt; ByteSet::of(200).complement().complement() == ByteSet::of(200));
-    assert!(rt; ByteSet::of(7).union(&ByteSet::empty()) == ByteSet::of(7));
-    assert!(rt; ByteSet::range(0, 255).complement().is_empty() && !ByteSet::of(255).is_empty());
 }
 
 // The first and the last byte of each class of the POSIX locale, and how many bytes it has.
@@ -153,71 +105,6 @@ fn classes(rt: HostRuntime) {
     for name in NO_CLASSES {
         assert!(rt; ByteSet::named(name).is_none());
     }
-}
-
-/// a{2,3}b?.
-fn repeated_and_maybe(alloc: Global) -> Result<Pattern, AllocError>
-    ensures { IfOk result (λ p. IsSoundTree (tree_of p)) }
-{
-    let twice = repeat(alloc, byte(b'a'), 2, Some(3))?;
-    let maybe = repeat(alloc, byte(b'b'), 0, Some(1))?;
-    cat(alloc, twice, maybe)
-}
-
-/// (ab)*.
-fn pairs(alloc: Global) -> Result<Pattern, AllocError>
-    ensures { IfOk result (λ p. IsSoundTree (tree_of p)) }
-{
-    let pair = cat(alloc, byte(b'a'), byte(b'b'))?;
-    star(alloc, pair)
-}
-
-#[test]
-fn counts(rt: HostRuntime) -> Result<(), Fail> {
-    let alloc = rt.alloc();
-    assert!(rt; measures(&repeated_and_maybe(alloc)?, Some((2, Some(4))), Some(4)));
-    assert!(rt; measures(&pairs(alloc)?, Some((0, None)), Some(2)));
-
-    // (""*)
-    let nothing = star(alloc, Pattern::Empty)?;
-    assert!(rt; measures(&nothing, Some((0, Some(0))), Some(0)));
-
-    // a{0,}
-    let any = repeat(alloc, byte(b'a'), 0, None)?;
-    assert!(rt; measures(&any, Some((0, None)), Some(1)));
-    Ok(())
-}
-
-/// 255 times 255 times .. the byte a, as many times as given.
-fn huge(alloc: Global, times: u8) -> Result<Pattern, AllocError>
-    ensures { IfOk result (λ p. IsSoundTree (tree_of p)) }
-{
-    let mut pattern = byte(b'a');
-    for _ in 0..times {
-        pattern = repeat(alloc, pattern, 255, Some(255))?;
-    }
-    Ok(pattern)
-}
-
-/// More than can be counted, or any number of times b.
-fn huge_or_any(alloc: Global) -> Result<Pattern, AllocError>
-    ensures { IfOk result (λ p. IsSoundTree (tree_of p)) }
-{
-    let large = huge(alloc, 5)?;
-    let any = star(alloc, byte(b'b'))?;
-    alt(alloc, large, any)
-}
-
-#[test]
-fn counts_past_the_limit(rt: HostRuntime) -> Result<(), Fail> {
-    const MOST: u32 = 255 * 255 * 255;
-    let alloc = rt.alloc();
-    assert!(rt; measures(&huge(alloc, 3)?, Some((MOST, Some(MOST))), Some(MOST)));
-    assert!(rt; measures(&huge(alloc, 5)?, None, None));
-
-    // a part may pass the limit where the whole has no length that does
-    assert!(rt; measures(&huge_or_any(alloc)?, Some((0, None)), None));
-    Ok(())
 }
 
 /// One more pair of parentheses: ((..)**..*a|b), with 64 signs.
@@ -269,20 +156,6 @@ fn has_text(definitions: &Defs, name: &[u8], text: &[u8]) -> bool {
     definitions.find(name).is_some_and(|found| found == text)
 }
 
-/// Whether two names are added, one of them once more in vain.
-fn adds_names(definitions: &mut Defs) -> bool {
-    let both = definitions.add(b"D", b"[0-9]").is_ok() && definitions.add(b"N", b"{D}+").is_ok();
-    both && definitions.add(b"D", b"x") == Err(DefsError::Duplicate)
-}
-
-#[test]
-fn definitions(rt: HostRuntime) {
-    let mut definitions = Defs::new(rt.alloc());
-    assert!(rt; definitions.find(b"D").is_none() && adds_names(&mut definitions));
-    let both = has_text(&definitions, b"D", b"[0-9]") && has_text(&definitions, b"N", b"{D}+");
-    assert!(rt; both && definitions.find(b"d").is_none());
-}
-
 /// A name that finds no room is not added, and those before it stay (`scripts/campaigns/refuse-memory.py` refuses the room).
 #[test]
 fn refused_definitions(rt: HostRuntime) -> Result<(), Fail> {
@@ -299,31 +172,5 @@ fn refused_definitions(rt: HostRuntime) -> Result<(), Fail> {
         }
     }
     assert_eq!(rt; definitions.add(b"a", b"x"), Err(DefsError::Duplicate));
-    Ok(())
-}
-
-/// Whether a series or choice has two parts, and is bare or not.
-fn is_pair(pattern: &Pattern, bare: bool) -> bool {
-    match pattern {
-        Pattern::Cat(parts) => parts.items().len() == 2 && parts.is_bare() == bare,
-        Pattern::Alt(parts) => parts.items().len() == 2 && parts.is_bare() == bare,
-        _ => false,
-    }
-}
-
-/// A list of both.
-fn pair(alloc: Global, first: Pattern, second: Pattern) -> Result<Vec<Pattern>, AllocError> {
-    let parts = vec![in alloc; first, second]?;
-    Ok(parts)
-}
-
-#[test]
-fn parts_of_patterns(rt: HostRuntime) -> Result<(), Fail> {
-    let nothing = pair(rt.alloc(), Pattern::Empty, Pattern::Empty)?;
-    let nothing = Pattern::series(rt.alloc(), nothing)?;
-    assert!(rt; is_pair(&nothing, true) && positions(&nothing) == Some(0));
-    let letter = pair(rt.alloc(), nothing, Pattern::Set(ByteSet::of(b'a')))?;
-    let letter = Pattern::choice(rt.alloc(), letter)?;
-    assert!(rt; is_pair(&letter, false) && positions(&letter) == Some(1));
     Ok(())
 }

@@ -1,2 +1,0 @@
-mod Letter
-mod Letters
