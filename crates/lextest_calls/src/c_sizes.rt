@@ -99,6 +99,14 @@ fn tells_the_lines_of_the_most_rules(rt: HostRuntime) -> Result<(), Fail> {
     Ok(())
 }
 
+/// Whether an input is scanned into an output as long.
+fn is_scanned(alloc: Global, file: &[u8], input: &[u8], out: &mut [u8]) -> bool {
+    let mut count = 0;
+    let mut status = 9;
+    let answer = scan_into(alloc, file, input, out, &mut count, &mut status);
+    (answer, count, status) == (Answer::Done, LONG, 0)
+}
+
 /// An input that is one match, and an output as long.
 #[test]
 fn scans_a_long_input(rt: HostRuntime) -> Result<(), Fail> {
@@ -106,12 +114,20 @@ fn scans_a_long_input(rt: HostRuntime) -> Result<(), Fail> {
     let file = file_of(alloc, WORDS, 4_096)?;
     let input = filled(alloc, b'x', LONG)?;
     let mut out = filled(alloc, 0, LONG)?;
+    let scanned = is_scanned(alloc, &file, &input, &mut out);
+    assert!(rt; scanned && out == input);
+    Ok(())
+}
+
+/// Whether a long word and 50,000 blanks are listed, of which there is room for two.
+fn are_listed(alloc: Global, file: &[u8], input: &[u8]) -> bool {
+    let mut tokens = [NO_TOKEN; 2];
     let mut count = 0;
     let mut status = 9;
-    let answer = scan_into(alloc, &file, &input, &mut out, &mut count, &mut status);
-    assert!(rt; (answer, count, status) == (Answer::Done, LONG, 0));
-    assert!(rt; out == input);
-    Ok(())
+    let answer = tokens_into(alloc, file, input, &mut tokens, &mut count, &mut status);
+    (answer, count, status) == (Answer::TooSmall, 50_001, 0)
+        && tokens[0] == token(0, LONG, 0)
+        && tokens[1] == token(LONG, 1_100_001, u32::MAX)
 }
 
 /// A long word, and then many blanks, each of which is a token of the default rule.
@@ -121,13 +137,7 @@ fn lists_many_tokens(rt: HostRuntime) -> Result<(), Fail> {
     let file = file_of(alloc, WORDS, 4_096)?;
     let mut input = filled(alloc, b'x', LONG)?;
     input.resize(1_150_000, b' ')?;
-    let mut tokens = [NO_TOKEN; 2];
-    let mut count = 0;
-    let mut status = 9;
-    let answer = tokens_into(alloc, &file, &input, &mut tokens, &mut count, &mut status);
-    assert!(rt; (answer, count, status) == (Answer::TooSmall, 50_001, 0));
-    assert!(rt; tokens[0] == token(0, LONG, 0));
-    assert!(rt; tokens[1] == token(LONG, 1_100_001, u32::MAX));
+    assert!(rt; are_listed(alloc, &file, &input));
     Ok(())
 }
 

@@ -3,8 +3,6 @@
 #![tactic(auto)]
 
 #[cfg(test)]
-mod automata;
-#[cfg(test)]
 mod building;
 #[cfg(test)]
 mod c_loaded;
@@ -30,10 +28,6 @@ mod longest;
 #[cfg(test)]
 mod looks;
 #[cfg(test)]
-mod machines;
-#[cfg(test)]
-mod packing;
-#[cfg(test)]
 mod pieces;
 #[cfg(test)]
 mod pipelines;
@@ -48,12 +42,8 @@ mod reports;
 #[cfg(test)]
 mod scanning;
 #[cfg(test)]
-mod scans;
-#[cfg(test)]
 mod series;
 #[cfg(test)]
 mod table_files;
 #[cfg(test)]
 mod turns;
-#[cfg(test)]
-mod writers;

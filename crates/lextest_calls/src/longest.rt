@@ -1,4 +1,4 @@
-//! The longest match at the front of a text, and the lines of rules.
+//! The longest match at the front of a text.
 use lexkit::{Options, generate};
 use lexscan::{Candidate, MatchedRule, accepted, longest};
 use lextab::{Machine, Tables};
@@ -47,12 +47,4 @@ fn the_longest_match(rt: HostRuntime) -> Result<(), Fail> {
 /// Whether nothing is matched at the end of an input.
 fn has_no_match(tables: &Tables) -> bool {
     !tables.parts().conditions.is_empty() && longest(tables, 0, true, b"").is_none()
-}
-
-#[test]
-fn tells_the_lines_of_rules(rt: HostRuntime) -> Result<(), Fail> {
-    let rules = b"%x A\n%%\n\na  ;\n<A>b  |\nc  ;\n";
-    let made = generate(rt.alloc(), rules, Options::new())?.made;
-    assert!(rt; made.rule_lines.as_slice() == [4, 5, 6].as_slice());
-    Ok(())
 }

@@ -1,60 +1,10 @@
-//! What lexlook leaves where its output fails, table files that it compares, and how many faults it tells.
+//! Table files that lexlook compares, how many faults it tells, and the texts of many rules.
 ghost use Rattle.std.specs.Prelude.{◌≡◌};
 
 use lexkit::{MemorySink, Options, Sink, generate, write_tables};
-use lexlook_calls::{Given, LookError, draw, tell_same, tell_words};
-use lexlook_check::{CheckError, Form, MAX_FAULTS, SourceFile, check, tell_check};
+use lexlook_calls::{Given, LookError, tell_same, tell_words};
+use lexlook_check::{MAX_FAULTS, check};
 use std::alloc::Global;
-
-const WORDS: &[u8] = b"%%\nif ;\n[a-z]+ ;\n";
-
-/// Its picture, worked by hand.
-const PICTURE: &[u8] =
-    b"digraph lex {\n  rankdir=LR;\n  node [shape=circle];\n  \"<INITIAL>\" [shape=plaintext];\n  \"<INITIAL>\" -> 1;\n  1;\n  1 -> 2 [label=\"[a-hj-z]\"];\n  1 -> 3 [label=\"[i]\"];\n  2 [shape=doublecircle, label=\"2\\nline 3\"];\n  2 -> 2 [label=\"[a-z]\"];\n  3 [shape=doublecircle, label=\"3\\nline 3\"];\n  3 -> 2 [label=\"[a-eg-z]\"];\n  3 -> 4 [label=\"[f]\"];\n  4 [shape=doublecircle, label=\"4\\nline 2\"];\n  4 -> 2 [label=\"[a-z]\"];\n}\n";
-
-/// The lines of the texts that its rules take, worked by hand.
-const LINES: &[u8] =
-    b"at line 2: \"if\" in INITIAL\nat line 3: \"a\" in INITIAL\ndefault rule: \"\\000\" in INITIAL\n";
-
-/// What is answered of a picture, and what is written of it.
-fn drawn(alloc: Global, mut sink: MemorySink) -> (Result<(), LookError>, Vec<u8>)
-    requires { ⟦<MemorySink as Sink>⟧.failures sink ≡ 0 }
-{
-    let answer = draw(alloc, WORDS, Options::new(), &mut sink);
-    (answer, sink.into_bytes())
-}
-
-#[test]
-fn a_fault_leaves_a_front(rt: HostRuntime) {
-    let (answer, whole) = drawn(rt.alloc(), MemorySink::new(rt.alloc()));
-    assert!(rt; answer.is_ok());
-    assert!(rt; whole.as_slice() == PICTURE);
-    for room in 0..PICTURE.len() {
-        let (answer, bytes) = drawn(rt.alloc(), MemorySink::failing_after(rt.alloc(), room));
-        assert!(rt; answer == Err(LookError::Write));
-        assert!(rt; PICTURE.starts_with(bytes.as_slice()));
-    }
-}
-
-/// What is answered of the texts of rules, and what is written of them.
-fn told(alloc: Global, mut sink: MemorySink) -> (Result<(), LookError>, Vec<u8>)
-    requires { ⟦<MemorySink as Sink>⟧.failures sink ≡ 0 }
-{
-    let answer = tell_words(alloc, WORDS, Options::new(), &mut sink);
-    (answer, sink.into_bytes())
-}
-
-#[test]
-fn a_fault_leaves_a_front_of_the_lines(rt: HostRuntime) {
-    let (answer, whole) = told(rt.alloc(), MemorySink::new(rt.alloc()));
-    assert!(rt; answer.is_ok());
-    assert!(rt; whole.as_slice() == LINES);
-    for room in 0..LINES.len() {
-        let (answer, written) = told(rt.alloc(), MemorySink::failing_after(rt.alloc(), room));
-        assert!(rt; answer == Err(LookError::Write));
-        assert!(rt; LINES.starts_with(written.as_slice()));
-    }
-}
 
 /// What is answered of two files, and what is written.
 fn said(
@@ -126,44 +76,6 @@ fn compares_table_files(rt: HostRuntime) {
             "in condition 1 after \"b\": a.l rule 1, b.l rule 1\n"
         )
     );
-}
-
-/// A specification in which nothing is right, and its lines, worked by hand.
-const DRAFT: &[u8] = b"%x INITIAL\n%%\na b();\n<C>c ;\nd |\n";
-
-const FAULTS: &[u8] =
-    b"a.l:1:4: error: DuplicateCondition\n    1 | %x INITIAL\n      |    ^\n      = each condition is declared once, and INITIAL always is\na.l:3:3: error: UnknownStatement\n    3 | a b();\n      |   ^\n      = `b` is no word of a statement; statements are ECHO, BEGIN, printf, fputs, puts, yymore, yyless, REJECT, exit, yyterminate and more, each with its `;`: see lex(1)\na.l:4:2: error: UnknownCondition\n    4 | <C>c ;\n      |  ^\n      = `C` is no condition; %s and %x declare conditions, and a list of them ends with `>` on its line\na.l:5: error: DanglingBar\n    5 | d |\n      = `|` is the action of the next rule that has a pattern, and there is none\n";
-
-/// What is answered of the faults of a text, and what is written of them.
-fn checked(alloc: Global, text: &[u8], mut sink: MemorySink) -> (Result<bool, CheckError>, Vec<u8>)
-    requires { ⟦<MemorySink as Sink>⟧.failures sink ≡ 0 }
-{
-    let file = SourceFile {
-        name: "a.l",
-        bytes: text,
-    };
-    let answer = tell_check(
-        alloc,
-        &[file],
-        Options::new(),
-        Form::Lines,
-        false,
-        &mut sink,
-    );
-    (answer, sink.into_bytes())
-}
-
-#[test]
-fn a_fault_leaves_a_front_of_the_faults(rt: HostRuntime) {
-    let (answer, whole) = checked(rt.alloc(), DRAFT, MemorySink::new(rt.alloc()));
-    assert!(rt; answer == Ok(false));
-    assert!(rt; whole.as_slice() == FAULTS);
-    for room in 0..FAULTS.len() {
-        let sink = MemorySink::failing_after(rt.alloc(), room);
-        let (answer, bytes) = checked(rt.alloc(), DRAFT, sink);
-        assert!(rt; answer == Err(CheckError::Write));
-        assert!(rt; FAULTS.starts_with(bytes.as_slice()));
-    }
 }
 
 /// A text of so many rules, each of which is this.

@@ -1,6 +1,6 @@
 //! Scans by an automaton as it stands, by lexscan.
 use crate::building::{built, read};
-use lexscan::{MemorySource, RunError, Scanner, Turn, run};
+use lexscan::{MemorySource, Scanner, Turn};
 use lextab::{MemorySink, Plain};
 use std::alloc::Global;
 use std::test::Fail;
@@ -42,44 +42,4 @@ fn turns(rt: HostRuntime) -> Result<(), Fail> {
     let automaton = built(alloc, &spec)?;
     assert!(rt; turns_by(alloc, &Plain::new(&automaton, &spec)));
     Ok(())
-}
-
-/// Whether a run over three letters by a specification, with so many reads, answers this and writes this.
-fn runs_so(
-    alloc: Global,
-    text: &[u8],
-    max_reads: u64,
-    answer: Result<u8, RunError>,
-    written: &[u8],
-) -> bool {
-    let Ok(spec) = read(alloc, text) else {
-        return false;
-    };
-    let Ok(automaton) = built(alloc, &spec) else {
-        return false;
-    };
-    let machine = Plain::new(&automaton, &spec);
-    let mut source = MemorySource::new(b"abc");
-    let mut sink = MemorySink::new(alloc);
-    let got = run(alloc, &machine, &mut source, &mut sink, max_reads);
-    got == answer && sink.written() == written
-}
-
-const LETTERS: &[u8] = b"%%\n[a-z]+ printf(\"I\");\n";
-
-/// A rule that is told at a glance, one that gives its match up, and one that gives bytes back. Over three letters each
-/// asks for four reads, that of the end with them.
-const ASKING: &[(&[u8], &[u8])] = &[
-    (LETTERS, b"I"),
-    (b"%%\n[a-z]+ REJECT;\n.|\\n ;\n", b""),
-    (b"%%\n[a-z]+ yyless(1);\n", b""),
-];
-
-#[test]
-fn too_many_reads(rt: HostRuntime) {
-    let too_many = Err(RunError::TooManyReads);
-    for &(text, written) in ASKING {
-        assert!(rt; runs_so(rt.alloc(), text, 4, Ok(0), written));
-        assert!(rt; runs_so(rt.alloc(), text, 3, too_many, b""));
-    }
 }

@@ -1,7 +1,7 @@
 //! Scans over memory. What they promise is left out, so that what calls them is proved in less time.
 ghost use Rattle.std.specs.Prelude.{◌≡◌};
 
-use lexkit::{MemorySink, MemorySource, Options, ScanError, Sink, Source, scan_spec, scan_table};
+use lexkit::{MemorySink, MemorySource, ScanError, Sink, Source, scan_table};
 use lexspec::ReadOptions;
 use std::alloc::Global;
 
@@ -54,26 +54,9 @@ pub(crate) struct Scan {
 }
 
 impl Scan {
-    /// Whether this is answered, and this is written.
-    pub(crate) fn does(&self, answer: Result<u8, ScanError>, written: &[u8]) -> bool {
-        self.answer == answer && self.sink.written() == written
-    }
-
     /// Whether nothing is read, and nothing is written.
     pub(crate) fn touches_nothing(&self) -> bool {
         self.calls == 0 && self.sink.written().is_empty()
-    }
-}
-
-/// A scan by a specification.
-pub(crate) fn scanned(alloc: Global, text: &[u8], input: &[u8], failing: Failing) -> Scan {
-    let mut source = source_that(failing, input);
-    let mut sink = sink_that(alloc, failing);
-    let answer = scan_spec(alloc, text, Options::new(), &mut source, &mut sink);
-    Scan {
-        answer,
-        sink,
-        calls: source.calls(),
     }
 }
 

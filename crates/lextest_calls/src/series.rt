@@ -7,14 +7,49 @@ use liblex_calls::{Answer, TextToken, tokens_into};
 use std::alloc::{AllocError, Global};
 use std::test::Fail;
 
-/// A token in few bytes.
-const fn brief(rule: u32, length: u16, condition: u8) -> BriefToken {
-    BriefToken {
-        rule,
-        length,
-        condition,
-    }
-}
+/// Tokens in few bytes: a word, a number of two digits and one of one, and a blank.
+const WORD: BriefToken = BriefToken {
+    rule: 0,
+    length: 2,
+    condition: 0,
+};
+
+const NUMBER: BriefToken = BriefToken {
+    rule: 1,
+    length: 2,
+    condition: 0,
+};
+
+const DIGIT: BriefToken = BriefToken {
+    rule: 1,
+    length: 1,
+    condition: 0,
+};
+
+const BLANK: BriefToken = BriefToken {
+    rule: 2,
+    length: 1,
+    condition: 0,
+};
+
+/// Others: the letter that begins a condition, the one that ends it, and one that does neither.
+const BEGINNING: BriefToken = BriefToken {
+    rule: 0,
+    length: 1,
+    condition: 0,
+};
+
+const RETURNING: BriefToken = BriefToken {
+    rule: 1,
+    length: 1,
+    condition: 1,
+};
+
+const OTHER: BriefToken = BriefToken {
+    rule: 3,
+    length: 1,
+    condition: 0,
+};
 
 /// Whether just these tokens are told in one go, of which the first begins there.
 fn tells(
@@ -41,46 +76,90 @@ fn tells_one(scanner: &mut PullScanner<Flat>, rule: u32, start: u64, length: usi
         }))
 }
 
-/// The first token is told by itself, since no byte is held before it; the last one may go on.
-#[test]
-fn tells_those_that_end_in_what_was_fed(rt: HostRuntime) -> Result<(), Fail> {
-    let alloc = rt.alloc();
-    let machine = machine_of(alloc, "%%\n[a-z]+ ;\n[0-9]+ ;\n\" \" ;\n")?;
-    let mut scanner = PullScanner::new(alloc, machine);
-    assert!(rt; tells(alloc, &mut scanner, 0, &[]));
-    assert!(rt; scanner.feed(b"ab 12 c") == Ok(()));
-    assert!(rt; tells_one(&mut scanner, 0, 0, 2));
-    let several = [brief(2, 1, 0), brief(1, 2, 0), brief(2, 1, 0)];
-    assert!(rt; tells(alloc, &mut scanner, 2, &several));
-    assert!(rt; tells(alloc, &mut scanner, 6, &[]));
-    assert!(rt; scanner.next() == Ok(Pulled::More));
-    assert!(rt; scanner.feed(b"d") == Ok(()) && tells(alloc, &mut scanner, 6, &[]));
-    assert!(rt; scanner.feed(b" 3 ") == Ok(()));
-    let several = [
-        brief(0, 2, 0),
-        brief(2, 1, 0),
-        brief(1, 1, 0),
-        brief(2, 1, 0),
-    ];
-    assert!(rt; tells(alloc, &mut scanner, 6, &several));
-    scanner.finish();
-    assert!(rt; tells(alloc, &mut scanner, 0, &[]) && scanner.next() == Ok(Pulled::Ended(0)));
-    assert!(rt; tells(alloc, &mut scanner, 0, &[]) && scanner.next() == Ok(Pulled::Ended(0)));
-    Ok(())
+/// What comes next.
+#[derive(Clone, Copy)]
+enum Step {
+    /// These bytes are fed.
+    Feed(&'static [u8]),
+    /// The end is told.
+    Finish,
+    /// Just these tokens are told in one go, of which the first begins there.
+    Several(u64, &'static [BriefToken]),
+    /// A token is told by itself: its rule, where it begins, and its length.
+    One(u32, u64, usize),
+    /// More bytes are asked for.
+    More,
+    /// The scan has ended.
+    End,
 }
 
-/// Each token has its own condition. A series stops before a rule that does more than write or begin a condition.
-#[test]
-fn stops_where_a_rule_does_more(rt: HostRuntime) -> Result<(), Fail> {
-    let alloc = rt.alloc();
-    let text = "%x C\n%%\na BEGIN(C);\n<C>b BEGIN(INITIAL);\nc yyless(1);\n[f-z] ;\n";
+/// Whether this comes next.
+fn does(alloc: Global, scanner: &mut PullScanner<Flat>, step: Step) -> bool {
+    match step {
+        Step::Feed(piece) => scanner.feed(piece) == Ok(()),
+        Step::Finish => {
+            scanner.finish();
+            true
+        }
+        Step::Several(start, wanted) => tells(alloc, scanner, start, wanted),
+        Step::One(rule, start, length) => tells_one(scanner, rule, start, length),
+        Step::More => scanner.next() == Ok(Pulled::More),
+        Step::End => scanner.next() == Ok(Pulled::Ended(0)),
+    }
+}
+
+/// Whether a scan by a specification goes so.
+fn goes_so(alloc: Global, text: &str, steps: &[Step]) -> Result<bool, Fail> {
     let mut scanner = PullScanner::new(alloc, machine_of(alloc, text)?);
-    assert!(rt; scanner.feed(b"fabcfab") == Ok(()));
-    assert!(rt; tells_one(&mut scanner, 3, 0, 1));
-    assert!(rt; tells(alloc, &mut scanner, 1, &[brief(0, 1, 0), brief(1, 1, 1)]));
-    assert!(rt; tells(alloc, &mut scanner, 3, &[]) && tells_one(&mut scanner, 2, 3, 1));
-    let several = [brief(3, 1, 0), brief(0, 1, 0), brief(1, 1, 1)];
-    assert!(rt; tells(alloc, &mut scanner, 4, &several));
+    for &step in steps {
+        if !does(alloc, &mut scanner, step) {
+            return Ok(false);
+        }
+    }
+    Ok(true)
+}
+
+/// The first token is told by itself, since no byte is held before it; the last one may go on.
+const ENDING: &[Step] = &[
+    Step::Several(0, &[]),
+    Step::Feed(b"ab 12 c"),
+    Step::One(0, 0, 2),
+    Step::Several(2, &[BLANK, NUMBER, BLANK]),
+    Step::Several(6, &[]),
+    Step::More,
+    Step::Feed(b"d"),
+    Step::Several(6, &[]),
+    Step::Feed(b" 3 "),
+    Step::Several(6, &[WORD, BLANK, DIGIT, BLANK]),
+    Step::Finish,
+    Step::Several(0, &[]),
+    Step::End,
+    Step::Several(0, &[]),
+    Step::End,
+];
+
+/// Each token has its own condition. A series stops before a rule that does more than write or begin a condition.
+const STOPPING: &[Step] = &[
+    Step::Feed(b"fabcfab"),
+    Step::One(3, 0, 1),
+    Step::Several(1, &[BEGINNING, RETURNING]),
+    Step::Several(3, &[]),
+    Step::One(2, 3, 1),
+    Step::Several(4, &[OTHER, BEGINNING, RETURNING]),
+];
+
+#[test]
+fn tells_those_that_end_in_what_was_fed(rt: HostRuntime) -> Result<(), Fail> {
+    const ROWS: &[(&str, &[Step])] = &[
+        ("%%\n[a-z]+ ;\n[0-9]+ ;\n\" \" ;\n", ENDING),
+        (
+            "%x C\n%%\na BEGIN(C);\n<C>b BEGIN(INITIAL);\nc yyless(1);\n[f-z] ;\n",
+            STOPPING,
+        ),
+    ];
+    for &(text, steps) in ROWS {
+        assert!(rt; goes_so(rt.alloc(), text, steps)?, "{text}");
+    }
     Ok(())
 }
 

@@ -3,7 +3,7 @@ ghost use Rattle.std.specs.Prelude.{◌<◌};
 
 use crate::building::made;
 use crate::scanning::scanned_by_table;
-use lexkit::{MemorySink, ScanError, TableError, Tables, WriteFault, read_tables, write_tables};
+use lexkit::{MemorySink, ScanError, TableError, Tables, read_tables, write_tables};
 use std::alloc::{AllocError, Global};
 use std::test::Fail;
 
@@ -49,22 +49,6 @@ fn rewritten(alloc: Global, bytes: &[u8]) -> Result<MemorySink, TableError> {
 fn counts(tables: &Tables, conditions: usize, rules: usize, classes: u32) -> bool {
     let parts = tables.parts();
     parts.conditions.len() == conditions && parts.rules.len() == rules && parts.classes == classes
-}
-
-/// Whether a table has so many rows, and these two columns of slots.
-fn has_slots(tables: &Tables, rows: usize, checks: &[u32], nexts: &[u32]) -> bool {
-    let parts = tables.parts();
-    parts.rows.len() == rows && parts.checks.as_slice() == checks && parts.nexts.as_slice() == nexts
-}
-
-#[test]
-fn a_file_is_read(rt: HostRuntime) -> Result<(), Fail> {
-    let worked = worked(rt.alloc())?;
-    let tables = read_tables(rt.alloc(), &worked)?;
-    assert!(rt; counts(&tables, 1, 2, 4));
-    let checks = [1, 2, 3, 1, 3, 4, 0, 0, 0];
-    assert!(rt; has_slots(&tables, 5, &checks, &[0, 0, 0, 3, 4, 0, 0, 0, 0]));
-    Ok(())
 }
 
 #[test]
@@ -150,21 +134,5 @@ fn the_fault_before_the_end_is_named(rt: HostRuntime) -> Result<(), Fail> {
     bytes[100] = 4;
     bytes.truncate(200);
     assert!(rt; is_no_file(rt.alloc(), &bytes, TableError::BadField(100)));
-    Ok(())
-}
-
-/// Whether a sink that takes just these bytes refuses the table, and has them.
-fn fills_a_sink(alloc: Global, tables: &Tables, prefix: &[u8]) -> bool {
-    let mut sink = MemorySink::failing_after(alloc, prefix.len());
-    write_tables(tables, &mut sink) == Err(WriteFault) && sink.written() == prefix
-}
-
-#[test]
-fn a_prefix_is_written(rt: HostRuntime) -> Result<(), Fail> {
-    let worked = worked(rt.alloc())?;
-    let tables = read_tables(rt.alloc(), &worked)?;
-    for (n, _) in worked.iter().enumerate() {
-        assert!(rt; fills_a_sink(rt.alloc(), &tables, &worked[..n]), "{n}");
-    }
     Ok(())
 }

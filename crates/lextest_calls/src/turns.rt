@@ -19,6 +19,9 @@ const COMMENTS: &str =
 
 const LETTERS: &str = "%%\n[a-z]+ printf(\"I\");\n";
 
+/// Its longer match asks for all letters, and is given up.
+const GIVEN_UP: &str = "%%\n[a-z]+ REJECT;\n.|\\n ;\n";
+
 const POPS: &str = "%option stack\n%%\na printf(\"A\"); yy_pop_state(); printf(\"B\");\n";
 
 /// Each match is given back but for a letter.
@@ -273,6 +276,8 @@ const CALLED: &[Run] = &[
     ),
     (LETTERS, b"aaa", Failing::Never, 4, Ok(0), 4, b"I"),
     (LETTERS, b"aaa", Failing::Never, 3, TOO_MANY, 3, b""),
+    (GIVEN_UP, b"abc", Failing::Never, 4, Ok(0), 4, b""),
+    (GIVEN_UP, b"abc", Failing::Never, 3, TOO_MANY, 3, b""),
     (
         "%%\nab exit(7);\n",
         b"abXYZ",
@@ -454,8 +459,11 @@ const FILLED: &[Scan] = &[
     ),
 ];
 
-/// The flush at the end of an empty input fails.
-const UNFLUSHED: &[Scan] = &[("%%\n", b"", Failing::Flush, UNWRITTEN_AT_ONCE, "")];
+/// The flush fails at the end of an empty input, and before a pop of an empty stack is told.
+const UNFLUSHED: &[Scan] = &[
+    ("%%\n", b"", Failing::Flush, UNWRITTEN_AT_ONCE, ""),
+    (POPS, b"a", Failing::Flush, UNWRITTEN_AT_ONCE, "A"),
+];
 
 const SCANS: &[(&str, &[Scan])] = &[
     ("what is asked for is taken and held", HELD),
