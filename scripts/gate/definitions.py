@@ -18,7 +18,7 @@ import sys
 
 ROOT = os.path.dirname(os.path.dirname(os.path.dirname(os.path.realpath(__file__))))
 CRATES = os.path.join(ROOT, "crates")
-SURFACE = ["lexre", "lexspec", "lexauto", "lextab", "lexscan", "lexkit", "lex_command", "lex_names", "lexlook_calls", "lexlook_check", "lexlook_counts", "lexlook_letters", "lexlook_specs", "lexlook_tables", "lexlook_unicode", "liblex_calls"]
+SURFACE = ["lexre", "lexspec", "lexauto", "lextab", "lexscan", "lexkit", "lex_command", "lex_names", "lexlook_calls", "lexlook_check", "lexlook_counts", "lexlook_letters", "lexlook_specs", "lexlook_suites", "lexlook_tables", "lexlook_unicode", "liblex_calls"]
 # The page says what is behind this call.
 HEADLINE = "scan_spec"
 NAME = r"[A-Za-z_][\w'-]*"

@@ -1,0 +1,10 @@
+pub mod Walks
+pub mod Marking
+pub mod Edges
+pub mod Shares
+pub mod Turns
+pub mod Texts
+pub mod CoverLines
+pub mod Covers
+pub mod Told
+pub mod CoverExamples

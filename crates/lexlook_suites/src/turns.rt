@@ -1,0 +1,79 @@
+//! The marks of all turns of a scan.
+ghost use Rattle.std.specs.Prelude.{◌≡◌, ◌<◌, drop, IfOk};
+ghost use Rattle.lex_semantics.specs.Text.{at_line_start};
+ghost use Rattle.lexauto_dfa.specs.Automata.{lists_of, start_of, states_of};
+ghost use Rattle.lexlook_suites.specs.Marking.{Adds, IsSized};
+ghost use Rattle.lexlook_suites.specs.Turns.{AreMarks};
+ghost use Rattle.lexlook_suites.specs.Walks.{ComesTo, GoesBy};
+
+use crate::marks::Marks;
+use lexauto_dfa::Dfa;
+use lexscan::Token;
+use std::alloc::{AllocError, Global};
+
+/// The state where a match starts in a condition; the dead one where there is no such condition.
+#[tactic(auto, using(crate::proofs::Turned::no_start))]
+fn start_in(dfa: &Dfa, condition: u8, line_start: bool) -> u32
+    ensures state { result ≡ start_of dfa.now condition line_start }
+    ensures known { result < states_of dfa.now }
+{
+    let condition = condition as usize;
+    if condition >= dfa.parts().starts.len() {
+        return 0;
+    }
+    dfa.start(condition, line_start)
+}
+
+/// Whether a place is at the start of a line.
+fn is_line_start(input: &[u8], at: usize) -> bool
+    ensures { result ≡ at_line_start input.now at }
+{
+    if at == 0 {
+        return true;
+    }
+    if at > input.len() {
+        return false;
+    }
+    input[at - 1] == b'\n'
+}
+
+/// What stands from a place on.
+fn rest_of(input: &[u8], at: usize) -> &[u8]
+    ensures { result.now ≡ drop at input.now }
+{
+    if at > input.len() {
+        return &[];
+    }
+    &input[at..]
+}
+
+impl Marks {
+    /// Marks what the turn goes through that begins at this place, in this condition.
+    fn turn(&mut self, dfa: &Dfa, input: &[u8], at: usize, condition: u8)
+        requires { IsSized (states_of dfa.now) self.old }
+        ensures { Adds (states_of dfa.now) self.old self.new
+            (ComesTo (lists_of dfa.now) (start_of dfa.now condition (at_line_start input.now at)) (drop at input.now))
+            (GoesBy (lists_of dfa.now) (start_of dfa.now condition (at_line_start input.now at)) (drop at input.now)) }
+    {
+        let start = start_in(dfa, condition, is_line_start(input, at));
+        self.walk(dfa, start, rest_of(input, at));
+    }
+}
+
+/// What the turns of these tokens of an input go through.
+pub(crate) fn marks_of(
+    alloc: Global,
+    dfa: &Dfa,
+    input: &[u8],
+    tokens: &[Token],
+) -> Result<Marks, AllocError>
+    ensures { IfOk result (AreMarks (lists_of dfa.now) input.now tokens.now) }
+{
+    let mut marks = Marks::none(alloc, dfa)?;
+    let mut at = 0usize;
+    for token in tokens {
+        marks.turn(dfa, input, at, token.condition);
+        at = token.end;
+    }
+    Ok(marks)
+}
