@@ -7,6 +7,7 @@ complete -c lexlook -n $first -f -a same -d 'Say whether two files do the same o
 complete -c lexlook -n $first -f -a lines -d 'Say whether an input may be cut after any newline'
 complete -c lexlook -n $first -f -a words -d 'Write for each rule the shortest text that it takes'
 complete -c lexlook -n $first -f -a trace -d 'Scan standard input, and write a line for each match'
+complete -c lexlook -n $first -f -a cover -d 'Scan standard input, and write what its matches go through'
 complete -c lexlook -n $first -f -a utf8 -d 'Write a definition of code points'
 complete -c lexlook -n $first -f -a check -d 'Write every fault of a specification'
 complete -c lexlook -n $first -f -a header -d 'Write the names and numbers of rules for a program'

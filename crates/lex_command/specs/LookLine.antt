@@ -12,7 +12,7 @@ use Rattle.lex_command.specs.declared.look.args.About.TheVariants.{Help, Unicode
 use Rattle.lex_command.specs.declared.look.args.Look.{Look}
 use Rattle.lex_command.specs.declared.look.args.Look.TheVariants.{About as OfItself, Check, Letters, One, Same}
 use Rattle.lex_command.specs.declared.look.args.Subcommand.{Subcommand}
-use Rattle.lex_command.specs.declared.look.args.Subcommand.TheVariants.{Count as Counts, Header, Lines, Picture, Trace, Words}
+use Rattle.lex_command.specs.declared.look.args.Subcommand.TheVariants.{Count as Counts, Cover, Header, Lines, Picture, Trace, Words}
 
 -- ---- the program's command line, in clap's terms
 
@@ -73,6 +73,7 @@ lexlook_app = fold with_subcommand no_subcommand (
     ∷ (file_app (codes "lines") one_file).top
     ∷ (file_app (codes "words") one_file).top
     ∷ (file_app (codes "trace") (flagged_file (codes "offsets"))).top
+    ∷ (file_app (codes "cover") one_file).top
     ∷ (file_app (codes "header") (flagged_file (codes "rust"))).top
     ∷ (file_app (codes "count") (flagged_file (codes "json"))).top
     ∷ sets_app.top
@@ -105,6 +106,7 @@ name_of Picture = codes "picture"
 name_of Lines = codes "lines"
 name_of Words = codes "words"
 name_of (Trace offsets) = codes "trace"
+name_of Cover = codes "cover"
 name_of (Header rust) = codes "header"
 name_of (Counts json) = codes "count"
 

@@ -4,12 +4,13 @@
 //! - `reading`: the files that are read, of which those that are compared or cut may be table files.
 //! - `failure`: what ends the program before its work is done, and the line that tells it.
 //!
-//! What is asked for is read by lex_command. What is written and answered is that of lexlook_calls, lexlook_check and
-//! lexlook_counts, and proved there. A read and a status are as those of the program lex, by lexkit.
+//! What is asked for is read by lex_command. What is written and answered is that of lexlook_calls, lexlook_check,
+//! lexlook_counts and lexlook_suites, and proved there. A read and a status are as those of the program lex, by lexkit.
 //!
 //! A subcommand has its words in lex_command, its call in lexlook_calls or a room of its own, and here its case of `tell`.
 //! What that writes `show` puts on standard output and flushes, and answers the status: 1 for an answer no. A trace and the
-//! definition of sets have functions of their own, since the one reads too and the other has no options. So have counts.
+//! definition of sets have functions of their own, since the one reads too and the other has no options. So have counts, and what is told by
+//! `cover`, which reads its input whole.
 //!
 //! - **A line of a failure names the file**, where one is refused or not read. Of two that are compared it is the first if
 //!   that is refused beside itself, since the call tells the failure alone.
@@ -27,16 +28,18 @@ use lex_command::{
 };
 use lexkit::{
     ByteReader, ByteWriter, Failure, FromBytes, MAX_POSITIONS, MAX_STATES, MAX_TABLE_BYTES,
-    MemorySink, Options, Sink, ToBytes, ToWrite, command_words,
+    MemorySink, Options, RunError, ScanError, Sink, ToBytes, ToWrite, command_words, read_more,
 };
 use lexlook_calls::{
     Given, Language, LookError, draw, tell_header, tell_lines, tell_same, tell_words, trace,
 };
 use lexlook_check::{Form, SourceFile, tell_check};
 use lexlook_counts::{CountForm, tell_counts, tell_places};
+use lexlook_suites::tell_cover;
 use lexlook_unicode::{DefinitionError, UNICODE, definition_of};
 use std::alloc::{AllocError, Global};
 use std::io;
+use std::io::ErrorKind;
 use std::process::ExitCode;
 
 /// What the command line asks for.
@@ -204,6 +207,30 @@ fn show_counts(
     Ok(ExitCode::from(status))
 }
 
+/// The bytes of standard input, all of them.
+fn read_input(rt: &HostRuntime) -> Result<Vec<u8>, Failure> {
+    let mut input = Vec::new(rt.alloc());
+    match read_more(rt, "-", u64::MAX, &mut input) {
+        Ok(()) => Ok(input),
+        Err(error) => Err(match error.kind() {
+            ErrorKind::OutOfMemory => Failure::from(AllocError),
+            _ => Failure::from(ScanError::Run(RunError::Read)),
+        }),
+    }
+}
+
+/// Scans standard input, which is read whole, and writes to standard output what its matches go through.
+fn show_cover(rt: &HostRuntime, text: &[u8], options: Options) -> Result<ExitCode, Failure>
+    requires few_positions { options.limits.positions ≤ MAX_POSITIONS }
+    requires few_states { options.limits.states ≤ MAX_STATES }
+{
+    let input = read_input(rt)?;
+    let mut sink = ToBytes::new(ByteWriter::new(rt.alloc(), io::writer(rt))?);
+    let status = tell_cover(rt.alloc(), text, options, &input, &mut sink)?;
+    sink.flush()?;
+    Ok(ExitCode::from(status))
+}
+
 /// Writes the definition of sets of code points to standard output. A word that names no set is usage, and so are sets of
 /// which there is no pattern.
 fn show_letters(rt: &HostRuntime, sets: &[String]) -> Result<ExitCode, Failure> {
@@ -257,6 +284,7 @@ fn show_one(
         Subcommand::Lines => show(rt, Told::Lines(bytes), options),
         Subcommand::Words => show(rt, Told::Words(bytes), options),
         Subcommand::Trace { offsets } => show_trace(rt, bytes, offsets, options),
+        Subcommand::Cover => show_cover(rt, bytes, options),
         Subcommand::Count { json } => show_counts(rt, bytes, json, options),
         Subcommand::Header { rust } => {
             let language = if rust { Language::Rust } else { Language::C };

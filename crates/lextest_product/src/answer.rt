@@ -72,6 +72,7 @@ pub(crate) fn answered(alloc: Global, row: &Row<'_>) -> Result<Answer, AllocErro
         Kind::Compare => looks::compare(alloc, row),
         Kind::Count => reports::count(alloc, row),
         Kind::Counts => looks::counts(alloc, row),
+        Kind::Cover => looks::cover(alloc, row),
         Kind::Cut => patterns::cut(alloc, row),
         Kind::End => actions::end(alloc, row),
         Kind::Equal => tables::equal(alloc, row),

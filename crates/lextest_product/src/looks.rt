@@ -10,6 +10,7 @@ use lexlook_calls::{
 };
 use lexlook_check::{Form, SourceFile, tell_check};
 use lexlook_counts::{CountForm, tell_counts, tell_places};
+use lexlook_suites::tell_cover;
 use lexlook_tables::{Comparison, Difference, compare as compared, find_obstacle_in};
 use std::alloc::{AllocError, Global};
 
@@ -162,6 +163,14 @@ pub(crate) fn counts(alloc: Global, row: &Row<'_>) -> Result<Answer, AllocError>
     let text = row.value("spec");
     let answer = tell_counts(alloc, text, options_of(row), form, &mut source, &mut sink);
     answer_of(alloc, answer, sink, source.calls())
+}
+
+/// Writes what the matches of an input go through.
+pub(crate) fn cover(alloc: Global, row: &Row<'_>) -> Result<Answer, AllocError> {
+    let mut sink = MemorySink::new(alloc);
+    let text = row.value("spec");
+    let answer = tell_cover(alloc, text, options_of(row), row.value("input"), &mut sink);
+    answer_of(alloc, answer, sink, 0)
 }
 
 /// The line of the text of which two tables do not do the same.

@@ -27,6 +27,8 @@ pub enum Subcommand {
         /// Whether they are those of places.
         offsets: bool,
     },
+    /// What the matches of a scan by a specification go through.
+    Cover,
     /// The rules of a specification as constants of a program.
     Header {
         /// Whether the program is in Rust, and not in C.
@@ -86,7 +88,7 @@ pub enum Look {
 }
 
 /// Reads the words after the program's name: `picture FILE`, `same FILE FILE`, `lines FILE`, `words FILE`, `trace FILE`,
-/// `header FILE`, `count FILE` or `check FILE..`, with `-i` or `-X` or without, and `check` with `-s` and `--json` too,
+/// `cover FILE`, `header FILE`, `count FILE` or `check FILE..`, with `-i` or `-X` or without, and `check` with `-s` and `--json` too,
 /// `trace` with `--offsets`, `header` with `--rust`, `count` with `--json`, `utf8 SET..`, or any words with `--help`, `-h` or `--version`. Behind `utf8` the version is that of Unicode. Flags may
 /// be repeated. Words that it refuses by `Usage` ask for nothing.
 pub fn read_args(alloc: Global, words: &[String]) -> Result<Look, ArgsError>
@@ -300,6 +302,7 @@ const LOOKS: &[(&str, &[&str], &[&str])] = &[
     ("lines", &[], ONE),
     ("words", &[], ONE),
     ("trace", &["offsets"], ONE),
+    ("cover", &[], ONE),
     ("header", &["rust"], ONE),
     ("count", &["json"], ONE),
 ];
@@ -347,6 +350,8 @@ fn named(name: &str, found: &ArgMatches<'_>) -> Option<Subcommand>
     } else if name == "trace" {
         let offsets = has(found, "offsets");
         Some(Subcommand::Trace { offsets })
+    } else if name == "cover" {
+        Some(Subcommand::Cover)
     } else if name == "header" {
         let rust = has(found, "rust");
         Some(Subcommand::Header { rust })

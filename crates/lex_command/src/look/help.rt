@@ -17,6 +17,9 @@ const HELP: &str = "lexlook shows what a specification of lex does.\n\n\
     lexlook trace FILE [-i] [-X] [--offsets]\n    \
     a line for each match of a scan of standard input by a specification, and the scan's status;\n    \
     with --offsets where its text begins, how long it is, and the text\n\
+    lexlook cover FILE [-i] [-X]\n    \
+    how many states and edges of the automaton the matches of standard input go through, by rule,\n    \
+    with the shortest text over each edge that none goes through, and the scan's status\n\
     lexlook utf8 SET..\n    \
     a definition of the code points of these sets, over the bytes of their UTF-8\n\
     lexlook check FILE.. [-i] [-X] [-s] [--json]\n    \
