@@ -9,11 +9,11 @@ use Rattle.lex_semantics.specs.Subsets.{HasSubsets, all_positions}
 use Rattle.lexauto.specs.declared.error.BuildError.{BuildError}
 use Rattle.lexauto.specs.declared.error.BuildError.TheVariants as builds
 use Rattle.lexauto.specs.declared.subsets.Limits.{Limits}
-use Rattle.lexauto_dfa.specs.Automata.{conditions_of, machine_in, machine_of, states_of}
+use Rattle.lexauto_dfa.specs.Automata.{conditions_of, machine_of, states_of}
 use Rattle.lexauto_dfa.specs.declared.dfa.Dfa.{Dfa}
 use Rattle.lexkit.proofs.Refusing.{by_reason}
 use Rattle.lexkit.specs.Generated.{lines_of}
-use Rattle.lexkit.specs.Headline.{BuildRefusal}
+use Rattle.lexkit.specs.Headline.{BuildRefusal, IsWithin}
 use Rattle.lexlook_specs.specs.Matches.{matches_in, matches_of}
 use Rattle.lexlook_specs.specs.Rejecting.{rejecting, rejecting_rule}
 use Rattle.lexlook_specs.specs.Words.{AreWords, IsWordOf, TellsDefault}
@@ -24,8 +24,10 @@ use Rattle.lexlook_specs.specs.declared.words.finding.Words.{Words}
 use Rattle.lex_semantics.specs.Spec.{has_reject, statements_at}
 use Rattle.lexlook_calls.specs.Looks.{names_of}
 use Rattle.lexlook_calls.specs.Words.{AreLabelled, AreWordsOf, HasLabel, HasLabels, word_lines}
-use Rattle.lexlook_specs.proofs.FitsAlike.{automaton_alike, positions_same, subsets_from, subsets_to}
-use Rattle.lexlook_specs.proofs.MatchesAlike.{words_alike}
+use Rattle.lexlook_specs.specs.Overlaps.{AreOverlaps, IsOverlap}
+use Rattle.lexlook_specs.specs.declared.words.overlapping.Overlap.{Overlap}
+use Rattle.lexlook_calls.specs.Overlaps.{AreOverlapsOf, ArePairLabels, max_pairs, overlap_lines}
+use Rattle.lexlook_specs.proofs.FitsAlike.{overlaps_shown_by, positions_same, subsets_from, subsets_to, words_shown_by}
 
 known_rule : (rs : List Rule) (i : ℕ) (r : Rule) → slice_get rs i ≡ Some r → i < length rs
 known_rule [] i r e = absurd cc
@@ -72,19 +74,30 @@ refused_alike limits S T e is positions states =
     by_reason limits S e (λ many. subst (λ (n : ℕ). limits.positions < n) (ap (λ (U : Spec). all_positions U.rules) is ∙ positions_same S.rules) (positions many))
     (λ many n h. states many n (subst (λ (U : Spec). HasSubsets U n) (sym is) (subsets_from S n h)))
 
+-- what is within the limits by the one is so by the other
+within_alike : (limits : Limits) (S T : Spec) (n : ℕ) → T ≡ rejecting S → HasSubsets T n → all_positions T.rules ≤ limits.positions → n ≤ limits.states → IsWithin limits S
+within_alike limits S T n is subsets positions states = record {
+  few_positions = subst (λ (n : ℕ). n ≤ limits.positions) (ap (λ (U : Spec). all_positions U.rules) is ∙ positions_same S.rules) positions;
+  states = n;
+  subsets = subsets_to S n (subst (λ (U : Spec). HasSubsets U n) is subsets);
+  few_states = states;
+}
+
 -- what is found by the automaton of the one is told of the other
 pub words_shown : (limits : Limits) (S T : Spec) (d : Dfa) (rejects : List Bool) (v : Words) → T ≡ rejecting S → TableFor (machine_of d T) T → conditions_of d ≡ length T.conditions → HasSubsets T (states_of d)
     → all_positions T.rules ≤ limits.positions → states_of d ≤ limits.states → length rejects ≡ length S.rules → ((i : ℕ) → flag rejects i ≡ has_reject (statements_at (slice_get S.rules i)))
     → AreWords (matches_in d.parts rejects) v → AreWordsOf limits S v
 words_shown limits S T d rejects v is table count subsets positions states len flags words = record {
-  within = record {
-    few_positions = subst (λ (n : ℕ). n ≤ limits.positions) (ap (λ (U : Spec). all_positions U.rules) is ∙ positions_same S.rules) positions;
-    states = states_of d;
-    subsets = subsets_to S (states_of d) (subst (λ (U : Spec). HasSubsets U (states_of d)) is subsets);
-    few_states = states;
-  };
-  words = words_alike (matches_in d.parts rejects) (matches_of S)
-      (automaton_alike S d.parts rejects (count ∙ ap (λ (U : Spec). length U.conditions) is) (subst (λ (U : Spec). TableFor (machine_in d.parts U) U) is table) len flags) v words;
+  within = within_alike limits S T (states_of d) is subsets positions states;
+  words = words_shown_by S T d.parts rejects v is count table len flags words;
+}
+
+pub overlaps_shown : (limits : Limits) (S T : Spec) (d : Dfa) (rejects : List Bool) (v : List Overlap) → T ≡ rejecting S → TableFor (machine_of d T) T → conditions_of d ≡ length T.conditions → HasSubsets T (states_of d)
+    → all_positions T.rules ≤ limits.positions → states_of d ≤ limits.states → length rejects ≡ length S.rules → ((i : ℕ) → flag rejects i ≡ has_reject (statements_at (slice_get S.rules i)))
+    → AreOverlaps (matches_in d.parts rejects) max_pairs v → AreOverlapsOf limits S v
+overlaps_shown limits S T d rejects v is table count subsets positions states len flags overlaps = record {
+  within = within_alike limits S T (states_of d) is subsets positions states;
+  overlaps = overlaps_shown_by S T d.parts rejects max_pairs v is count table len flags overlaps;
 }
 
 -- it has the names and lines of the one
@@ -97,3 +110,25 @@ labelled_by S T v is words =
 pub lines_shown : (S T : Spec) (v : Words) → T ≡ rejecting S → word_lines (names_of T.conditions) (lines_of T.rules) v ≡ word_lines (names_of S.conditions) (lines_of S.rules) v
 lines_shown S T v is =
     ap (λ (ns : List (List ℕ)). word_lines ns (lines_of T.rules) v) (names_same S T is) ∙ ap (λ (ls : List ℕ). word_lines (names_of S.conditions) ls v) (lines_same S T is)
+
+-- the same of pairs
+pair_labelled : (S : Spec) (v : List Overlap) → AreOverlaps (matches_of S) max_pairs v → ArePairLabels (names_of S.conditions) (lines_of S.rules) v
+pair_labelled S v a k x e =
+    let is = a.each k x e in
+    let m = length-map S.rules (λ (r : Rule). r.line) in
+    let order = is.order in
+    let known = is.known in
+    record {
+      first = omega (arith, m, order, known);
+      second = omega (arith, m, known);
+      homes = is.homes.each ∙ sym (length-map S.conditions (λ c. c.name));
+    }
+
+pub pair_labelled_by : (S T : Spec) (v : List Overlap) → T ≡ rejecting S → AreOverlaps (matches_of S) max_pairs v → ArePairLabels (names_of T.conditions) (lines_of T.rules) v
+pair_labelled_by S T v is overlaps =
+    subst (λ (ns : List (List ℕ)). ArePairLabels ns (lines_of T.rules) v) (sym (names_same S T is))
+    (subst (λ (ls : List ℕ). ArePairLabels (names_of S.conditions) ls v) (sym (lines_same S T is)) (pair_labelled S v overlaps))
+
+pub pair_lines_shown : (S T : Spec) (v : List Overlap) → T ≡ rejecting S → overlap_lines (names_of T.conditions) (lines_of T.rules) v ≡ overlap_lines (names_of S.conditions) (lines_of S.rules) v
+pair_lines_shown S T v is =
+    ap (λ (ns : List (List ℕ)). overlap_lines ns (lines_of T.rules) v) (names_same S T is) ∙ ap (λ (ls : List ℕ). overlap_lines (names_of S.conditions) ls v) (lines_same S T is)

@@ -8,6 +8,7 @@ pub mod Compared
 pub mod Cuts
 pub mod SameFiles
 pub mod Words
+pub mod Overlaps
 pub mod Tracing
 pub mod Headers
 pub mod HeaderExamples

@@ -7,6 +7,7 @@ ghost use Rattle.lexkit.specs.Generated.{lines_of};
 ghost use Rattle.lexlook_calls.specs.Looks.{names_of};
 ghost use Rattle.lexlook_calls.specs.Lines.{condition_words, rule_words, start_words};
 ghost use Rattle.lexlook_calls.specs.Sides.{read_as};
+ghost use Rattle.lexlook_calls.specs.Words.{line_words};
 
 use lexlook_specs::{add, add_number};
 use lexspec::{Condition, Spec};
@@ -76,6 +77,15 @@ pub(crate) fn add_rule(
             add_number(text, rule)
         }
     }
+}
+
+/// Appends at which line a rule is.
+pub(crate) fn add_line(text: &mut Vec<u8>, lines: &[u32], rule: usize) -> Result<(), AllocError>
+    requires { rule < length lines.now }
+    ensures { OnOk result (text.new.items ≡ text.old.items ++ line_words lines.now rule) }
+{
+    add(text, b" line ")?;
+    add_number(text, lines[rule])
 }
 
 /// Appends whether a match is at the start of a line.

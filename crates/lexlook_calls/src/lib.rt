@@ -9,6 +9,7 @@
 //! - `lines`: what stands against cuts of an input at its newlines, `tell_lines`. `reasons` has by which of its statements a
 //!   rule does.
 //! - `words`: the texts that rules take, `tell_words`.
+//! - `overlaps`: the pairs of rules that fit one text with the same length, `tell_overlaps`.
 //! - `header`: the rules as constants of a program, `tell_header`.
 //! - `tracing`: the lines of the matches of a scan, `trace`.
 //! - `laws`: a specification has one picture, and files that do the same scan alike; worked examples of headers.
@@ -35,6 +36,7 @@ mod header;
 mod labels;
 mod laws;
 mod lines;
+mod overlaps;
 mod picture;
 mod reasons;
 mod same;
@@ -46,6 +48,7 @@ pub use error::LookError;
 pub use header::{Language, tell_header};
 pub use laws::{equal_are_same, examples_of_headers, one_picture, same_scan_alike};
 pub use lines::tell_lines;
+pub use overlaps::tell_overlaps;
 pub use picture::draw;
 pub use same::{Given, tell_same};
 pub use sides::is_table_file;

@@ -12,14 +12,14 @@ ghost use Rattle.lexlook_specs.specs.Rejecting.{rejecting};
 ghost use Rattle.lexlook_calls.specs.Errors.{look_fault_count};
 ghost use Rattle.lexlook_calls.specs.Looks.{names_of};
 ghost use Rattle.lexlook_calls.specs.Words.{AreLabelled, AreWordsOf, HasLabel, HasLabels, TellsWords};
-ghost use Rattle.lexlook_calls.specs.Words.{default_line, lines_of_default, line_words, never_words, lines_of_rules, shown_place, word_line, word_lines};
+ghost use Rattle.lexlook_calls.specs.Words.{default_line, lines_of_default, never_words, lines_of_rules, shown_place, word_line, word_lines};
 
 use crate::error::LookError;
-use crate::labels::{add_start, names_of};
+use crate::labels::{add_line, add_start, names_of};
 use lexauto::build;
 use lexkit::{GenError, Limits, Options, Sink, lines_of, read_text};
 use lexlook_specs::{
-    ShownText, Word, Words, add, add_number, add_string, find_words, rejecting, rejects_of,
+    ShownText, Word, Words, add, add_string, find_words, rejecting, rejects_of,
 };
 use lexspec::Spec;
 use std::alloc::{AllocError, Global};
@@ -29,15 +29,6 @@ use std::alloc::{AllocError, Global};
 struct Found {
     spec: Spec,
     words: Words,
-}
-
-/// Appends at which line a rule is.
-fn add_line(text: &mut Vec<u8>, lines: &[u32], rule: usize) -> Result<(), AllocError>
-    requires { rule < length lines.now }
-    ensures { OnOk result (text.new.items ≡ text.old.items ++ line_words lines.now rule) }
-{
-    add(text, b" line ")?;
-    add_number(text, lines[rule])
 }
 
 /// The name of a condition.

@@ -14,10 +14,12 @@ use Rattle.lexauto_dfa.proofs.Machinery.{walk_after}
 use Rattle.lexauto_dfa.specs.Automata.{machine_in}
 use Rattle.lexauto_dfa.specs.Parts.{conditions, start, accepts}
 use Rattle.lexauto_dfa.specs.declared.dfa.Parts.{Parts}
-use Rattle.lexlook_specs.proofs.MatchesAlike.{AreAlike, copied_alike, words_alike}
+use Rattle.lexlook_specs.proofs.MatchesAlike.{AreAlike, copied_alike, overlaps_alike, words_alike}
 use Rattle.lexlook_specs.specs.Copied.{AreCopied}
 use Rattle.lexlook_specs.specs.Matches.{matches_in, matches_of}
+use Rattle.lexlook_specs.specs.Overlaps.{AreOverlaps}
 use Rattle.lexlook_specs.specs.Words.{AreWords}
+use Rattle.lexlook_specs.specs.declared.words.overlapping.Overlap.{Overlap}
 use Rattle.lexlook_specs.specs.declared.words.finding.Words.{Words}
 use Rattle.lexlook_specs.specs.Rejecting.{rejecting, rejecting_rule}
 
@@ -187,6 +189,13 @@ pub words_shown_by : (S T : Spec) (p : Parts) (rejects : List Bool) (v : Words) 
 words_shown_by S T p rejects v is count table len flags words =
     words_alike (matches_in p rejects) (matches_of S)
     (automaton_alike S p rejects (count ∙ ap (λ (U : Spec). length U.conditions) is) (subst (λ (U : Spec). TableFor (machine_in p U) U) is table) len flags) v words
+
+-- and of the pairs that share a text
+pub overlaps_shown_by : (S T : Spec) (p : Parts) (rejects : List Bool) (most : ℕ) (v : List Overlap) → T ≡ rejecting S → conditions p ≡ length T.conditions → TableFor (machine_in p T) T
+    → length rejects ≡ length S.rules → ((i : ℕ) → flag rejects i ≡ has_reject (statements_at (slice_get S.rules i))) → AreOverlaps (matches_in p rejects) most v → AreOverlaps (matches_of S) most v
+overlaps_shown_by S T p rejects most v is count table len flags overlaps =
+    overlaps_alike (matches_in p rejects) (matches_of S)
+    (automaton_alike S p rejects (count ∙ ap (λ (U : Spec). length U.conditions) is) (subst (λ (U : Spec). TableFor (machine_in p U) U) is table) len flags) most v overlaps
 
 rules_again : (rs : List Rule) → map rejecting_rule (map rejecting_rule rs) ≡ map rejecting_rule rs
 rules_again [] = refl

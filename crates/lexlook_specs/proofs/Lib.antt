@@ -8,6 +8,9 @@ pub mod Takers
 pub mod Led
 pub mod Places
 pub mod Told
+pub mod Behind
+pub mod Sharing
+pub mod Pairs
 pub mod Rejected
 pub mod MatchesAlike
 pub mod FitsAlike

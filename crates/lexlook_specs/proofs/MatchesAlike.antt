@@ -1,10 +1,14 @@
 -- What is told of rules depends on the texts that fit them alone.
-use Rattle.std.proofs.Common.{◌≡◌, ◌↔◌, ◌<◌, ◌≤◌, ℕ, Bool, List, [], ◌∷◌, length, take, Option, Some, None, sym, ◌∙◌, arith}
+use Rattle.std.proofs.Common.{◌≡◌, ◌↔◌, ◌<◌, ◌≤◌, ℕ, Bool, true, false, List, [], ◌∷◌, length, take, Option, Some, None, sym, ◌∙◌, arith}
 use Rattle.std.proofs.lemmas.List.{length-take-le}
 use Rattle.std.proofs.lemmas.Option.{slice_get_within}
 use Rattle.lex_semantics.proofs.Texts.{is_text_take}
 use Rattle.lexlook_specs.specs.Copied.{AreCopied, CopiesByte, IsFirstCopied}
 use Rattle.lexlook_specs.specs.Matches.{RuleMatches, IsInput, IsCopied, TakesText}
+use Rattle.lexlook_specs.specs.Overlaps.{AreHomes, AreOverlaps, IsHome, IsOverlap, IsShared, SharesText}
+use Rattle.lexlook_specs.specs.declared.words.overlapping.Home.{Home}
+use Rattle.lexlook_specs.specs.declared.words.overlapping.Home.TheVariants.{Nowhere, AtLineStart, Anywhere}
+use Rattle.lexlook_specs.specs.declared.words.overlapping.Overlap.{Overlap}
 use Rattle.lexlook_specs.specs.Words.{AreTakers, AreWords, IsCopiedIn, IsFirst, IsWordOf, TellsDefault}
 use Rattle.lexlook_specs.specs.declared.words.finding.ShownText.{ShownText}
 use Rattle.lexlook_specs.specs.declared.words.finding.Word.{Word}
@@ -98,4 +102,51 @@ module _ (m n : RuleMatches) (a : AreAlike m n) where
   copied_alike bytes t = record {
     each = t.each ∙ a.conditions;
     first = λ c o e. to_first_copied c o (let low = slice_get_within bytes c o e in let len = t.each in omega (arith, low, len)) (t.first c o e);
+  }
+
+  to_shares : (c : ℕ) (line : Bool) (w : List ℕ) (i j : ℕ) → IsInput m c w → SharesText m i j c line w → SharesText n i j c line w
+  to_shares c line w i j h t = (to_takes c line w i h t.0, (a.fits c line w j h).0 t.1)
+
+  from_shares : (c : ℕ) (line : Bool) (w : List ℕ) (i j : ℕ) → IsInput m c w → SharesText n i j c line w → SharesText m i j c line w
+  from_shares c line w i j h t = (from_takes c line w i h t.0, (a.fits c line w j h).1 t.1)
+
+  to_shared : (i j : ℕ) (w : List ℕ) → IsShared m i j w → IsShared n i j w
+  to_shared i j w (c, line, h, t) = (c, line, to_input c w h, to_shares c line w i j h t)
+
+  from_shared : (i j : ℕ) (w : List ℕ) → IsShared n i j w → IsShared m i j w
+  from_shared i j w (c, line, h, t) = (c, line, from_input c w h, from_shares c line w i j (from_input c w h) t)
+
+  to_home : (i j : ℕ) (w : List ℕ) (c : ℕ) (h : Home) → IsInput m c w → IsHome m i j w c h → IsHome n i j w c h
+  to_home i j w c Nowhere is none = λ line t. none line (from_shares c line w i j is t)
+  to_home i j w c AtLineStart is t = (to_shares c true w i j is t.0, λ within. t.1 (from_shares c false w i j is within))
+  to_home i j w c Anywhere is t = to_shares c false w i j is t
+
+  to_homes : (i j : ℕ) (w : List ℕ) (hs : List Home) → IsShared m i j w → AreHomes m i j w hs → AreHomes n i j w hs
+  to_homes i j w hs (d, line, is, t) homes = record {
+    each = homes.each ∙ a.conditions;
+    home = λ c h e. to_home i j w c h (record {
+      condition = (let low = slice_get_within hs c h e in let len = homes.each in omega (arith, low, len));
+      text = is.text;
+      some = is.some;
+    }) (homes.home c h e);
+  }
+
+  to_overlap : (x : Overlap) → IsOverlap m x → IsOverlap n x
+  to_overlap x t = record {
+    order = t.order;
+    known = (let low = t.known in let e = a.count in omega (arith, low, e));
+    text = record {
+      shared = to_shared x.first x.second x.text.items t.text.shared;
+      first = λ v shared. t.text.first v (from_shared x.first x.second v shared);
+    };
+    homes = to_homes x.first x.second x.text.items x.homes.items t.text.shared t.homes;
+    gives_up = t.gives_up ∙ a.gives_up x.first;
+  }
+
+  pub overlaps_alike : (most : ℕ) (v : List Overlap) → AreOverlaps m most v → AreOverlaps n most v
+  overlaps_alike most v t = record {
+    few = t.few;
+    each = λ k x e. to_overlap x (t.each k x e);
+    rising = t.rising;
+    all = λ i j w order shared. t.all i j w order (from_shared i j w shared);
   }

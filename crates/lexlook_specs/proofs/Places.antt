@@ -9,7 +9,7 @@ use Rattle.lexauto_dfa.specs.Parts.{accepts}
 use Rattle.lexauto_dfa.specs.declared.dfa.Parts.{Parts}
 use Rattle.lexauto_reports.specs.Searching.{place_of}
 use Rattle.lexauto_dfa.proofs.Accepting.{among_push}
-use Rattle.lexlook_specs.specs.Placing.{IsLeastOf, IsPlacedAt, TakesAt, TakesBelow, least_place, takers}
+use Rattle.lexlook_specs.specs.Placing.{IsLeastOf, IsPlacedAt, SharesAt, TakesAt, TakesBelow, behind, least_place, takers}
 use Rattle.lexlook_specs.proofs.Takers.{is_among, takers_among}
 
 pub least_alike : (P Q : ℕ → Type 0) (o : Option ℕ) → ((j : ℕ) → P j ↔ Q j) → IsLeastOf P o → IsLeastOf Q o
@@ -99,10 +99,14 @@ module _ (old firsts : List (Option ℕ)) (rules : List ℕ) (i : ℕ) (place ne
     ]
   ]
 
+-- one of the first n states, of which this holds, is led to by a word of this place
+abbrev pub HasAt : (ℕ → Type 0) → List (Option ℕ) → ℕ → ℕ → Type 0
+HasAt A places n j = (s : ℕ) × (s < n) × A s × IsPlacedAt places s j
+
 -- a state more
-module _ (p : Parts) (rejects : List Bool) (places : List (Option ℕ)) (n i : ℕ) where
-  takes_at_more : (j : ℕ) → Among (takers rejects (accepts p n)) i → (TakesAt p rejects places n i j ⊎ IsPlacedAt places n j) ↔ TakesAt p rejects places (n + 1) i j
-  takes_at_more j a = (
+module _ (A : ℕ → Type 0) (places : List (Option ℕ)) (n : ℕ) where
+  has_at_more : (j : ℕ) → A n → (HasAt A places n j ⊎ IsPlacedAt places n j) ↔ HasAt A places (n + 1) j
+  has_at_more j a = (
     λ h. elim h [
       | inl t ↦ (let low = t.1 in (t.0, (omega (arith, low)), t.2, t.3))
       | inr q ↦ (n, (omega arith), a, q)
@@ -113,27 +117,44 @@ module _ (p : Parts) (rejects : List Bool) (places : List (Option ℕ)) (n i : �
     ],
   )
 
-  takes_at_not : (j : ℕ) → (Among (takers rejects (accepts p n)) i → ⊥) → TakesAt p rejects places n i j ↔ TakesAt p rejects places (n + 1) i j
-  takes_at_not j none = (
+  has_at_not : (j : ℕ) → (A n → ⊥) → HasAt A places n j ↔ HasAt A places (n + 1) j
+  has_at_not j none = (
     λ t. (let low = t.1 in (t.0, (omega (arith, low)), t.2, t.3)),
     λ t. elim (cases_lt t.0 n) [
       | inl lt ↦ (t.0, lt, t.2, t.3)
-      | inr le ↦ (let low = t.1 in let e : t.0 ≡ n = omega (arith, low, le) in absurd (none (subst (λ s. Among (takers rejects (accepts p s)) i) e t.2)))
+      | inr le ↦ (let low = t.1 in let e : t.0 ≡ n = omega (arith, low, le) in absurd (none (subst A e t.2)))
     ],
   )
 
-  pub place_more : (old new place : Option ℕ) → IsLeastOf (TakesAt p rejects places n i) old
+  pub least_more : (old new place : Option ℕ) → A n ⊎ (A n → ⊥) → IsLeastOf (HasAt A places n) old
       → place ≡ least_place (place_of places (3 * n + 1)) (place_of places (3 * n + 2))
-      → ((Among (takers rejects (accepts p n)) i → ⊥) → new ≡ old)
-      → (Among (takers rejects (accepts p n)) i → new ≡ least_place old place)
-      → IsLeastOf (TakesAt p rejects places (n + 1) i) new
-  place_more old new place least is kept lowered = elim (is_among (takers rejects (accepts p n)) i) [
-    | inl a ↦ subst (IsLeastOf (TakesAt p rejects places (n + 1) i)) (sym (lowered a ∙ ap (least_place old) is))
-        (least_alike (λ j. TakesAt p rejects places n i j ⊎ IsPlacedAt places n j) (TakesAt p rejects places (n + 1) i) (least_place old (least_place (place_of places (3 * n + 1)) (place_of places (3 * n + 2)))) (λ j. takes_at_more j a)
-        (least_of_two (TakesAt p rejects places n i) (IsPlacedAt places n) old (least_place (place_of places (3 * n + 1)) (place_of places (3 * n + 2))) least (placed_least places n)))
-    | inr none ↦ subst (IsLeastOf (TakesAt p rejects places (n + 1) i)) (sym (kept none))
-        (least_alike (TakesAt p rejects places n i) (TakesAt p rejects places (n + 1) i) old (λ j. takes_at_not j none) least)
+      → ((A n → ⊥) → new ≡ old)
+      → (A n → new ≡ least_place old place)
+      → IsLeastOf (HasAt A places (n + 1)) new
+  least_more old new place or_not least is kept lowered = elim or_not [
+    | inl a ↦ subst (IsLeastOf (HasAt A places (n + 1))) (sym (lowered a ∙ ap (least_place old) is))
+        (least_alike (λ j. HasAt A places n j ⊎ IsPlacedAt places n j) (HasAt A places (n + 1)) (least_place old (least_place (place_of places (3 * n + 1)) (place_of places (3 * n + 2)))) (λ j. has_at_more j a)
+        (least_of_two (HasAt A places n) (IsPlacedAt places n) old (least_place (place_of places (3 * n + 1)) (place_of places (3 * n + 2))) least (placed_least places n)))
+    | inr none ↦ subst (IsLeastOf (HasAt A places (n + 1))) (sym (kept none))
+        (least_alike (HasAt A places n) (HasAt A places (n + 1)) old (λ j. has_at_not j none) least)
   ]
+
+pub place_more : (p : Parts) (rejects : List Bool) (places : List (Option ℕ)) (n i : ℕ) (old new place : Option ℕ) → IsLeastOf (TakesAt p rejects places n i) old
+    → place ≡ least_place (place_of places (3 * n + 1)) (place_of places (3 * n + 2))
+    → ((Among (takers rejects (accepts p n)) i → ⊥) → new ≡ old)
+    → (Among (takers rejects (accepts p n)) i → new ≡ least_place old place)
+    → IsLeastOf (TakesAt p rejects places (n + 1) i) new
+place_more p rejects places n i old new place =
+    least_more (λ s. Among (takers rejects (accepts p s)) i) places n old new place (is_among (takers rejects (accepts p n)) i)
+
+-- the same of the rules behind rule i
+pub shared_more : (p : Parts) (rejects : List Bool) (places : List (Option ℕ)) (n i j : ℕ) (old new place : Option ℕ) → IsLeastOf (SharesAt p rejects places n i j) old
+    → place ≡ least_place (place_of places (3 * n + 1)) (place_of places (3 * n + 2))
+    → ((Among (behind rejects (accepts p n) i) j → ⊥) → new ≡ old)
+    → (Among (behind rejects (accepts p n) i) j → new ≡ least_place old place)
+    → IsLeastOf (SharesAt p rejects places (n + 1) i j) new
+shared_more p rejects places n i j old new place =
+    least_more (λ s. Among (behind rejects (accepts p s) i) j) places n old new place (is_among (behind rejects (accepts p n) i) j)
 
 -- the flags of the rules that take the texts of rule i, after a state more
 module _ (p : Parts) (rejects : List Bool) (places : List (Option ℕ)) (n i : ℕ) where

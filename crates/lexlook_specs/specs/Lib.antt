@@ -8,5 +8,8 @@ pub mod TraceLaw
 pub mod Matches
 pub mod Words
 pub mod Copied
+pub mod Overlaps
+pub mod OverlapExamples
+pub mod Pairing
 pub mod Placing
 pub mod Rejecting

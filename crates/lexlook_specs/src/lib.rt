@@ -7,7 +7,8 @@
 //!   steers, `rules` and `ends` do so for rules and end actions, `tracing` makes it all, and `laws` says that it tells.
 //! - `words`: for each rule the first of the shortest texts that it takes. `actions` makes an automaton possible that accepts
 //!   all rules that fit, `placing` and `taking` find each rule's word, `starting` its condition, `copying` the default
-//!   rule's bytes, and `finding` puts these together.
+//!   rule's bytes, and `finding` puts these together. `overlapping` finds the pairs of rules that fit one text with the
+//!   same length, and `laws` has an example of these.
 //!
 //! It promises each byte of a picture, that the made specification goes as the one handed in and writes its lines, and
 //! that no text before the one that is shown is taken. How a picture looks is in `specs/Pictures` and `specs/Classes`.
@@ -31,4 +32,7 @@ mod words;
 
 pub use picture::{PictureError, add, add_number, add_string, write_picture};
 pub use trace::{tells_runs, tells_turns, traced};
-pub use words::{ShownText, Word, Words, copied_bytes, find_words, rejecting, rejects_of};
+pub use words::{
+    Home, Overlap, ShownText, Word, Words, copied_bytes, examples_of_overlaps, find_overlaps,
+    find_words, rejecting, rejects_of,
+};

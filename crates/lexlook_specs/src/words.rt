@@ -4,6 +4,8 @@
 mod actions;
 mod copying;
 mod finding;
+mod laws;
+mod overlapping;
 mod placing;
 mod starting;
 mod taking;
@@ -11,3 +13,5 @@ mod taking;
 pub use actions::{rejecting, rejects_of};
 pub use copying::copied_bytes;
 pub use finding::{ShownText, Word, Words, find_words};
+pub use laws::examples_of_overlaps;
+pub use overlapping::{Home, Overlap, find_overlaps};

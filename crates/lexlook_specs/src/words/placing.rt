@@ -3,9 +3,9 @@ ghost use Rattle.std.specs.Prelude.{◌≡◌, ◌⊎◌, ◌↔◌, ◌+◌, �
 ghost use Rattle.lex_semantics.specs.Text.{Among, Ascending, flag};
 ghost use Rattle.lexauto_dfa.specs.Automata.{accepts_of, lists_of, states_of};
 ghost use Rattle.lexauto_reports.specs.Searching.{place_of};
-ghost use Rattle.lexlook_specs.specs.Placing.{IsLeastOf, TakesAt, TakesBelow, least_place, takers};
+ghost use Rattle.lexlook_specs.specs.Placing.{IsLeastOf, SharesAt, TakesAt, TakesBelow, least_place, takers};
 
-use crate::words::taking::{has, taken, taker};
+use crate::words::taking::{behind, has, taken, taker};
 use lexauto_dfa::{Dfa, unset};
 use std::alloc::{AllocError, Global};
 
@@ -58,6 +58,28 @@ pub(crate) fn first_places(
     let mut firsts = vec![in alloc; None; rejects.len()]?;
     for state in 0..dfa.len() {
         let rules = taken(rejects, dfa.accepts(state));
+        lower(&mut firsts, rules, place_at(places, state));
+    }
+    Ok(firsts)
+}
+
+/// For each rule behind `rule` the place of the first word that it fits and `rule` takes, if there is one.
+pub(crate) fn shared_places(
+    alloc: Global,
+    dfa: &Dfa,
+    rejects: &[bool],
+    places: &[Option<usize>],
+    rule: u32,
+) -> Result<Vec<Option<usize>>, AllocError>
+    requires len { length places.now ≡ 3 * states_of dfa.now }
+    requires rules { (s i : ℕ) → s < states_of dfa.now → Among (accepts_of dfa.now s) i → i < length rejects.now }
+    ensures len { IfOk result (λ v. length v.items ≡ length rejects.now) }
+    ensures least { IfOk result (λ v. (j : ℕ) → IsLeastOf
+        (SharesAt (lists_of dfa.now) rejects.now places.now (states_of dfa.now) rule j) (place_of v.items j)) }
+{
+    let mut firsts = vec![in alloc; None; rejects.len()]?;
+    for state in 0..dfa.len() {
+        let rules = behind(rejects, dfa.accepts(state), rule);
         lower(&mut firsts, rules, place_at(places, state));
     }
     Ok(firsts)

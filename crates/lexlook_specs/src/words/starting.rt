@@ -22,6 +22,8 @@ pub(crate) enum Wish {
     Takes(u32),
     /// That each rule that fits it gives it up.
     Copies,
+    /// That the first of these rules takes it, and the second fits it too.
+    Shares(u32, u32),
 }
 
 /// Whether these rules, which a text fits, do what is wished.
@@ -33,6 +35,7 @@ fn meets(rejects: &[bool], rules: &[u32], wish: Wish) -> bool
     match wish {
         Wish::Takes(rule) => has(taken(rejects, rules), rule),
         Wish::Copies => is_given_up(rejects, rules),
+        Wish::Shares(first, second) => has(taken(rejects, rules), first) && has(rules, second),
     }
 }
 
