@@ -254,10 +254,11 @@ def faulty_rows(spec, line, expected):
 def examples_of_lexlook(text):
     """The text of manual_looks.txt: what lexlook writes in the chapters on it."""
     small = after(text, "Say that `small.l` is this specification:")
-    pictures, comparing, cutting, taken, traced, every, counted, named = (
+    pictures, comparing, cutting, taken, shared, traced, every, counted, named = (
         chapter(text, title)
         for title in (
-            "Pictures", "Comparing", "Cutting at newlines", "Texts that rules take", "Lines of matches", "Every fault", "Counts of matches",
+            "Pictures", "Comparing", "Cutting at newlines", "Texts that rules take", "Rules that overlap", "Lines of matches", "Every fault",
+            "Counts of matches",
             "Names of rules",
         )
     )
@@ -272,6 +273,7 @@ def examples_of_lexlook(text):
         row("same", ("names", "small.l words.l"), ("spec", small), ("again", words), ("written", compared)),
         *(row("lines", ("spec", lines_of(cut["As in"])), ("written", code(cut["What is written"]) + "\n")) for cut in cuts),
         row("words", ("spec", after(taken, "Of this one")), ("written", after(taken, "it writes\n"))),
+        row("overlaps", ("spec", after(shared, "Of this specification")), ("written", after(shared, "it writes\n"))),
         row("trace", ("spec", after(traced, "Say that `a.l` is this:")), ("input", given), ("written", after(traced, "Then `printf"))),
         row(
             "trace",

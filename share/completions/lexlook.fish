@@ -6,6 +6,7 @@ complete -c lexlook -n $first -f -a picture -d 'Write the minimal DFA as a pictu
 complete -c lexlook -n $first -f -a same -d 'Say whether two files do the same on every input'
 complete -c lexlook -n $first -f -a lines -d 'Say whether an input may be cut after any newline'
 complete -c lexlook -n $first -f -a words -d 'Write for each rule the shortest text that it takes'
+complete -c lexlook -n $first -f -a overlaps -d 'Write the pairs of rules that one text fits with the same length'
 complete -c lexlook -n $first -f -a trace -d 'Scan standard input, and write a line for each match'
 complete -c lexlook -n $first -f -a cover -d 'Scan standard input, and write what its matches go through'
 complete -c lexlook -n $first -f -a utf8 -d 'Write a definition of code points'

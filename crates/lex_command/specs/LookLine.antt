@@ -12,7 +12,7 @@ use Rattle.lex_command.specs.declared.look.args.About.TheVariants.{Help, Unicode
 use Rattle.lex_command.specs.declared.look.args.Look.{Look}
 use Rattle.lex_command.specs.declared.look.args.Look.TheVariants.{About as OfItself, Check, Letters, One, Same}
 use Rattle.lex_command.specs.declared.look.args.Subcommand.{Subcommand}
-use Rattle.lex_command.specs.declared.look.args.Subcommand.TheVariants.{Count as Counts, Cover, Header, Lines, Picture, Trace, Words}
+use Rattle.lex_command.specs.declared.look.args.Subcommand.TheVariants.{Count as Counts, Cover, Header, Lines, Overlaps, Picture, Trace, Words}
 
 -- ---- the program's command line, in clap's terms
 
@@ -72,6 +72,7 @@ lexlook_app = fold with_subcommand no_subcommand (
     ∷ (file_app (codes "same") two_files).top
     ∷ (file_app (codes "lines") one_file).top
     ∷ (file_app (codes "words") one_file).top
+    ∷ (file_app (codes "overlaps") one_file).top
     ∷ (file_app (codes "trace") (flagged_file (codes "offsets"))).top
     ∷ (file_app (codes "cover") one_file).top
     ∷ (file_app (codes "header") (flagged_file (codes "rust"))).top
@@ -105,6 +106,7 @@ abbrev pub name_of : Subcommand → Text
 name_of Picture = codes "picture"
 name_of Lines = codes "lines"
 name_of Words = codes "words"
+name_of Overlaps = codes "overlaps"
 name_of (Trace offsets) = codes "trace"
 name_of Cover = codes "cover"
 name_of (Header rust) = codes "header"

@@ -31,7 +31,8 @@ use lexkit::{
     MemorySink, Options, RunError, ScanError, Sink, ToBytes, ToWrite, command_words, read_more,
 };
 use lexlook_calls::{
-    Given, Language, LookError, draw, tell_header, tell_lines, tell_same, tell_words, trace,
+    Given, Language, LookError, draw, tell_header, tell_lines, tell_overlaps, tell_same,
+    tell_words, trace,
 };
 use lexlook_check::{Form, SourceFile, tell_check};
 use lexlook_counts::{CountForm, tell_counts, tell_places};
@@ -79,6 +80,7 @@ fn show_about(rt: &HostRuntime, what: About) -> Result<ExitCode, Failure> {
 enum Told<'a> {
     Picture(&'a [u8]),
     Words(&'a [u8]),
+    Overlaps(&'a [u8]),
     Lines(&'a [u8]),
     Same(Given<'a>, Given<'a>),
     Check(&'a [SourceFile<'a>], Form, bool),
@@ -100,6 +102,7 @@ fn tell<K: Sink>(
     match what {
         Told::Picture(text) => draw(alloc, text, options, sink)?,
         Told::Words(text) => tell_words(alloc, text, options, sink)?,
+        Told::Overlaps(text) => tell_overlaps(alloc, text, options, sink)?,
         Told::Header(text, language) => tell_header(alloc, text, options, language, sink)?,
         Told::Lines(bytes) => return Ok(tell_lines(alloc, bytes, options, sink)?),
         Told::Same(left, right) => return Ok(tell_same(alloc, left, right, options, sink)?),
@@ -283,6 +286,7 @@ fn show_one(
         Subcommand::Picture => show(rt, Told::Picture(bytes), options),
         Subcommand::Lines => show(rt, Told::Lines(bytes), options),
         Subcommand::Words => show(rt, Told::Words(bytes), options),
+        Subcommand::Overlaps => show(rt, Told::Overlaps(bytes), options),
         Subcommand::Trace { offsets } => show_trace(rt, bytes, offsets, options),
         Subcommand::Cover => show_cover(rt, bytes, options),
         Subcommand::Count { json } => show_counts(rt, bytes, json, options),

@@ -11,11 +11,12 @@ use Rattle.lexkit.specs.Headline.{IsWithin, Refusal, reading}
 use Rattle.lexkit.specs.declared.options.Options.{Options}
 use Rattle.lexlook_specs.specs.Matches.{matches_of}
 use Rattle.lexlook_specs.specs.Overlaps.{AreOverlaps}
+use Rattle.lexlook_specs.specs.Pictures.{in_quotes}
 use Rattle.lexlook_specs.specs.declared.words.overlapping.Home.{Home}
 use Rattle.lexlook_specs.specs.declared.words.overlapping.Home.TheVariants.{Nowhere, AtLineStart, Anywhere}
 use Rattle.lexlook_specs.specs.declared.words.overlapping.Overlap.{Overlap}
 use Rattle.lexlook_calls.specs.Looks.{names_of}
-use Rattle.lexlook_calls.specs.Lines.{in_quotes, start_words}
+use Rattle.lexlook_calls.specs.Lines.{start_words}
 use Rattle.lexlook_calls.specs.Words.{line_words}
 use Rattle.lexlook_calls.specs.declared.error.LookError.{LookError}
 use Rattle.lexlook_calls.specs.declared.error.LookError.TheVariants.{Refused, Table, OutOfMemory, Write}

@@ -13,10 +13,10 @@ ghost use Rattle.lexlook_calls.specs.Overlaps.{in_condition, in_conditions, limi
 ghost use Rattle.lexlook_calls.specs.Overlaps.{overlap_lines, pair_words, reject_words, shared_words, winner_words};
 
 use crate::error::LookError;
-use crate::labels::{add_line, add_start, add_string, names_of};
+use crate::labels::{add_line, add_start, names_of};
 use lexauto::build;
 use lexkit::{GenError, Limits, Options, Sink, lines_of, read_text};
-use lexlook_specs::{Home, Overlap, add, find_overlaps, rejecting, rejects_of};
+use lexlook_specs::{Home, Overlap, add, add_string, find_overlaps, rejecting, rejects_of};
 use lexspec::Spec;
 use std::alloc::{AllocError, Global};
 

@@ -1,7 +1,6 @@
 //! The lines that tell what the matches of an input go through.
 ghost use Rattle.std.specs.Prelude.{◌≡◌, ◌<◌, ◌++◌, [], decimal, length, map, slice_index_or, IfOk, IfSome, OnOk};
-ghost use Rattle.std.specs.List.{flat_map};
-ghost use Rattle.lexlook_calls.specs.Lines.{in_quotes, start_words};
+ghost use Rattle.lexlook_calls.specs.Lines.{start_words};
 ghost use Rattle.lexlook_calls.specs.Words.{shown_place};
 ghost use Rattle.lexlook_suites.specs.CoverLines.{HasName, missed_line, missed_lines, more_line, rule_shares};
 ghost use Rattle.lexlook_suites.specs.CoverLines.{share_line, share_subject, share_words, shares_lines};
@@ -10,8 +9,7 @@ use crate::edges::Part;
 use crate::shares::{Share, share_of, share_of_all};
 use crate::texts::Missed;
 use itoa::Buffer;
-use lex_io::octal;
-use lexlook_specs::{ShownText, add, add_number};
+use lexlook_specs::{ShownText, add, add_number, add_string};
 use std::alloc::AllocError;
 
 /// Of what a line tells how much matches go through.
@@ -114,29 +112,6 @@ pub(crate) fn add_shares(
         share_of(states, rules),
         share_of(edges, rules),
     )
-}
-
-/// Appends a byte as it is spelled in a quoted string of a pattern.
-fn add_in_quotes(text: &mut Vec<u8>, byte: u8) -> Result<(), AllocError>
-    ensures { OnOk result (text.new.items ≡ text.old.items ++ in_quotes byte) }
-{
-    match byte {
-        b'\t' => add(text, b"\\t"),
-        b'\n' => add(text, b"\\n"),
-        b'"' | b'\\' => add(text, &[b'\\', byte]),
-        b' '..=b'~' => add(text, &[byte]),
-        _ => add(text, &octal(byte)),
-    }
-}
-
-/// Appends bytes as they are spelled in a quoted string of a pattern.
-fn add_string(text: &mut Vec<u8>, bytes: &[u8]) -> Result<(), AllocError>
-    ensures { OnOk result (text.new.items ≡ text.old.items ++ flat_map in_quotes bytes.now) }
-{
-    for byte in bytes {
-        add_in_quotes(text, *byte)?;
-    }
-    Ok(())
 }
 
 /// Appends whether a match is at the start of a line.

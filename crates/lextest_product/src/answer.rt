@@ -84,6 +84,7 @@ pub(crate) fn answered(alloc: Global, row: &Row<'_>) -> Result<Answer, AllocErro
         Kind::Lines => looks::lines(alloc, row),
         Kind::Look => arguments::look(alloc, row),
         Kind::Obstacle => looks::obstacle(alloc, row),
+        Kind::Overlaps => looks::overlaps(alloc, row),
         Kind::Pattern => patterns::pattern(alloc, row),
         Kind::Picture => looks::picture(alloc, row),
         Kind::Positions => patterns::positions(alloc, row),

@@ -5,8 +5,8 @@ use crate::row::Row;
 use crate::scans::{answer_of, options_of, refused};
 use lexkit::{MemorySink, MemorySource, Tables, generate};
 use lexlook_calls::{
-    Given, Language, LookError, draw, tell_header, tell_lines, tell_same, tell_words,
-    trace as trace_of,
+    Given, Language, LookError, draw, tell_header, tell_lines, tell_overlaps, tell_same,
+    tell_words, trace as trace_of,
 };
 use lexlook_check::{Form, SourceFile, tell_check};
 use lexlook_counts::{CountForm, tell_counts, tell_places};
@@ -89,6 +89,13 @@ pub(crate) fn lines(alloc: Global, row: &Row<'_>) -> Result<Answer, AllocError> 
 pub(crate) fn words(alloc: Global, row: &Row<'_>) -> Result<Answer, AllocError> {
     let mut sink = MemorySink::new(alloc);
     let answer = tell_words(alloc, row.value("spec"), options_of(row), &mut sink);
+    shown(alloc, answer, sink)
+}
+
+/// Writes which rules fit one text with the same length.
+pub(crate) fn overlaps(alloc: Global, row: &Row<'_>) -> Result<Answer, AllocError> {
+    let mut sink = MemorySink::new(alloc);
+    let answer = tell_overlaps(alloc, row.value("spec"), options_of(row), &mut sink);
     shown(alloc, answer, sink)
 }
 

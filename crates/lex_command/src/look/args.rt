@@ -22,6 +22,8 @@ pub enum Subcommand {
     Lines,
     /// The texts that the rules of a specification take.
     Words,
+    /// The pairs of its rules that fit one text with the same length.
+    Overlaps,
     /// The lines of the matches of a scan by a specification.
     Trace {
         /// Whether they are those of places.
@@ -87,8 +89,8 @@ pub enum Look {
     },
 }
 
-/// Reads the words after the program's name: `picture FILE`, `same FILE FILE`, `lines FILE`, `words FILE`, `trace FILE`,
-/// `cover FILE`, `header FILE`, `count FILE` or `check FILE..`, with `-i` or `-X` or without, and `check` with `-s` and `--json` too,
+/// Reads the words after the program's name: `picture FILE`, `same FILE FILE`, `lines FILE`, `words FILE`, `overlaps FILE`,
+/// `trace FILE`, `cover FILE`, `header FILE`, `count FILE` or `check FILE..`, with `-i` or `-X` or without, and `check` with `-s` and `--json` too,
 /// `trace` with `--offsets`, `header` with `--rust`, `count` with `--json`, `utf8 SET..`, or any words with `--help`, `-h` or `--version`. Behind `utf8` the version is that of Unicode. Flags may
 /// be repeated. Words that it refuses by `Usage` ask for nothing.
 pub fn read_args(alloc: Global, words: &[String]) -> Result<Look, ArgsError>
@@ -301,6 +303,7 @@ const LOOKS: &[(&str, &[&str], &[&str])] = &[
     ("same", &[], &["left", "right"]),
     ("lines", &[], ONE),
     ("words", &[], ONE),
+    ("overlaps", &[], ONE),
     ("trace", &["offsets"], ONE),
     ("cover", &[], ONE),
     ("header", &["rust"], ONE),
@@ -347,6 +350,8 @@ fn named(name: &str, found: &ArgMatches<'_>) -> Option<Subcommand>
         Some(Subcommand::Lines)
     } else if name == "words" {
         Some(Subcommand::Words)
+    } else if name == "overlaps" {
+        Some(Subcommand::Overlaps)
     } else if name == "trace" {
         let offsets = has(found, "offsets");
         Some(Subcommand::Trace { offsets })

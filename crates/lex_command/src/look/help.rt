@@ -14,6 +14,8 @@ const HELP: &str = "lexlook shows what a specification of lex does.\n\n\
     whether an input may be cut after any newline and its pieces scanned apart, with status 1 and why not\n\
     lexlook words FILE [-i] [-X]\n    \
     for each rule the shortest text that it takes, or by which rules its texts are taken\n\
+    lexlook overlaps FILE [-i] [-X]\n    \
+    the pairs of rules that one text fits with the same length, where, and which of them wins\n\
     lexlook trace FILE [-i] [-X] [--offsets]\n    \
     a line for each match of a scan of standard input by a specification, and the scan's status;\n    \
     with --offsets where its text begins, how long it is, and the text\n\

@@ -11,6 +11,7 @@ with_files a = fold with_subcommand a (
     ∷ (file_app (codes "same") two_files).top
     ∷ (file_app (codes "lines") one_file).top
     ∷ (file_app (codes "words") one_file).top
+    ∷ (file_app (codes "overlaps") one_file).top
     ∷ (file_app (codes "trace") (flagged_file (codes "offsets"))).top
     ∷ (file_app (codes "cover") one_file).top
     ∷ (file_app (codes "header") (flagged_file (codes "rust"))).top
