@@ -18,9 +18,7 @@ use crate::error::LookError;
 use crate::labels::{add_line, add_start, names_of};
 use lexauto::build;
 use lexkit::{GenError, Limits, Options, Sink, lines_of, read_text};
-use lexlook_specs::{
-    ShownText, Word, Words, add, add_string, find_words, rejecting, rejects_of,
-};
+use lexlook_specs::{ShownText, Word, Words, add, add_string, find_words, rejecting, rejects_of};
 use lexspec::Spec;
 use std::alloc::{AllocError, Global};
 
