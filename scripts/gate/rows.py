@@ -254,18 +254,18 @@ def faulty_rows(spec, line, expected):
 def examples_of_lexlook(text):
     """The text of manual_looks.txt: what lexlook writes in the chapters on it."""
     small = after(text, "Say that `small.l` is this specification:")
-    pictures, comparing, cutting, taken, shared, traced, every, counted, named = (
+    pictures, comparing, cutting, taken, shared, traced, every, counted, covered, named = (
         chapter(text, title)
         for title in (
             "Pictures", "Comparing", "Cutting at newlines", "Texts that rules take", "Rules that overlap", "Lines of matches", "Every fault",
-            "Counts of matches",
-            "Names of rules",
+            "Counts of matches", "What matches go through", "Names of rules",
         )
     )
     words = after(comparing, "Say that `words.l` is this:")
     compared = after(comparing, "Then `lexlook same small.l words.l`")
     given = re.search(r"`printf '([^']*)' \| lexlook trace a\.l`", traced)[1]
     sums = re.search(r"`printf '([^']*)' \| lexlook count a\.l`", counted)[1].replace("\\n", "\n")
+    echoed = re.search(r"`echo (.*?) \| lexlook cover a\.l`", covered)[1] + "\n"
     cuts = [line for names, rows in tables(cutting) for line in rows if "As in" in names]
     return file(
         "# The examples of lexlook in docs/MANUAL.md: written by scripts/gate/rows.py.\n",
@@ -282,6 +282,7 @@ def examples_of_lexlook(text):
             ("input", given),
             ("written", after(traced, "With `--offsets` each match")),
         ),
+        row("cover", ("spec", after(covered, "Say that `a.l` is this")), ("input", echoed), ("written", after(covered, "Then `echo"))),
         row("counts", ("spec", after(counted, "Say that `a.l` is this")), ("input", sums), ("written", after(counted, "Then `printf"))),
         row(
             "check",
