@@ -254,11 +254,11 @@ def faulty_rows(spec, line, expected):
 def examples_of_lexlook(text):
     """The text of manual_looks.txt: what lexlook writes in the chapters on it."""
     small = after(text, "Say that `small.l` is this specification:")
-    pictures, comparing, cutting, taken, shared, traced, every, counted, covered, named = (
+    pictures, comparing, cutting, taken, shared, traced, every, counted, covered, stepped, named = (
         chapter(text, title)
         for title in (
             "Pictures", "Comparing", "Cutting at newlines", "Texts that rules take", "Rules that overlap", "Lines of matches", "Every fault",
-            "Counts of matches", "What matches go through", "Names of rules",
+            "Counts of matches", "What matches go through", "From a draft to its tests", "Names of rules",
         )
     )
     words = after(comparing, "Say that `words.l` is this:")
@@ -291,9 +291,21 @@ def examples_of_lexlook(text):
             ("written", after(every, "Then `lexlook check draft.l`")),
             ("told", "status 1\n"),
         ),
+        *step_rows(stepped),
         row("header", ("spec", after(named, "Of this one")), ("written", "\n".join(indented(named[named.index("it writes\n") :])))),
         *(faulty for spec, line in manual(text)[2] for faulty in faulty_rows(spec, line, hints())),
     )
+
+
+def step_rows(stepped):
+    """The rows of the chapter that takes one specification through several subcommands."""
+    mended = ("spec", after(stepped, "So the lines 3 and 4"))
+    given = ("input", re.search(r"`printf '([^']*)' \| lexlook count calc\.l`", stepped)[1].replace("\\n", "\n"))
+    draft = ("spec", after(stepped, "Say that `calc.l` is this"))
+    yield row("check", ("names", "calc.l b.l"), draft, ("written", after(stepped, "**Is it right?**")))
+    yield row("overlaps", mended, ("written", after(stepped, "**Which rule wins?**")))
+    yield row("counts", mended, given, ("written", after(stepped, "**What does an input use?**")))
+    yield row("cover", mended, given, ("written", after(stepped, "**What does it leave out?**")))
 
 
 def check(files):
