@@ -42,6 +42,7 @@ FAMILIES = {
     "every2to8": (every(*range(2, 9)), "a"),
     # a match that comes, of which all but one byte is given back
     "context_found": ('a/a*b { printf("C"); }\n' + ONE, "a", "", "b"),
+    "context_every2": ('a/(aa)*b { printf("C"); }\n' + ONE, "a", "", "b"),
     "less_found": ('a+ { yyless(1); printf("L"); }\n', "a"),
     # matches that are tried one after another
     "reject": ('a+ { REJECT; }\n' + ONE, "a"),

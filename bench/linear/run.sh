@@ -5,7 +5,7 @@
 # each time stands how many times the one before it is. Beside it is what flex's scanner takes for 10^4 and 10^5
 # bytes, 20 seconds by the clock at most; what it writes is compared.
 #
-# Then come families for which the time is expected to grow with the square of the text, for 2^12 bytes and up, and the memory for one
+# Then comes a family for which the time is expected to grow with the square of the text, for 2^12 bytes and up, and the memory for one
 # string without an end.
 #
 # The status is 1 where a text twice as long took more than 2.3 times as long, in a family of the first table, and the shorter
@@ -118,7 +118,7 @@ heading() {
 }
 
 heading
-for name in letters line comments statements string context less more every2; do
+for name in letters line comments statements string context less more every2 context_found context_every2 less_found; do
     family "$name" "$size" judged
 done
 family every7 $((size / 4)) judged
@@ -127,9 +127,7 @@ family every2to6 $((size / 16)) judged
 family every2to8 $((size / 16)) judged
 echo
 heading
-for name in context_found less_found reject; do
-    family "$name" 4096 shown
-done
+family reject 4096 shown
 echo
 "$here/inputs.py" "$folder" string 1000
 "$lex" -w -o "$folder/lex.tab" "$folder/string.l"

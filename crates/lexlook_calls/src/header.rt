@@ -17,7 +17,7 @@ use lexspec::Rule;
 use std::alloc::{AllocError, Global};
 
 /// The language of the program.
-#[derive(Clone, Copy, Debug, PartialEq, Eq)]
+#[derive(Clone, Copy)]
 pub enum Language {
     /// C, and C++: an enum.
     C,

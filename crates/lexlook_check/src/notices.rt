@@ -25,7 +25,7 @@ use lexspec_lines::skip_blanks;
 use std::alloc::{AllocError, Global};
 
 /// What is warned of.
-#[derive(Clone, Copy, Debug, PartialEq, Eq)]
+#[derive(Clone, Copy)]
 pub enum NoticeKind {
     /// A class in which a letter beyond ASCII stands, by the bytes of its UTF-8.
     LettersAsBytes,
@@ -62,7 +62,7 @@ pub enum NoticeKind {
 }
 
 /// A place of a specification, and what is warned of there.
-#[derive(Clone, Copy, Debug, PartialEq, Eq)]
+#[derive(Clone, Copy)]
 pub struct Notice {
     /// The line, from 1.
     pub line: u32,

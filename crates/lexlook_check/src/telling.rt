@@ -19,7 +19,7 @@ use lexspec_lines::without_returns;
 use std::alloc::{AllocError, Global};
 
 /// How what was found is told.
-#[derive(Clone, Copy, Debug, PartialEq, Eq)]
+#[derive(Clone, Copy)]
 pub enum Form {
     /// By lines to read.
     Lines,

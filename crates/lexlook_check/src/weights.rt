@@ -21,7 +21,7 @@ use std::alloc::{AllocError, Global};
 const CAP: u64 = 1 << 32;
 
 /// A rule, and how many positions it has.
-#[derive(Clone, Copy, Debug, PartialEq, Eq)]
+#[derive(Clone, Copy)]
 pub struct RuleWeight {
     /// Its line, from 1.
     pub line: u32,
@@ -30,7 +30,7 @@ pub struct RuleWeight {
 }
 
 /// How many positions there are where a limit is passed.
-#[derive(Clone, Copy, Debug, PartialEq, Eq)]
+#[derive(Clone, Copy)]
 pub struct Weights {
     /// How many positions or states are allowed.
     pub allowed: u32,

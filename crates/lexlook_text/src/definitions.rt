@@ -17,7 +17,7 @@ pub struct Line<'a> {
 }
 
 /// What a line of the definitions section does.
-#[derive(Clone, Copy, Debug, PartialEq, Eq)]
+#[derive(Clone, Copy)]
 pub enum LineKind {
     /// It defines a name.
     Definition,

@@ -41,7 +41,7 @@ pub(crate) struct Cursor {
 }
 
 /// Where a word stands.
-#[derive(Clone, Copy, Debug, PartialEq, Eq)]
+#[derive(Clone, Copy)]
 pub struct Spot {
     /// Its line, from 1.
     pub line: u32,

@@ -13,7 +13,7 @@ use Rattle.lexscan_matching.specs.Glanced.{IsGlancedMatch, written_by}
 use Rattle.lexscan_matching.specs.Descends.{Conditions, matches_of, Takes}
 use Rattle.lexscan_matching.specs.Picks.{path_of}
 use Rattle.lexscan_matching.proofs.Barrens.{true_burst}
-use Rattle.lexscan_window.specs.Memos.{AreTrue, Barren}
+use Rattle.lexscan_window.specs.Memos.{AreTrue, TellsWalk}
 use Rattle.lexscan_window.specs.Places.{kept_before}
 use Rattle.lexscan_window.specs.Window.{Held, last_of}
 use Rattle.lexscan_window.specs.declared.error.RunError.{RunError}
@@ -285,7 +285,7 @@ module _ (M : Machine) (old : Scan) (window : Held) (same : window.bytes ≡ old
     stack = h.stack;
     marks = λ works. λ m a. let k = h.marks works m a in (
       k.0,
-      λ i e. subst (λ l. Barren M old.state.reading.at_end m.state (drop i l)) (sym same) (k.1 i (omega (arith, e, ap length same))),
+      λ i e. subst (λ l. TellsWalk M old.state.reading.at_end m (drop i l)) (sym same) (k.1 i (omega (arith, e, ap length same))),
     );
   }
 

@@ -1,13 +1,13 @@
 -- Walks over bytes that are held, and lead to no match.
 use mathlib.Core.Logic.{∥∥₁_elim}
-use Rattle.std.proofs.Common.{◌≡◌, ℕ, zero, suc, ◌+◌, ◌-◌, ◌≤◌, ◌<◌, Bool, true, false, List, [], ◌∷◌, ◌++◌, length, take, drop, get_or, ◌⊎◌, inl, inr, refl, sym, ◌∙◌, ap, subst, arith}
-use Rattle.std.specs.Prelude.{filter_map, ◌==◌}
-use Rattle.std.proofs.lemmas.List.{append-nil, length-append, length-drop, length-take-le, drop-append-le, drop-drop, nil_from_length}
+use Rattle.std.proofs.Common.{◌≡◌, ℕ, zero, suc, ◌+◌, ◌-◌, ◌≤◌, ◌<◌, Bool, true, false, List, [], ◌∷◌, ◌++◌, length, take, drop, get_or, ◌⊎◌, inl, inr, refl, sym, ◌∙◌, ap, subst, arith, take-add, take_all}
+use Rattle.std.specs.Prelude.{filter_map, ◌==◌, slice_range}
+use Rattle.std.proofs.lemmas.List.{append-nil, length-append, length-drop, length-take-le, take-append-le, take-take, drop-append-le, drop-drop, nil_from_length}
 use Rattle.std.proofs.Math.Seq.{drop-cons}
 use Rattle.std.proofs.lemmas.Bool.{cases_lt, eqb-true}
-use Rattle.lex_semantics.specs.Text.{Among}
+use Rattle.lex_semantics.specs.Text.{Among, IsText}
 use Rattle.lex_semantics.specs.Machine.{Machine, walk}
-use Rattle.lex_semantics.specs.MachineLaws.{MachineLaws, LeadsToAccept}
+use Rattle.lex_semantics.specs.MachineLaws.{MachineLaws, StaysBelow, LeadsToAccept}
 use Rattle.lex_semantics.specs.PlainMachine.{match_of}
 use Rattle.lex_semantics.specs.Trail.{falling}
 use Rattle.lexscan_matching.specs.declared.back.Settled.{Settled}
@@ -15,10 +15,13 @@ use Rattle.lexscan_window.specs.declared.memo.Mark.{Mark}
 use Rattle.lexscan_window.specs.declared.state.Reading.{Reading}
 use Rattle.lexscan_window.specs.declared.state.TextPlace.{TextPlace}
 use Rattle.lexscan_window.specs.Reads.{Took}
-use Rattle.lexscan_matching.specs.Looks.{SoFar, Looked}
+use Rattle.lexscan_matching.specs.Looks.{SoFar, Looked, IsLiveAfter}
 use Rattle.lexscan_matching.specs.Picks.{path_of, state_at}
-use Rattle.lexscan_window.specs.Memos.{Barren, IsTrueMark, AreTrue, unmarked}
+use Rattle.lexscan_window.specs.Memos.{Barren, GoesOver, TellsWalk, IsTrueMark, AreTrue, silent, unmarked}
 use Rattle.lexscan_matching.specs.Backs.{IsSettled}
+use Rattle.lex_semantics.proofs.MachineLaws.{walk-append}
+use Rattle.lex_semantics.proofs.States.{states_below}
+use Rattle.lex_semantics.proofs.Texts.{is_text_take}
 use Rattle.lexscan_matching.proofs.Growing.{clash, step_more}
 use Rattle.lexscan_matching.proofs.Picking.{state_more, falling_more}
 
@@ -47,8 +50,12 @@ barren_dead M laws e w = by_case (M.goes_on 0) refl
     by_case false h = barren_stopped M e 0 w h
     by_case true h = absurd (∥∥₁_elim ((laws.goes_on 0).0 h) (λ x. absurd x) (dead_leads M laws))
 
+-- a mark of a walk that is barren
+pub tells_silent : (M : Machine) (e : Bool) (place s : ℕ) (w : List ℕ) → Barren M e s w → TellsWalk M e (silent place s) w
+tells_silent M e place s w h = (omega arith, (refl, λ some. absurd (omega (arith, some)), λ i some lt. absurd (omega (arith, some, lt))), h)
+
 pub true_unmarked : (M : Machine) → MachineLaws M → (r : Reading) → IsTrueMark M r unmarked
-true_unmarked M laws r = (omega arith, λ i e. barren_dead M laws r.at_end (drop i r.window.bytes))
+true_unmarked M laws r = (omega arith, λ i e. tells_silent M r.at_end 0 0 (drop i r.window.bytes) (barren_dead M laws r.at_end (drop i r.window.bytes)))
 
 -- a window that grows
 pub barren_grown : (M : Machine) (a b : Bool) (s : ℕ) (w more : List ℕ) → (a ≡ true → more ≡ []) → (a ≡ true → b ≡ true) → Barren M a s w → Barren M b s (w ++ more)
@@ -56,17 +63,24 @@ barren_grown M a b s [] [] none stays h = λ g. stays (h g)
 barren_grown M a b s [] (x ∷ more) none stays h = λ g. (let e : x ∷ more ≡ [] = none (h g) in absurd cc)
 barren_grown M a b s (x ∷ w) more none stays h = λ g. ((h g).0, barren_grown M a b (M.next s x) w more none stays (h g).1)
 
+pub tells_grown : (M : Machine) (a b : Bool) (m : Mark) (w more : List ℕ) → (a ≡ true → more ≡ []) → (a ≡ true → b ≡ true) → TellsWalk M a m w → TellsWalk M b m (w ++ more)
+tells_grown M a b m w more none stays h = (
+  omega (arith, h.0, length-append w more),
+  subst (λ u. GoesOver M m.state u m.last m.before) (sym (take-append-le m.count w more h.0)) h.1,
+  subst (λ u. Barren M b m.last u) (sym (drop-append-le m.count w more h.0)) (barren_grown M a b m.last (drop m.count w) more none stays h.2),
+)
+
 pub true_grown : {S : Type 0} (M : Machine) (gave : S → List ℕ → S → Type 0) (s t : S) (old new : Reading) (m : Mark) → Took gave s t old new → IsTrueMark M old m → IsTrueMark M new m
 true_grown M gave s t old new m k h = (omega (arith, h.0, k.taken), λ i e. over i (omega (arith, e, size, k.taken)))
   where
     size : length new.window.bytes ≡ length old.window.bytes + length k.got
     size = ap length k.held ∙ length-append old.window.bytes k.got
 
-    over : (i : ℕ) → m.place + length old.window.bytes ≡ old.taken + i → Barren M new.at_end m.state (drop i new.window.bytes)
+    over : (i : ℕ) → m.place + length old.window.bytes ≡ old.taken + i → TellsWalk M new.at_end m (drop i new.window.bytes)
     over i e =
         let inside : i ≤ length old.window.bytes = omega (arith, e, h.0) in
-        subst (Barren M new.at_end m.state) (sym (ap (drop i) k.held ∙ drop-append-le i old.window.bytes k.got inside))
-        (barren_grown M old.at_end new.at_end m.state (drop i old.window.bytes) k.got k.nothing k.end_stays (h.1 i e))
+        subst (TellsWalk M new.at_end m) (sym (ap (drop i) k.held ∙ drop-append-le i old.window.bytes k.got inside))
+        (tells_grown M old.at_end new.at_end m (drop i old.window.bytes) k.got k.nothing k.end_stays (h.1 i e))
 
 -- a window from whose front bytes are dropped
 pub true_dropped : (M : Machine) (old new : Reading) (n : ℕ) (m : Mark) → n ≤ length old.window.bytes → new.window.bytes ≡ drop n old.window.bytes → new.taken ≡ old.taken → new.at_end ≡ old.at_end → IsTrueMark M old m →
@@ -76,10 +90,10 @@ true_dropped M old new n m le held taken at_end h = (omega (arith, h.0, taken), 
     size : length new.window.bytes ≡ length old.window.bytes - n
     size = ap length held ∙ length-drop n old.window.bytes
 
-    over : (i : ℕ) → m.place + length old.window.bytes ≡ old.taken + (n + i) → Barren M new.at_end m.state (drop i new.window.bytes)
+    over : (i : ℕ) → m.place + length old.window.bytes ≡ old.taken + (n + i) → TellsWalk M new.at_end m (drop i new.window.bytes)
     over i e =
-        subst (λ w. Barren M new.at_end m.state w) (sym (ap (drop i) held ∙ drop-drop i n old.window.bytes))
-        (subst (λ b. Barren M b m.state (drop (n + i) old.window.bytes)) (sym at_end) (h.1 (n + i) e))
+        subst (λ w. TellsWalk M new.at_end m w) (sym (ap (drop i) held ∙ drop-drop i n old.window.bytes))
+        (subst (λ b. TellsWalk M b m (drop (n + i) old.window.bytes)) (sym at_end) (h.1 (n + i) e))
 
 -- several turns in one go keep marks true: the window grows by the bytes asked for, and those that are done with are dropped
 pub true_further : (M : Machine) (old new : Reading) (bytes more : List ℕ) (got n : ℕ) (ms : List Mark) → bytes ≡ old.window.bytes → length more ≡ got → n ≤ length bytes + got → new.window.bytes ≡ drop n (bytes ++ more) → new.taken ≡ old.taken + got →
@@ -95,11 +109,11 @@ true_further M old new bytes more got n ms same many le held taken unended h x a
     not_ended : old.at_end ≡ true → ⊥
     not_ended e = clash old.at_end e unended
 
-    over : (i : ℕ) → x.place + length old.window.bytes ≡ old.taken + (n + i) → IsTrueMark M old x → Barren M new.at_end x.state (drop i new.window.bytes)
+    over : (i : ℕ) → x.place + length old.window.bytes ≡ old.taken + (n + i) → IsTrueMark M old x → TellsWalk M new.at_end x (drop i new.window.bytes)
     over i e t =
         let inside : n + i ≤ length old.window.bytes = omega (arith, e, t.0) in
         let whole : drop i new.window.bytes ≡ drop (n + i) old.window.bytes ++ more = ap (drop i) held ∙ drop-drop i n (bytes ++ more) ∙ ap (λ w. drop (n + i) (w ++ more)) same ∙ drop-append-le (n + i) old.window.bytes more inside in
-        subst (Barren M new.at_end x.state) (sym whole) (barren_grown M old.at_end new.at_end x.state (drop (n + i) old.window.bytes) more (λ e. absurd (not_ended e)) (λ e. absurd (not_ended e)) (t.1 (n + i) e))
+        subst (TellsWalk M new.at_end x) (sym whole) (tells_grown M old.at_end new.at_end x (drop (n + i) old.window.bytes) more (λ e. absurd (not_ended e)) (λ e. absurd (not_ended e)) (t.1 (n + i) e))
 
 -- a text was shown after the bytes held, and a part of it was asked for
 pub true_burst : (M : Machine) (old new : Reading) (text bytes ahead given : List ℕ) (h shown asked done : ℕ) (ms : List Mark) → h ≡ length old.window.bytes → bytes ≡ old.window.bytes → ahead ≡ take shown given → shown ≤ length given → text ≡ bytes ++ take shown ahead → h ≤ asked →
@@ -304,22 +318,25 @@ pub none_in : (l : List ℕ) (b : Bool) → b ≡ (length l == 0) → b ≡ true
 none_in l b e is = nil_from_length l (eqb-true (length l) 0 (sym e ∙ is))
 
 -- a mark of the place tells
-pub marked_barren : (M : Machine) (r : Reading) (ms : List Mark) (place s i : ℕ) → AreTrue M r ms → Among ms (record { place = place; state = s }) → place + length r.window.bytes ≡ r.taken + i → Barren M r.at_end s (drop i r.window.bytes)
-marked_barren M r ms place s i h a e = (h (record { place = place; state = s }) a).1 i e
+pub marked : (M : Machine) (r : Reading) (ms : List Mark) (m : Mark) (i left : ℕ) → AreTrue M r ms → Among ms m → m.place + left ≡ r.taken → i + left ≡ length r.window.bytes → TellsWalk M r.at_end m (drop i r.window.bytes)
+marked M r ms m i left h a at all = (h m a).1 i (omega (arith, at, all))
 
--- a mark that is put where a walk is known to be barren
-pub true_put : (M : Machine) (r : Reading) (ms ms' : List Mark) (place s i : ℕ) → AreTrue M r ms → ((m : Mark) → Among ms' m → Among ms m ⊎ (m ≡ record { place = place; state = s })) → place ≤ r.taken → place + length r.window.bytes ≡ r.taken + i →
-    Barren M r.at_end s (drop i r.window.bytes) → AreTrue M r ms'
-true_put M r ms ms' place s i h put le at barren m a = elim (put m a) [
+-- a mark that is put where it is known to be true
+pub true_put : (M : Machine) (r : Reading) (ms ms' : List Mark) (new : Mark) (i : ℕ) → AreTrue M r ms → ((m : Mark) → Among ms' m → Among ms m ⊎ (m ≡ new)) → new.place ≤ r.taken → new.place + length r.window.bytes ≡ r.taken + i → TellsWalk M r.at_end new (drop i r.window.bytes) →
+    AreTrue M r ms'
+true_put M r ms ms' new i h put le at tells m a = elim (put m a) [
   | inl old ↦ h m old
-  | inr new ↦ subst (IsTrueMark M r) (sym new) (le, λ j e. subst (λ n. Barren M r.at_end s (drop n r.window.bytes)) (omega (arith, at, e)) barren)
+  | inr is ↦ subst (IsTrueMark M r) (sym is) (le, λ j e. subst (λ n. TellsWalk M r.at_end new (drop n r.window.bytes)) (omega (arith, at, e)) tells)
 ]
+
+pub silent_put : (M : Machine) (r : Reading) (ms ms' : List Mark) (place s i : ℕ) → AreTrue M r ms → ((m : Mark) → Among ms' m → Among ms m ⊎ (m ≡ silent place s)) → place ≤ r.taken → place + length r.window.bytes ≡ r.taken + i → Barren M r.at_end s (drop i r.window.bytes) → AreTrue M r ms'
+silent_put M r ms ms' place s i h put le at barren = true_put M r ms ms' (silent place s) i h put le at (tells_silent M r.at_end place s (drop i r.window.bytes) barren)
 
 pub none_left : (w : List ℕ) (n : ℕ) → length w ≤ n → drop n w ≡ []
 none_left w n le = nil_from_length (drop n w) (omega (arith, length-drop n w, le))
 
 -- before the first byte
-pub looked_first : (M : Machine) (states : ℕ) (p : TextPlace) (r : Reading) (s : ℕ) → p.at ≤ length r.window.bytes → s ≡ M.start p.condition p.line_start → s < states → LookedAt M states p r 0 s s (record { keep = 0; state = s; before = s; len = 0 })
+pub looked_first : (M : Machine) (states : ℕ) (p : TextPlace) (r : Reading) (s : ℕ) → p.at ≤ length r.window.bytes → s ≡ M.start p.condition p.line_start → s < states → LookedAt M states p r 0 s s (record { keep = 0; state = s; before = s; len = 0; seen = 0 })
 looked_first M states p r s le is known = record {
   inside = omega (arith, le);
   so_far = record { inside = omega arith; state_is = is; asked = λ i some lt. absurd (omega (arith, some, lt)); path_is = refl };
@@ -342,3 +359,121 @@ true_fit M laws r ms ms' h fit m a = elim (fit m a) [
   | inl old ↦ h m old
   | inr new ↦ subst (IsTrueMark M r) (sym new) (true_unmarked M laws r)
 ]
+
+-- the walk from a place on, by the state there
+module _ (M : Machine) (p : TextPlace) (w : List ℕ) where
+  pub state_further : (k j : ℕ) → state_at M p w (k + j) ≡ walk M (state_at M p w k) (take j (drop (p.at + k) w))
+  state_further k j =
+      let y : List ℕ = drop p.at w in
+      let s : ℕ = M.start p.condition p.line_start in
+      ap (walk M s) (take-add k j y) ∙ walk-append M s (take k y) (take j (drop k y)) ∙ ap (λ u. walk M (state_at M p w k) (take j u)) (drop-drop k p.at w)
+
+  -- it goes over the bytes up to a place, each of them asked for
+  pub goes_over : (k n last before : ℕ) → k ≤ n → p.at + n ≤ length w → last ≡ state_at M p w n → (1 ≤ n → before ≡ state_at M p w (n - 1)) → ((i : ℕ) → 1 ≤ i → i < n → IsLiveAfter M p (drop p.at w) i) → GoesOver M (state_at M p w k) (take (n - k) (drop (p.at + k) w)) last before
+  goes_over k n last before le inside last_is before_is asked = (
+    last_is ∙ ap (state_at M p w) (omega (arith, le)) ∙ state_further k (n - k),
+    λ some. before_is (omega (arith, some, size, le)) ∙ ap (state_at M p w) (omega (arith, some, size, le)) ∙ state_further k (n - 1 - k) ∙ ap (walk M (state_at M p w k)) (fewer (n - 1 - k) (omega (arith, some, size)) ∙ ap (λ j. take j v) (omega (arith, size))),
+    λ i some lt. subst (λ s. M.goes_on s ≡ true) (state_further k i ∙ ap (walk M (state_at M p w k)) (fewer i (omega (arith, lt, size)))) (asked (k + i) (omega (arith, some)) (omega (arith, lt, size, le))),
+  )
+    where
+      v : List ℕ
+      v = take (n - k) (drop (p.at + k) w)
+
+      size : length v ≡ n - k
+      size = length-take-le (n - k) (drop (p.at + k) w) (omega (arith, length-drop (p.at + k) w, inside, le))
+
+      fewer : (j : ℕ) → j ≤ n - k → take j (drop (p.at + k) w) ≡ take j v
+      fewer j few = sym (take-take j (n - k) (drop (p.at + k) w) few)
+
+-- a mark tells where the longest text ends
+pub settled_further : (M : Machine) (states : ℕ) → StaysBelow M states → (p : TextPlace) (r : Reading) (len state before : ℕ) (a b : Settled) (m : Mark) → p.condition < M.conditions → IsText (drop p.at r.window.bytes) → LookedAt M states p r len state before a → 1 ≤ len → M.goes_on state ≡ true → m.state ≡ state →
+    TellsWalk M r.at_end m (drop (p.at + len) r.window.bytes) → 1 ≤ m.count → (b.keep ≡ len + m.count) × (b.state ≡ m.last) × (b.before ≡ m.before) × (b.len ≡ len + m.count) → IsSettled M states p r b
+settled_further M states below p r len state before a b m known text h one live same tells some is = record {
+  some = omega (arith, is.0, one);
+  order = omega (arith, is.0, is.3);
+  inside = omega (arith, is.3, inside);
+  known = subst (λ s. s < states) (sym state_is) (at_known b.keep);
+  before_is = before_is;
+  known_before = subst (λ s. s < states) (sym before_is) (at_known (b.keep - 1));
+  so_far = record { inside = omega (arith, is.0, inside, length-drop p.at w); state_is = state_is; asked = asked; path_is = refl };
+  barren = λ k lo hi. subst BarrenAt (omega (arith, lo, hi, is.0, is.3)) barren;
+}
+  where
+    w : List ℕ
+    w = r.window.bytes
+
+    v : List ℕ
+    v = drop (p.at + len) w
+
+    here : state ≡ state_at M p w len
+    here = h.so_far.state_is
+
+    inside : p.at + (len + m.count) ≤ length w
+    inside = omega (arith, tells.0, length-drop (p.at + len) w, some)
+
+    at_known : (k : ℕ) → state_at M p w k < states
+    at_known k = states_below M states below p.condition p.line_start (take k (drop p.at w)) known (is_text_take k (drop p.at w) text)
+
+    -- so many bytes further on the way of the mark
+    further_to : (j : ℕ) → j ≤ m.count → walk M m.state (take j (take m.count v)) ≡ state_at M p w (len + j)
+    further_to j le = ap (walk M m.state) (take-take j m.count v le) ∙ ap (λ s. walk M s (take j v)) (same ∙ here) ∙ sym (state_further M p w len j)
+
+    whole : length (take m.count v) ≡ m.count
+    whole = length-take-le m.count v tells.0
+
+    last_is : m.last ≡ state_at M p w (len + m.count)
+    last_is = tells.1.0 ∙ ap (walk M m.state) (sym (take-take m.count m.count v (omega arith))) ∙ further_to m.count (omega arith)
+
+    state_is : b.state ≡ state_at M p w b.keep
+    state_is = is.1 ∙ last_is ∙ ap (state_at M p w) (sym is.0)
+
+    before_is : b.before ≡ state_at M p w (b.keep - 1)
+    before_is = is.2 ∙ tells.1.1 (omega (arith, some, whole)) ∙ ap (λ j. walk M m.state (take j (take m.count v))) (omega (arith, whole)) ∙ further_to (m.count - 1) (omega arith) ∙ ap (state_at M p w) (omega (arith, some, is.0))
+
+    asked : (i : ℕ) → 1 ≤ i → i < b.keep → IsLiveAfter M p (drop p.at w) i
+    asked i lo hi = elim (cases_lt len i) [
+      | inl more ↦ subst (λ s. M.goes_on s ≡ true) (further_to (i - len) (omega (arith, more, hi, is.0)) ∙ ap (state_at M p w) (omega (arith, more))) (tells.1.2 (i - len) (omega (arith, more)) (omega (arith, more, hi, is.0, whole)))
+      | inr less ↦ elim (cases_lt i len) [
+        | inl before_it ↦ h.so_far.asked i lo before_it
+        | inr not ↦ subst (λ s. M.goes_on s ≡ true) (here ∙ ap (state_at M p w) (omega (arith, less, not))) live
+      ]
+    ]
+
+    BarrenAt : ℕ → Type 0
+    BarrenAt k = Barren M r.at_end (state_at M p w k) (drop (p.at + k) w)
+
+    barren : BarrenAt (len + m.count)
+    barren = subst (λ s. Barren M r.at_end s (drop (p.at + (len + m.count)) w)) last_is
+        (subst (λ u. Barren M r.at_end m.last u) (drop-drop m.count (p.at + len) w ∙ ap (λ n. drop n w) (omega arith)) tells.2)
+
+-- a mark that tells of no more bytes
+pub silent_barren : (M : Machine) (e : Bool) (m : Mark) (w : List ℕ) → m.count ≡ 0 → TellsWalk M e m w → Barren M e m.state w
+silent_barren M e m w none tells =
+    subst (λ s. Barren M e s w) (tells.1.0 ∙ ap (λ n. walk M m.state (take n w)) none)
+    (subst (λ n. Barren M e m.last (drop n w)) none tells.2)
+
+-- the two together
+pub settled_told : (M : Machine) (states : ℕ) → StaysBelow M states → (p : TextPlace) (r : Reading) (len state before : ℕ) (a b : Settled) (m : Mark) → p.condition < M.conditions → IsText (drop p.at r.window.bytes) → LookedAt M states p r len state before a → 1 ≤ len → M.goes_on state ≡ true → m.state ≡ state →
+    TellsWalk M r.at_end m (drop (p.at + len) r.window.bytes) → (m.count ≡ 0 → b ≡ a) → (1 ≤ m.count → (b.keep ≡ len + m.count) × (b.state ≡ m.last) × (b.before ≡ m.before) × (b.len ≡ len + m.count)) → IsSettled M states p r b
+settled_told M states below p r len state before a b m known text h one live same tells silent_is further_is = elim (cases_lt 0 m.count) [
+  | inl some ↦ settled_further M states below p r len state before a b m known text h one live same tells (omega (arith, some)) (further_is (omega (arith, some)))
+  | inr none ↦ (let zero_is : m.count ≡ 0 = omega (arith, none) in
+      subst (IsSettled M states p r) (sym (silent_is zero_is))
+      (settled_at M states p r len state before a h one (subst (λ s. Barren M r.at_end s (drop (p.at + len) r.window.bytes)) same (silent_barren M r.at_end m (drop (p.at + len) r.window.bytes) zero_is tells))))
+]
+
+-- all from a place on
+pub whole_slice : (w : List ℕ) (at to : ℕ) → to ≡ length w → slice_range w at to ≡ drop at w
+whole_slice w at to e = take_all (to - at) (drop at w) (omega (arith, e, length-drop at w))
+
+-- a mark that is put at a place on the way to the last state that accepts
+pub true_walk : (M : Machine) (states : ℕ) (p : TextPlace) (r : Reading) (a : Settled) (ms ms' : List Mark) (k place s : ℕ) → AreTrue M r ms → IsSettled M states p r a → ((m : Mark) → Among ms' m → Among ms m ⊎ (m ≡ record { place = place; state = s; count = a.keep - k; last = a.state; before = a.before })) →
+    s ≡ state_at M p r.window.bytes k → k ≤ a.keep → (place ≤ r.taken) × (place + length r.window.bytes ≡ r.taken + (p.at + k)) → AreTrue M r ms'
+true_walk M states p r a ms ms' k place s t h put is le at = true_put M r ms ms' (record { place = place; state = s; count = a.keep - k; last = a.state; before = a.before }) (p.at + k) t put at.0 at.1 (
+  omega (arith, length-drop (p.at + k) w, h.inside, h.order),
+  subst (λ q. GoesOver M q (take (a.keep - k) (drop (p.at + k) w)) a.state a.before) (sym is) (goes_over M p w k a.keep a.state a.before le (omega (arith, h.inside, h.order)) h.so_far.state_is (λ _. h.before_is) h.so_far.asked),
+  subst (λ u. Barren M r.at_end a.state u) (ap (λ n. drop n w) (omega (arith, le)) ∙ sym (drop-drop (a.keep - k) (p.at + k) w)) (subst (λ q. Barren M r.at_end q (drop (p.at + a.keep) w)) (sym h.so_far.state_is) (h.barren a.keep (omega arith) h.order)),
+)
+  where
+    w : List ℕ
+    w = r.window.bytes

@@ -1,5 +1,5 @@
 -- What is told of a match where no more may be read.
-use Rattle.std.proofs.Common.{◌≡◌, ℕ, ◌+◌, ◌≤◌, ◌<◌, max, Bool, true, false, List, [], ◌∷◌, ◌++◌, length, take, drop, ◌⊎◌, inl, inr, Result, Ok, Err, refl, sym, ◌∙◌, ap, append-nil, arith}
+use Rattle.std.proofs.Common.{◌≡◌, ℕ, ◌+◌, ◌≤◌, ◌<◌, max, true, false, List, [], ◌∷◌, ◌++◌, length, take, drop, ◌⊎◌, inl, inr, Result, Ok, Err, refl, sym, ◌∙◌, ap, append-nil, arith}
 use Rattle.std.specs.Prelude.{IfErr, ⊤}
 use Rattle.std.proofs.lemmas.List.{length-append, length-drop}
 use Rattle.std.proofs.lemmas.Bool.{cases_lt}

@@ -6,8 +6,8 @@
 //! - `descent`: REJECT: tries the matches from the longest down, up to the first whose action does not reject.
 //! - `glanced`: for `burst` of lexscan: a match that is told by its last state, by the one before it or by a short walk,
 //!   and what it does.
-//! - `back`: a match over many bytes that an earlier match has read ahead already; the walk stops where a mark says that
-//!   no match follows.
+//! - `back`: a match over many bytes that an earlier match has read ahead already; the walk stops where a mark says
+//!   where it leads.
 //! - `front`: the longest match at the front of a text, for callers that walk a machine themselves; no scan uses it.
 //!
 //! It promises lexscan that the match is the machine's, over the bytes held and taken (`specs/Calls`), and that its
@@ -23,7 +23,7 @@
 //! - A rule that does nothing is asked for first: its match changes three numbers, which stay in registers.
 //! - Where some rule has REJECT there are no marks. Its matches are tried one after another, which may take time in
 //!   the square of the text, whatever is known of walks.
-//! - A walk marks that no state on its way accepts, not that no rule fits. In the automaton of a specification these
+//! - A walk marks the last state on its way that accepts, or that none does, not that a rule fits. In the automaton of a specification these
 //!   are the same. A table file that no specification makes may accept a rule whose trailing context takes the whole
 //!   match, and then walks are not marked.
 #![tactic(auto)]

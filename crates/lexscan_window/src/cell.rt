@@ -1,7 +1,7 @@
 //! A few marks of one place of the source.
 ghost use Rattle.std.specs.Prelude.{◌≡◌, ◌⊎◌, true};
 ghost use Rattle.lex_semantics.specs.Text.{Among};
-ghost use Rattle.lexscan_window.specs.Memos.{cell_place, mark_at, marks_of};
+ghost use Rattle.lexscan_window.specs.Memos.{cell_place, mark_at, marks_of, silent};
 ghost use Rattle.lexscan_window.specs.declared.memo.Mark.{Mark};
 
 /// From one to four states at a place of the source. Where there are fewer than four, the first one stands more than
@@ -18,7 +18,7 @@ pub struct Cell {
 impl Cell {
     /// One state at a place.
     pub fn new(place: u64, state: u16) -> Cell
-        ensures { (m : Mark) → Among (marks_of result) m → m ≡ record { place = place; state = state } }
+        ensures { (m : Mark) → Among (marks_of result) m → m ≡ silent place state }
     {
         Cell {
             place,
@@ -55,7 +55,7 @@ impl Cell {
     /// where it is about another place, and nothing is changed where it has the state.
     pub fn marked(self, place: u64, state: u16) -> Cell
         ensures { (m : Mark) → Among (marks_of result) m → Among (marks_of self) m
-            ⊎ (m ≡ record { place = place; state = state }) }
+            ⊎ (m ≡ silent place state) }
     {
         if self.place != place {
             Cell::new(place, state)

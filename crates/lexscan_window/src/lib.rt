@@ -14,8 +14,8 @@
 //! - `tie`: the sink is flushed before a read that may wait.
 //! - `reading`: bytes are taken into the window.
 //! - `act`: the statements of a rule are carried out.
-//! - `memo`: the marks: pairs of a place and a state from which a walk leads to no match.
-//! - `cell`: a few marks of one place.
+//! - `memo`: the marks: pairs of a place and a state, and where a walk from there leads.
+//! - `cell`: a few marks of one place, of walks that lead to no match. `known_walk`: the mark of a walk that leads to one.
 //! - `waiting`: a source over what is left of earlier pieces and the new piece, for scans by pieces.
 //!
 //! It promises lexscan_matching and lexscan which bytes were taken, held and written (`specs/Takings`, `Walks`), and
@@ -27,7 +27,7 @@
 //!   grows, or its bytes move to its start where as many were dropped as are held.
 //! - The marks are like a hash table: a row for each place, with room for as many states as failed there, in cells of
 //!   four. Where a row is full the next table has half the rows, each twice as long, at places twice as far apart, and
-//!   takes no more memory.
+//!   takes no more memory. Eight cells at most are looked at for a state, from one on that its number tells. Those of walks that lead to a match stand in a table of the same shape, one to a cell.
 //! - A mark that is lost costs time alone: a state above 65,535 is not marked, and where memory for the marks is refused
 //!   a scan goes on without them.
 #![tactic(auto)]
@@ -37,6 +37,7 @@ mod cell;
 mod error;
 mod glimpse;
 mod intake;
+mod known_walk;
 mod matched;
 mod memo;
 mod path;

@@ -1,59 +1,127 @@
 //! What is known of walks over bytes that are held: Reps's table of pairs of a state and a place that lead to no
-//! match, kept for some places alone. (Reps, Maximal-munch tokenization in linear time, 1998.)
+//! match, kept for some places alone, and beside it where the others lead. (Reps, Maximal-munch tokenization in linear
+//! time, 1998.)
 ghost use Rattle.std.specs.Prelude.{◌≡◌, ℕ, ◌+◌, ◌-◌, ◌<◌, ◌≤◌, [], length, ◌⊎◌, true, IfSome};
 ghost use Rattle.lex_semantics.specs.Text.{Among};
-ghost use Rattle.lexscan_window.specs.Memos.{unmarked};
+ghost use Rattle.lexscan_window.specs.Memos.{silent, unmarked};
 
 use crate::cell::Cell;
+use crate::known_walk::KnownWalk;
 use std::alloc::Global;
 use std::marker::Model;
 
-/// A place of the source and a state: a walk from the state over the bytes from the place on leads to no match.
+/// A place of the source and a state: a walk from the state over the bytes from the place on goes over so many of them
+/// to a last state, over the one before it, and from there on it leads to no match.
 #[derive(Clone, Copy)]
 pub struct Mark {
     pub place: u64,
     pub state: u32,
+    pub count: usize,
+    pub last: u32,
+    pub before: u32,
+}
+
+impl Mark {
+    /// A walk from the state leads to no match.
+    fn silent(place: u64, state: u32) -> Mark
+        ensures { result ≡ silent place state }
+    {
+        Mark {
+            place,
+            state,
+            count: 0,
+            last: state,
+            before: state,
+        }
+    }
 }
 
 /// How many bytes of the source there are for each cell.
 const BYTES_PER_CELL: usize = 16;
 
+/// How many cells of a row are looked at for a state at most.
+const MOST_PROBES: usize = 8;
+
 /// Marks at each place that is a multiple of the stride, in a table with a row of cells for each such place, used
 /// over and over as the scan goes on. The cells of a row stand `rows` apart. Where a row is full the next table has
-/// half as many, each twice as long.
+/// half as many, each twice as long. Walks that lead to a match have a table of the same shape, once there was one.
 #[derive(Drop)]
 pub struct Memo {
     cells: Vec<Cell>,
+    walks: Vec<KnownWalk>,
     rows: usize,
     ways: usize,
     stride: usize,
     crowded: bool,
+    wants_walks: bool,
 }
 
 impl Model for Memo {
-    ghost use Rattle.std.specs.Prelude.{◌<◌, List};
-    ghost use Rattle.lexscan_window.specs.Memos.{marks_in};
+    ghost use Rattle.std.specs.Prelude.{◌<◌, ◌++◌, List};
+    ghost use Rattle.std.specs.List.{flat_map};
+    ghost use Rattle.lexscan_window.specs.Memos.{marks_of, walk_of};
     ghost use Rattle.lexscan_window.specs.declared.memo.Mark.{Mark};
 
     ghost Value = { List Mark };
 
-    ghost view = { λ m. marks_in m.cells.items };
+    ghost view = { λ m. flat_map marks_of m.cells.items ++ flat_map walk_of m.walks.items };
 
     ghost invariant = { λ m. (0 < m.rows) × (0 < m.ways) × (0 < m.stride) };
 }
 
-/// Which of the cells of a row, from the first one on and so many apart, has this state at this place, or room for it.
-fn slot(cells: &[Cell], first: usize, apart: usize, place: u64, state: u16) -> Option<usize>
-    requires { 0 < apart }
+/// The cells of a place: the first of them, how far apart they stand, and how many there are.
+#[derive(Clone, Copy)]
+struct Row {
+    first: usize,
+    apart: usize,
+    ways: usize,
+    ghost some: { 0 < ways },
+}
+
+impl Row {
+    /// How many of its cells are looked at for a state.
+    fn probes(self) -> usize {
+        self.ways.min(MOST_PROBES)
+    }
+
+    /// Which cell is looked at for a state, the first time or a later one. So a long row is not gone through.
+    fn cell(self, state: u32, probe: usize) -> usize {
+        let way = (state as usize).wrapping_add(probe) % self.ways;
+        self.first.saturating_add(way.saturating_mul(self.apart))
+    }
+}
+
+/// Which of the cells of a row has this state at this place, or room for it.
+fn slot(cells: &[Cell], row: Row, place: u64, state: u16) -> Option<usize>
     ensures { IfSome result (λ at. at < length cells.now) }
 {
-    let mut at = first;
-    'ways: while at < cells.len() {
-        let cell = cells[at];
-        if !cell.is_at(place) || cell.has_room() || cell.has(u32::from(state)) {
+    let probes = row.probes();
+    let mut probe = 0usize;
+    'probes: while probe < probes {
+        let at = row.cell(u32::from(state), probe);
+        if at < cells.len() {
+            let cell = cells[at];
+            if !cell.is_at(place) || cell.has_room() || cell.has(u32::from(state)) {
+                return Some(at);
+            }
+        }
+        probe += 1;
+    }
+    None
+}
+
+/// Which of the walks of a row is from this state at this place, or free.
+fn walk_slot(walks: &[KnownWalk], row: Row, mark: Mark) -> Option<usize>
+    ensures { IfSome result (λ at. at < length walks.now) }
+{
+    let probes = row.probes();
+    let mut probe = 0usize;
+    'probes: while probe < probes {
+        let at = row.cell(mark.state, probe);
+        if at < walks.len() && walks[at].is_free_for(mark) {
             return Some(at);
         }
-        at = at.saturating_add(apart);
+        probe += 1;
     }
     None
 }
@@ -65,10 +133,12 @@ impl Memo {
     {
         Memo {
             cells: Vec::new(alloc),
+            walks: Vec::new(alloc),
             rows: 1,
             ways: 1,
             stride: BYTES_PER_CELL,
             crowded: false,
+            wants_walks: false,
         }
     }
 
@@ -78,10 +148,13 @@ impl Memo {
     {
         self.cells.clear();
         self.cells.shrink_to_fit();
+        self.walks.clear();
+        self.walks.shrink_to_fit();
         self.rows = 1;
         self.ways = 1;
         self.stride = BYTES_PER_CELL;
         self.crowded = false;
+        self.wants_walks = false;
     }
 
     /// Makes room for the places of this many bytes, where memory is given.
@@ -96,6 +169,8 @@ impl Memo {
             self.ways = self.ways.saturating_mul(2);
             self.stride = self.stride.saturating_mul(2);
             self.lay_out(size);
+        } else if self.wants_walks && self.walks.is_empty() {
+            self.lay_out_walks(size);
         }
     }
 
@@ -103,11 +178,22 @@ impl Memo {
     fn lay_out(&mut self, size: usize)
         ensures { (m : Mark) → Among self.new m → m ≡ unmarked }
     {
+        self.walks.clear();
         self.cells.clear();
         let dead = Cell::new(0, 0);
         let _ = self.cells.resize(size, dead);
         self.rows = (size / self.ways).max(1);
         self.crowded = false;
+        let walks = if self.wants_walks { size } else { 0 };
+        self.lay_out_walks(walks);
+    }
+
+    /// The same of the walks that lead to a match. The others stay.
+    fn lay_out_walks(&mut self, size: usize)
+        ensures { (m : Mark) → Among self.new m → Among self.old m }
+    {
+        self.walks.clear();
+        let _ = self.walks.resize(size, KnownWalk::none());
     }
 
     /// How many bytes there are from one place that is marked to the next.
@@ -123,36 +209,94 @@ impl Memo {
         self.stride.saturating_sub(past as usize)
     }
 
-    /// Where the row of a place begins.
-    fn row(&self, place: u64) -> usize {
-        (place / self.stride as u64 % self.rows as u64) as usize
+    /// The row of a place.
+    fn row(&self, place: u64) -> Row {
+        Row {
+            first: (place / self.stride as u64 % self.rows as u64) as usize,
+            apart: self.rows,
+            ways: self.ways,
+        }
     }
 
-    /// Whether there is this mark.
-    pub fn has(&self, place: u64, state: u32) -> bool
-        ensures { result ≡ true → Among self.now (record { place = place; state = state }) }
+    /// Whether it is marked that a walk from the state leads to no match.
+    fn has(&self, place: u64, state: u32) -> bool
+        ensures { result ≡ true → Among self.now (silent place state) }
     {
-        let mut at = self.row(place);
-        'ways: while at < self.cells.len() {
-            let cell = self.cells[at];
-            if cell.is_at(place) && cell.has(state) {
-                return true;
+        let row = self.row(place);
+        let probes = row.probes();
+        let mut probe = 0usize;
+        'probes: while probe < probes {
+            let at = row.cell(state, probe);
+            if at < self.cells.len() {
+                let cell = self.cells[at];
+                if cell.is_at(place) && cell.has(state) {
+                    return true;
+                }
             }
-            at = at.saturating_add(self.rows);
+            probe += 1;
         }
         false
     }
 
-    /// Puts a mark into the row of its place, where there is room.
-    pub fn put(&mut self, place: u64, state: u32)
-        ensures { (m : Mark) → Among self.new m → Among self.old m ⊎ (m ≡ record { place = place; state = state }) }
+    /// The mark of a walk from the state that leads to a match.
+    fn walk(&self, place: u64, state: u32) -> Option<Mark>
+        ensures { IfSome result (λ m. Among self.now m × (m.place ≡ place) × (m.state ≡ state)) }
+    {
+        let row = self.row(place);
+        let probes = row.probes();
+        let mut probe = 0usize;
+        'probes: while probe < probes {
+            let at = row.cell(state, probe);
+            if at < self.walks.len() {
+                if let Some(mark) = self.walks[at].mark() {
+                    if mark.place == place && mark.state == state {
+                        return Some(mark);
+                    }
+                }
+            }
+            probe += 1;
+        }
+        None
+    }
+
+    /// The mark of this state at this place.
+    pub fn find(&self, place: u64, state: u32) -> Option<Mark>
+        ensures { IfSome result (λ m. Among self.now m × (m.place ≡ place) × (m.state ≡ state)) }
+    {
+        if self.has(place, state) {
+            return Some(Mark::silent(place, state));
+        }
+        self.walk(place, state)
+    }
+
+    /// Puts into the row of its place, where there is room, that a walk from the state leads to no match.
+    pub fn put_silent(&mut self, place: u64, state: u32)
+        ensures { (m : Mark) → Among self.new m → Among self.old m ⊎ (m ≡ silent place state) }
     {
         // No specification makes a greater state, and a mark that is lost costs time alone.
         let Ok(state) = u16::try_from(state) else {
             return;
         };
-        match slot(&self.cells, self.row(place), self.rows, place, state) {
+        match slot(&self.cells, self.row(place), place, state) {
             Some(at) => self.cells[at] = self.cells[at].marked(place, state),
+            None => self.crowded = true,
+        }
+    }
+
+    /// Puts into the row of its place, where there is room, a walk that leads to a match.
+    pub fn put_walk(&mut self, mark: Mark)
+        ensures { (m : Mark) → Among self.new m → Among self.old m ⊎ (m ≡ mark) }
+    {
+        let Some(walk) = KnownWalk::of(mark) else {
+            return;
+        };
+        // There is room for them from the next match on.
+        self.wants_walks = true;
+        if self.walks.is_empty() {
+            return;
+        }
+        match walk_slot(&self.walks, self.row(mark.place), mark) {
+            Some(at) => self.walks[at] = walk,
             None => self.crowded = true,
         }
     }

@@ -5,7 +5,7 @@ use crate::answer::Answer;
 use lexkit::{RunError, Turn};
 
 /// How far a scan by pieces has come.
-#[derive(Clone, Copy, Debug, PartialEq, Eq)]
+#[derive(Clone, Copy)]
 pub enum Stage {
     /// The next match asks for more than was fed.
     Going,

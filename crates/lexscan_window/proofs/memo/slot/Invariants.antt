@@ -1,8 +1,8 @@
-use Rattle.std.proofs.Common.{◌-◌, ◌<◌, length}
+use Rattle.std.proofs.Common.{◌-◌, ◌≤◌}
 use Rattle.lexscan_window.proofs.memo.slot.Given as goal
 
-abbrev pub invariant-ways : goal.invariant-ways
-invariant-ways l = 0 < l.apart
+abbrev pub invariant-probes : goal.invariant-probes
+invariant-probes l = l.probe ≤ l.probes
 
-abbrev pub decreases-ways : goal.decreases-ways
-decreases-ways l = length l.cells - l.at
+abbrev pub decreases-probes : goal.decreases-probes
+decreases-probes l = l.probes - l.probe

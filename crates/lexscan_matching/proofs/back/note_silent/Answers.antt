@@ -5,7 +5,7 @@ use Rattle.lexscan_window.specs.Memos.{Barren}
 use Rattle.lexscan_matching.specs.Picks.{state_at}
 use Rattle.lexscan_matching.proofs.Picking.{state_more}
 use Rattle.lexscan_matching.proofs.Barrens as Look
-use Rattle.lexscan_matching.proofs.back.note.Goals as goal
+use Rattle.lexscan_matching.proofs.back.note_silent.Goals as goal
 
 pub bytes-preserved-then-left-reading : goal.bytes-preserved-then-left-reading
 bytes-preserved-then-left-reading g c =
@@ -22,7 +22,7 @@ bytes-preserved-then-left-reading g c =
       high = omega (arith, c.bytes-test.true);
       state_is = stepped;
       known = c.step-state.ensures.known;
-      marks = Look.true_put M r c.bytes.memo c.put.new.self _ c.step-state.result (at + (n + 1)) c.bytes.invariant.marks c.put.ensures (omega (arith, c.if-left-reading.true))
+      marks = Look.silent_put M r c.bytes.memo c.put_silent.new.self _ c.step-state.result (at + (n + 1)) c.bytes.invariant.marks c.put_silent.ensures (omega (arith, c.if-left-reading.true))
           (omega (arith, c.if-left-reading.true, c.len.ensures, h.inside, c.bytes-test.true))
           (subst (λ s. Barren M r.at_end s (drop (at + (n + 1)) r.window.bytes)) (sym stepped) (h.barren (n + 1) (omega (arith, c.bytes.invariant.low)) (omega (arith, c.bytes-test.true))));
     }
