@@ -12,13 +12,14 @@ use Rattle.lexscan.specs.Pulls.{TokensTold}
 use Rattle.lexscan.specs.Scanners.{pull_finished}
 use Rattle.lexscan.specs.Tokens.{IsToken, TokensOf}
 use Rattle.lexscan.specs.declared.token.Token.{Token}
-use Rattle.lexscan_window.specs.Reads.{read_fault_count, write_fault_count}
+use Rattle.lexscan_window.specs.Reads.{write_fault_count}
 use Rattle.lexscan_window.specs.declared.error.RunError.{RunError}
 use Rattle.lexscan_window.specs.declared.error.RunError.TheVariants as runs
-use Rattle.lexlook_counts.specs.Places.{AreFirst, HasPlaced, IsPlacingFault, Left, PlacingStops, offset_line, offset_lines}
-use Rattle.lexlook_counts.specs.Reading.{HasRead, StopsBy}
+use Rattle.lexlook_counts.specs.Places.{HasPlaced, IsPlacingFault, Left, PlacingStops, offset_line, offset_lines}
+use Rattle.lexlook_counts.specs.Reading.{AreFirst, HasRead, StopsBehind}
 use Rattle.lexlook_counts.specs.declared.places.Placer.{Placer}
 use Rattle.lexlook_counts.specs.declared.reading.TokenReader.{TokenReader}
+use Rattle.lexlook_counts.proofs.Fed.{read_first}
 use Rattle.lexlook_counts.proofs.Told.{no_write}
 
 -- ---- each token's text is a part of the input
@@ -49,9 +50,6 @@ goes_on_as given false text = (text, ([], sym (append-nil given)))
 pub told_there : (M : Machine) (given : List ℕ) (at_end : Bool) (tokens : List Token) (s : _) (waiting : List ℕ) → TokensTold M given at_end tokens s waiting → (t : Token) → Among tokens t → IsThere given t
 told_there M given at_end tokens s waiting h = there (rules_of_machine M) given h.turns tokens (h.tokens_are given (goes_on_as given at_end h.text))
 
-pub told_first : (M : Machine) (given : List ℕ) (at_end : Bool) (tokens : List Token) (s : _) (waiting : List ℕ) → TokensTold M given at_end tokens s waiting → AreFirst (rules_of_machine M) given at_end tokens
-told_first M given at_end tokens s waiting h = (h.turns, h.tokens_are)
-
 -- more of the input does not change it
 part_more : (x more : List ℕ) (a b : ℕ) → length (part x a b) ≡ b - a → part (x ++ more) a b ≡ part x a b
 part_more x more a b size = from (cases_lt (length x) a)
@@ -75,18 +73,6 @@ one_more : (lines x : List ℕ) (us : List Token) (u : Token) → offset_lines l
 one_more lines x us u = flat_map-append (λ t. offset_line lines t (part x t.start t.end)) us (u ∷ []) ∙ ap (λ l. offset_lines lines x us ++ l) (append-nil (offset_line lines u (part x u.start u.end)))
 
 -- ---- what each step leaves
-
-reads_none : (T : Type 0) (e : RunError) → (e ≡ runs.OutOfMemory) ⊎ (e ≡ runs.Write) → read_fault_count {T = T} (Err e) ≡ 0
-reads_none T e (inl is) = ap (λ (d : RunError). read_fault_count {T = T} (Err d)) is
-reads_none T e (inr is) = ap (λ (d : RunError). read_fault_count {T = T} (Err d)) is
-
-writes_alike : (T U : Type 0) (e : RunError) → write_fault_count {T = T} (Err e) ≡ write_fault_count {T = U} (Err e)
-writes_alike T U runs.Read = refl
-writes_alike T U runs.TooManyReads = refl
-writes_alike T U runs.Write = refl
-writes_alike T U runs.OutOfMemory = refl
-writes_alike T U runs.Stack = refl
-writes_alike T U runs.Failed = refl
 
 -- all lines were written, and the sink did not fail
 all_left : (wrote : List ℕ → Type 0) (bytes : List ℕ) (e : RunError) → (e ≡ runs.Write → ⊥) → wrote bytes → Left wrote bytes e
@@ -125,49 +111,54 @@ module _ {A B : Type 0} (gave : A → List ℕ → A → Type 0) (ends_of reads_
     }
 
     -- reading stopped
-    pub reading_stops : (s'' : A) (e : RunError) → StopsBy gave ends_of reads_of M s s'' h.given e → PlacingStops gave ends_of reads_of wrote writes_of M lines s s'' t t' e
-    reading_stops s'' e stops = record {
-      given = h.given;
-      more = stops.more;
-      at_end = pull_finished p.reader.scanner;
+    pub reading_stops : (s'' : A) (e : RunError) → StopsBehind gave ends_of reads_of M s s'' h.given h.tokens e → PlacingStops gave ends_of reads_of wrote writes_of M lines s s'' t t' e
+    reading_stops s'' e behind = let stops = behind.stops in record {
+      given = h.given ++ behind.more;
+      at_end = behind.at_end;
       tokens = h.tokens;
       source = stops.source;
-      first = told_first M h.given (pull_finished p.reader.scanner) h.tokens _ _ h.read.told;
-      written = all_left (λ xs. wrote t xs t') (offset_lines lines h.given h.tokens) e stops.not_write h.written;
+      ends = stops.ends;
+      first = behind.first;
+      written = all_left (λ xs. wrote t xs t') (offset_lines lines (h.given ++ behind.more) h.tokens) e stops.not_write
+          (subst (λ (l : List ℕ). wrote t l t') (sym (lines_more lines h.given behind.more h.tokens (told_there M h.given (pull_finished p.reader.scanner) h.tokens _ _ h.read.told))) h.written);
       stack = stops.stack;
       reads = stops.reads;
       writes = (let none = no_write ℕ e stops.not_write in omega (arith, none, h.writes));
     }
 
     -- memory ran out behind the lines so far: of one token more that was told none was written
-    tokens_stop : (s'' : A) {tokens : List Token} → (r : TokenReader) → HasRead gave ends_of reads_of M s s'' h.given tokens r → PlacingStops gave ends_of reads_of wrote writes_of M lines s s'' t t' runs.OutOfMemory
-    tokens_stop s'' r read = record {
+    tokens_stop : (s'' : A) {tokens : List Token} → (r : TokenReader) → HasRead gave ends_of reads_of M s s'' h.given tokens r → AreFirst (rules_of_machine M) h.given (pull_finished r.scanner) h.tokens → PlacingStops gave ends_of reads_of wrote writes_of M lines s s'' t t' runs.OutOfMemory
+    tokens_stop s'' r read first = record {
       given = h.given;
-      more = [];
-      at_end = pull_finished p.reader.scanner;
+      at_end = pull_finished r.scanner;
       tokens = h.tokens;
-      source = subst (λ (l : List ℕ). gave s l s'') (sym (append-nil h.given)) read.source;
-      first = told_first M h.given (pull_finished p.reader.scanner) h.tokens _ _ h.read.told;
+      source = read.source;
+      ends = read.ends;
+      first = first;
       written = h.written;
       stack = λ e. cc;
       reads = (let zero : reads_of s'' ≡ reads_of s + 0 = omega (arith, read.reads) in zero);
       writes = (let zero : writes_of t' ≡ writes_of t + 0 = omega (arith, h.writes) in zero);
     }
 
+    -- the tokens so far are those of the first turns
+    first_by : (at_end : Bool) → at_end ≡ pull_finished p.reader.scanner → AreFirst (rules_of_machine M) h.given at_end h.tokens
+    first_by at_end finished = subst (λ (b : Bool). AreFirst (rules_of_machine M) h.given b h.tokens) (sym finished) (read_first gave ends_of reads_of M s s' h.given h.tokens p.reader h.read)
+
     -- or no token more was told
     pub memory_stops : PlacingStops gave ends_of reads_of wrote writes_of M lines s s' t t' runs.OutOfMemory
-    memory_stops = tokens_stop s' p.reader h.read
+    memory_stops = tokens_stop s' p.reader h.read (first_by (pull_finished p.reader.scanner) refl)
 
     -- the sink failed in the line of a token more
     writing_stops : (s'' : A) (u : Token) (text : List ℕ) (t'' : B) → (r : TokenReader) → HasRead gave ends_of reads_of M s s'' h.given (h.tokens ++ u ∷ []) r → text ≡ part h.given u.start u.end → (front rest : List ℕ) → offset_line lines u text ≡ front ++ rest
         → wrote t (offset_lines lines h.given h.tokens ++ front) t'' → writes_of t'' ≡ writes_of t' + 1 → PlacingStops gave ends_of reads_of wrote writes_of M lines s s'' t t'' runs.Write
     writing_stops s'' u text t'' r read is front rest whole written writes = record {
       given = h.given;
-      more = [];
       at_end = pull_finished r.scanner;
       tokens = h.tokens ++ u ∷ [];
-      source = subst (λ (l : List ℕ). gave s l s'') (sym (append-nil h.given)) read.source;
-      first = told_first M h.given (pull_finished r.scanner) (h.tokens ++ u ∷ []) _ _ read.told;
+      source = read.source;
+      ends = read.ends;
+      first = read_first gave ends_of reads_of M s s'' h.given (h.tokens ++ u ∷ []) r read;
       written = (offset_lines lines h.given h.tokens ++ front, (rest, one_more lines h.given h.tokens u ∙ ap (λ w. offset_lines lines h.given h.tokens ++ offset_line lines u w) (sym is) ∙ ap (λ l. offset_lines lines h.given h.tokens ++ l) whole ∙ sym (append_assoc (offset_lines lines h.given h.tokens) front rest)), written);
       stack = λ e. cc;
       reads = (let zero : reads_of s'' ≡ reads_of s + 0 = omega (arith, read.reads) in zero);
@@ -175,10 +166,10 @@ module _ {A B : Type 0} (gave : A → List ℕ → A → Type 0) (ends_of reads_
     }
 
     -- the line of a token more was not written
-    pub line_stops : (s'' : A) (u : Token) (text : List ℕ) (t'' : B) (e : RunError) → (r : TokenReader) → HasRead gave ends_of reads_of M s s'' h.given (h.tokens ++ u ∷ []) r → text ≡ part h.given u.start u.end → ((xs ys : List ℕ) → wrote t xs t' → wrote t' ys t'' → wrote t (xs ++ ys) t'')
+    pub line_stops : (s'' : A) (u : Token) (text : List ℕ) (t'' : B) (e : RunError) → (r : TokenReader) → HasRead gave ends_of reads_of M s s'' h.given (h.tokens ++ u ∷ []) r → text ≡ part h.given u.start u.end → pull_finished r.scanner ≡ pull_finished p.reader.scanner → ((xs ys : List ℕ) → wrote t xs t' → wrote t' ys t'' → wrote t (xs ++ ys) t'')
         → IsPlacingFault wrote (offset_line lines u text) t' t'' e → writes_of t'' ≡ writes_of t' + write_fault_count {T = Unit {0}} (Err e) → PlacingStops gave ends_of reads_of wrote writes_of M lines s s'' t t'' e
-    line_stops s'' u text t'' e r read is join (inl (memory, same)) writes = subst (λ (z : B). PlacingStops gave ends_of reads_of wrote writes_of M lines s s'' t z e) (sym same) (subst (PlacingStops gave ends_of reads_of wrote writes_of M lines s s'' t t') (sym memory) (tokens_stop s'' r read))
-    line_stops s'' u text t'' e r read is join (inr (write, (front, (rest, whole), wrote_front))) writes =
+    line_stops s'' u text t'' e r read is finished join (inl (memory, same)) writes = subst (λ (z : B). PlacingStops gave ends_of reads_of wrote writes_of M lines s s'' t z e) (sym same) (subst (PlacingStops gave ends_of reads_of wrote writes_of M lines s s'' t t') (sym memory) (tokens_stop s'' r read (first_by (pull_finished r.scanner) finished)))
+    line_stops s'' u text t'' e r read is finished join (inr (write, (front, (rest, whole), wrote_front))) writes =
         let one : writes_of t'' ≡ writes_of t' + 1 = writes ∙ ap (λ (d : RunError). writes_of t' + write_fault_count {T = Unit {0}} (Err d)) write in
         subst (PlacingStops gave ends_of reads_of wrote writes_of M lines s s'' t t'') (sym write)
         (writing_stops s'' u text t'' r read is front rest whole (join (offset_lines lines h.given h.tokens) front h.written wrote_front) one)

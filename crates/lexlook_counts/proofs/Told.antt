@@ -1,5 +1,5 @@
 -- What is told of a scan by a table for a specification.
-use Rattle.std.proofs.Common.{◌≡◌, ◌∙◌, ℕ, ◌+◌, List, [], ◌++◌, append-nil, length, Result, Ok, Err, ap, arith, refl, subst, sym}
+use Rattle.std.proofs.Common.{◌≡◌, ◌∙◌, ℕ, ◌+◌, List, length, Result, Ok, Err, ap, arith, refl, subst}
 use Rattle.std.proofs.lemmas.List.FromFn.{length-map-range_with_len}
 use Rattle.lex_semantics.specs.Acting.{Status}
 use Rattle.lex_semantics.specs.Machine.{Machine}
@@ -8,7 +8,6 @@ use Rattle.lex_semantics.specs.Spec.{Spec}
 use Rattle.lexspec.specs.Files.{SpellsSpec}
 use Rattle.lextab_packed.specs.FlatViews.{tables_of}
 use Rattle.lextab_packed.specs.Machines.{laws_of, table_machine}
-use Rattle.lextab_packed.specs.declared.flat.Flat.{Flat}
 use Rattle.lexscan.proofs.Tables.{table_tokens}
 use Rattle.lexscan_window.specs.Reads.{read_fault_count, write_fault_count}
 use Rattle.lexscan_window.specs.declared.error.RunError.{RunError}
@@ -20,14 +19,16 @@ use Rattle.lexkit.specs.declared.errors.GenError.{GenError}
 use Rattle.lexkit.specs.declared.errors.GenError.TheVariants as gens
 use Rattle.lexkit.specs.declared.errors.ScanError.TheVariants.{Run}
 use Rattle.lexkit.specs.declared.options.Options.{Options}
+use Rattle.lexlook_counts.specs.Costs.{TurnCost, tokens_in}
 use Rattle.lexlook_counts.specs.Counting.{CountingStops, CountsAll, CountsSource}
 use Rattle.lexlook_counts.specs.Counts.{IsTallyOf, rule_count, turn_count}
-use Rattle.lexlook_counts.specs.Told.{CountsStopped, CountsTold, IsMadeFor, LinesTold, TellsCounts, TellsOf}
+use Rattle.lexlook_counts.specs.Told.{AreMadeFor, CountsStopped, CountsTold, LinesTold, TellsCounts, TellsOf}
 use Rattle.lexlook_counts.specs.declared.counting.Counted.{Counted}
+use Rattle.lexlook_counts.specs.declared.counting.Machines.{Machines}
 use Rattle.lexlook_counts.specs.declared.lines.CountForm.{CountForm}
 use Rattle.lexlook_counts.specs.declared.tally.Tally.{Tally}
-use Rattle.lexscan.specs.declared.token.Token.{Token}
 use Rattle.lexscan_window.specs.declared.matched.MatchedRule.TheVariants.{Numbered}
+use Rattle.lexlook_counts.proofs.Spelled.{table_costs}
 
 -- ---- counts of faults, by the fault
 
@@ -64,17 +65,18 @@ refused_text options text S (gens.Spec e) spells h = absurd h
 -- ---- what is told
 
 -- the numbers of rules and conditions by other names
-pub recounted : {A : Type 0} (gave : A → List ℕ → A → Type 0) (ends_of reads_of : A → ℕ) (M : Machine) (n m n' m' : ℕ) (s s' : A) (r : Result Counted RunError) → n ≡ n' → m ≡ m' → CountsSource gave ends_of reads_of M n m s s' r → CountsSource gave ends_of reads_of M n' m' s s' r
-recounted gave ends_of reads_of M n m n' m' s s' r e f h =
-    subst (λ (k : ℕ). CountsSource gave ends_of reads_of M n' k s s' r) f (subst (λ (k : ℕ). CountsSource gave ends_of reads_of M k m s s' r) e h)
+pub recounted : {A : Type 0} (gave : A → List ℕ → A → Type 0) (ends_of reads_of : A → ℕ) (M N : Machine) (n m n' m' : ℕ) (s s' : A) (r : Result Counted RunError) → n ≡ n' → m ≡ m' → CountsSource gave ends_of reads_of M N n m s s' r → CountsSource gave ends_of reads_of M N n' m' s s' r
+recounted gave ends_of reads_of M N n m n' m' s s' r e f h =
+    subst (λ (k : ℕ). CountsSource gave ends_of reads_of M N n' k s s' r) f (subst (λ (k : ℕ). CountsSource gave ends_of reads_of M N k m s s' r) e h)
 
--- memory ran out after all tokens were counted
-pub late_memory : {A : Type 0} (gave : A → List ℕ → A → Type 0) (ends_of reads_of : A → ℕ) (M : Machine) (n m : ℕ) (s s' : A) (status : ℕ) (t : Tally) → CountsAll gave ends_of reads_of M n m s s' status t → CountingStops gave ends_of reads_of M n m s s' runs.OutOfMemory
-late_memory gave ends_of reads_of M n m s s' status t h = (
+-- memory ran out after all turns were counted
+pub late_memory : {A : Type 0} (gave : A → List ℕ → A → Type 0) (ends_of reads_of : A → ℕ) (M N : Machine) (n m : ℕ) (s s' : A) (status : ℕ) (t : Tally) → CountsAll gave ends_of reads_of M N n m s s' status t → CountingStops gave ends_of reads_of M N n m s s' runs.OutOfMemory
+late_memory gave ends_of reads_of M N n m s s' status t h = (
   h.given,
+  h.at_end,
   record {
-    more = [];
-    source = subst (λ (l : List ℕ). gave s l s') (sym (append-nil h.given)) h.read.source;
+    source = h.read.source;
+    ends = h.read.ends;
     reads = (let zero : reads_of s' ≡ reads_of s + 0 = omega (arith, h.read.reads) in zero);
     stack = λ e. cc;
     not_write = λ e. cc;
@@ -82,54 +84,58 @@ late_memory gave ends_of reads_of M n m s s' status t h = (
 )
 
 -- there are counts of each rule and condition
-pub each_rule : (n m : ℕ) (tokens : List Token) (t : Tally) → IsTallyOf n m tokens t → length t.rules.items ≡ n
-each_rule n m tokens t h = ap length h.of_rules ∙ length-map-range_with_len (λ i. rule_count tokens (Numbered i)) 0 n
+pub each_rule : (n m : ℕ) (costs : List TurnCost) (t : Tally) → IsTallyOf n m costs t → length t.rules.items ≡ n
+each_rule n m costs t h = ap length h.of_rules ∙ length-map-range_with_len (λ i. rule_count costs (Numbered i)) 0 n
 
-pub each_condition : (n m : ℕ) (tokens : List Token) (t : Tally) → IsTallyOf n m tokens t → length t.turns.items ≡ m
-each_condition n m tokens t h = ap length h.of_conditions ∙ length-map-range_with_len (turn_count tokens) 0 m
+pub each_condition : (n m : ℕ) (costs : List TurnCost) (t : Tally) → IsTallyOf n m costs t → length t.turns.items ≡ m
+each_condition n m costs t h = ap length h.of_conditions ∙ length-map-range_with_len (turn_count costs) 0 m
 
-module _ {A B : Type 0} (gave : A → List ℕ → A → Type 0) (ends_of reads_of : A → ℕ) (wrote : B → List ℕ → B → Type 0) (M : Machine) (S : Spec) (form : CountForm) (s s' : A) (t : B) where
+module _ {A B : Type 0} (gave : A → List ℕ → A → Type 0) (ends_of reads_of : A → ℕ) (wrote : B → List ℕ → B → Type 0) (M N : Machine) (S : Spec) (form : CountForm) (s s' : A) (t : B) where
   -- counting stopped, and nothing was written
-  pub stops_told : (e : RunError) → CountingStops gave ends_of reads_of M (length S.rules) (length S.conditions) s s' e → TellsOf gave ends_of reads_of wrote M S form s s' t t (Err e)
+  pub stops_told : (e : RunError) → CountingStops gave ends_of reads_of M N (length S.rules) (length S.conditions) s s' e → TellsOf gave ends_of reads_of wrote M N S form s s' t t (Err e)
   stops_told runs.Read h = (h, refl)
   stops_told runs.TooManyReads h = (h, refl)
-  stops_told runs.Write h = absurd (h.1.not_write refl)
+  stops_told runs.Write h = absurd (h.2.not_write refl)
   stops_told runs.OutOfMemory h = (h, refl)
   stops_told runs.Stack h = (h, refl)
   stops_told runs.Failed h = (h, refl)
 
 module _ {A B : Type 0} (gave : A → List ℕ → A → Type 0) (ends_of reads_of : A → ℕ) (wrote : B → List ℕ → B → Type 0) (options : Options) (form : CountForm) (text : List ℕ) (s s' : A) (t t' : B)
-    (S : Spec) (sound : IsSound S) (spells : SpellsSpec (reading options) text S) (f : Flat) (made : IsMadeFor options.limits S f) where
-  all_told : (status : ℕ) (answer : Result ℕ RunError) → LinesTold gave ends_of reads_of wrote (table_machine (tables_of f)) S form s s' t t' status answer → CountsTold gave ends_of wrote s s' t t' options form text status answer
+    (S : Spec) (sound : IsSound S) (spells : SpellsSpec (reading options) text S) (f : Machines) (made : AreMadeFor options.limits S f) where
+  all_told : (status : ℕ) (answer : Result ℕ RunError) → LinesTold gave ends_of reads_of wrote (table_machine (tables_of f.scans)) (table_machine (tables_of f.looks)) S form s s' t t' status answer → CountsTold gave ends_of wrote s s' t t' options form text status answer
   all_told status answer h = record {
     spec = S;
     spells = spells;
-    within = made.within;
+    within = made.scans.within;
     given = h.counted.given;
-    at_end = h.counted.read.at_end;
-    tokens = h.counted.tokens;
+    at_end = h.counted.at_end;
+    costs = h.counted.costs;
     tally = h.tally;
     source = h.counted.read.source;
     ends = h.counted.read.ends;
-    all = λ x c. table_tokens (table_machine (tables_of f)) S (laws_of (tables_of f)) sound made.table x h.counted.tokens (Status status) c.0 (h.counted.read.all x c);
+    all = λ x c. table_tokens (table_machine (tables_of f.scans)) S (laws_of (tables_of f.scans)) sound made.scans.table x (tokens_in h.counted.costs) (Status status) c.0 (h.counted.read.all x c);
+    looked = λ x c. table_costs (table_machine (tables_of f.scans)) (table_machine (tables_of f.looks)) S sound made.scans.table made.looks.table x h.counted.costs (Status status) c.0 (h.counted.read.all x c) (h.counted.looked x c);
     counts = h.counted.counts;
     written = h.written;
   }
 
-  stopped_told : (e : RunError) → CountingStops gave ends_of reads_of (table_machine (tables_of f)) (length S.rules) (length S.conditions) s s' e → t' ≡ t → CountsStopped gave ends_of wrote s s' t t' options form text e
+  stopped_told : (e : RunError) → CountingStops gave ends_of reads_of (table_machine (tables_of f.scans)) (table_machine (tables_of f.looks)) (length S.rules) (length S.conditions) s s' e → t' ≡ t → CountsStopped gave ends_of wrote s s' t t' options form text e
   stopped_told e h unwritten = record {
     spec = S;
     spells = spells;
-    within = made.within;
-    source = (h.0 ++ h.1.more, h.1.source);
+    within = made.scans.within;
+    given = h.0;
+    at_end = h.1;
+    source = h.2.source;
+    ends = h.2.ends;
     unwritten = unwritten;
-    stack = λ is. (table_machine (tables_of f), made.table, h.1.stack is);
+    stack = λ is. (table_machine (tables_of f.scans), made.scans.table, h.2.stack is);
   }
 
-  pub came_to : (status : ℕ) → TellsOf gave ends_of reads_of wrote (table_machine (tables_of f)) S form s s' t t' (Ok status) → TellsCounts gave ends_of wrote s s' t t' options form text (Ok status)
+  pub came_to : (status : ℕ) → TellsOf gave ends_of reads_of wrote (table_machine (tables_of f.scans)) (table_machine (tables_of f.looks)) S form s s' t t' (Ok status) → TellsCounts gave ends_of wrote s s' t t' options form text (Ok status)
   came_to status h = all_told status (Ok status) h
 
-  pub stopped_at : (e : RunError) → TellsOf gave ends_of reads_of wrote (table_machine (tables_of f)) S form s s' t t' (Err e) → TellsCounts gave ends_of wrote s s' t t' options form text (Err (Run e))
+  pub stopped_at : (e : RunError) → TellsOf gave ends_of reads_of wrote (table_machine (tables_of f.scans)) (table_machine (tables_of f.looks)) S form s s' t t' (Err e) → TellsCounts gave ends_of wrote s s' t t' options form text (Err (Run e))
   stopped_at runs.Read h = stopped_told runs.Read h.0 h.1
   stopped_at runs.TooManyReads h = stopped_told runs.TooManyReads h.0 h.1
   stopped_at runs.Write h = (h.0, all_told h.0 (Err runs.Write) h.1)

@@ -1,9 +1,11 @@
--- Worked examples of counts and places: a rule that matched twice, one that never did, and the default rule. (This
--- project's.)
-use Rattle.std.specs.Prelude.{◌≡◌, List, [], ◌∷◌, codes}
+-- Worked examples of counts and places: a rule that matched twice, one that never did, the default rule, and what turns
+-- look at. (This project's.)
+use Rattle.std.specs.Prelude.{◌≡◌, ◌<◌, List, [], ◌∷◌, length, codes}
+use Rattle.lex_semantics.specs.Rules.{Rules}
 use Rattle.lexscan.specs.declared.token.Token.{Token}
 use Rattle.lexscan_window.specs.declared.matched.MatchedRule.TheVariants.{Numbered, Default}
 use Rattle.lexlook_counts.specs.CountLines.{column, matched_line, never_line, json_line}
+use Rattle.lexlook_counts.specs.Costs.{AreCosts, TurnCost, tokens_in}
 use Rattle.lexlook_counts.specs.Counts.{rule_count, turn_count}
 use Rattle.lexlook_counts.specs.Places.{offset_lines}
 use Rattle.lexlook_counts.specs.declared.lines.Subject.TheVariants.{Line, DefaultRule}
@@ -17,23 +19,53 @@ three_tokens =
     ∷ record { rule = Numbered 0; start = 4; end = 6; condition = 1 }
     ∷ []
 
+-- the turns of these, which look at one byte, at none and at two behind their texts
+abbrev pub three_costs : List TurnCost
+three_costs =
+    record { token = record { rule = Numbered 0; start = 0; end = 3; condition = 0 }; beyond = 1 }
+    ∷ record { token = record { rule = Default; start = 3; end = 4; condition = 1 }; beyond = 0 }
+    ∷ record { token = record { rule = Numbered 0; start = 4; end = 6; condition = 1 }; beyond = 2 }
+    ∷ []
+
 abbrev pub no_matches : RuleCount
-no_matches = record { matches = 0; bytes = 0; longest = 0 }
+no_matches = record { matches = 0; bytes = 0; longest = 0; beyond = 0 }
+
+-- rules of which each match looks at three bytes, if there are so many
+abbrev pub three_asked : Rules
+three_asked = record {
+  conditions = 1;
+  count = 1;
+  full = λ c line_start w i k. ⊥;
+  live = λ c line_start w. length w < 3;
+  statements = λ i. [];
+  ending = λ c. record { print = []; status = 0 };
+}
+
+-- turns of five bytes by these: the text of the second begins where that of the first does, and the third comes to the
+-- end of the input
+abbrev pub looking_turns : List TurnCost
+looking_turns =
+    record { token = record { rule = Numbered 0; start = 0; end = 1; condition = 0 }; beyond = 2 }
+    ∷ record { token = record { rule = Numbered 0; start = 0; end = 3; condition = 0 }; beyond = 1 }
+    ∷ record { token = record { rule = Numbered 0; start = 3; end = 4; condition = 0 }; beyond = 1 }
+    ∷ []
 
 -- The counts of the first rule, of the second, which never matched, and of the default rule; the turns in each
 -- condition; and lines of these
 pub record CountExamples : Type 0 where
-  pub first : rule_count three_tokens (Numbered 0) ≡ record { matches = 2; bytes = 5; longest = 3 }
-  pub second : rule_count three_tokens (Numbered 1) ≡ no_matches
-  pub default_rule : rule_count three_tokens Default ≡ record { matches = 1; bytes = 1; longest = 1 }
-  pub outer : turn_count three_tokens 0 ≡ 1
-  pub inner : turn_count three_tokens 1 ≡ 2
+  pub tokens : tokens_in three_costs ≡ three_tokens
+  pub looked : AreCosts three_asked (codes "abcde") 0 looking_turns
+  pub first : rule_count three_costs (Numbered 0) ≡ record { matches = 2; bytes = 5; longest = 3; beyond = 3 }
+  pub second : rule_count three_costs (Numbered 1) ≡ no_matches
+  pub default_rule : rule_count three_costs Default ≡ record { matches = 1; bytes = 1; longest = 1; beyond = 0 }
+  pub outer : turn_count three_costs 0 ≡ 1
+  pub inner : turn_count three_costs 1 ≡ 2
   pub in_column : column 345 ≡ codes "         345 "
-  pub matched : matched_line DefaultRule (record { matches = 1; bytes = 1; longest = 1 })
-      ≡ codes "           1            1            1 default rule\n"
+  pub matched : matched_line DefaultRule (record { matches = 1; bytes = 1; longest = 1; beyond = 20 })
+      ≡ codes "           1            1            1           20 default rule\n"
   pub never : never_line (Line 3) no_matches ≡ codes "line 3: never\n"
   pub none : matched_line (Line 3) no_matches ≡ []
   -- the rules stand at lines 7 and 9
   pub placed : offset_lines (7 ∷ 9 ∷ []) (codes "abc\"d\n") three_tokens
       ≡ codes "0 3 line 7 \"abc\"\n3 1 default rule \"\\\"\"\n4 2 line 7 \"d\\n\"\n"
-  pub json : json_line (Line 3) no_matches ≡ codes "{\"line\":3,\"matches\":0,\"bytes\":0,\"longest\":0}\n"
+  pub json : json_line (Line 3) no_matches ≡ codes "{\"line\":3,\"matches\":0,\"bytes\":0,\"longest\":0,\"beyond\":0}\n"

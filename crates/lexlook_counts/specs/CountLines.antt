@@ -21,12 +21,15 @@ counted_subject kinds.Json DefaultRule = codes "\"rule\":\"default\""
 counted_subject kind (Line line) = codes "line " ++ decimal line
 counted_subject kind DefaultRule = codes "default rule"
 
+-- the line of the counts of a rule
+abbrev pub count_columns : Subject → RuleCount → List ℕ
+count_columns s c = concat (
+    column c.matches ∷ column c.bytes ∷ column c.longest ∷ column c.beyond ∷ counted_subject kinds.Matched s
+    ∷ codes "\n" ∷ [])
+
 -- the line of a rule that has matched, and of one that has not
 abbrev pub matched_line : Subject → RuleCount → List ℕ
-matched_line s c =
-    if c.matches == 0 then []
-    else concat (
-    column c.matches ∷ column c.bytes ∷ column c.longest ∷ counted_subject kinds.Matched s ∷ codes "\n" ∷ [])
+matched_line s c = if c.matches == 0 then [] else count_columns s c
 
 abbrev pub never_line : Subject → RuleCount → List ℕ
 never_line s c = if c.matches == 0 then counted_subject kinds.Never s ++ codes ": never\n" else []
@@ -35,6 +38,10 @@ never_line s c = if c.matches == 0 then counted_subject kinds.Never s ++ codes "
 abbrev pub json_field : List ℕ → ℕ → List ℕ
 json_field front n = front ++ decimal n
 
+-- the last field of the line of a rule, and its end
+abbrev pub json_beyond : ℕ → List ℕ
+json_beyond n = json_field (codes ",\"beyond\":") n ++ codes "}\n"
+
 -- the line of a rule as JSON
 abbrev pub json_line : Subject → RuleCount → List ℕ
 json_line s c = concat (
@@ -42,7 +49,7 @@ json_line s c = concat (
     ∷ json_field (codes ",\"matches\":") c.matches
     ∷ json_field (codes ",\"bytes\":") c.bytes
     ∷ json_field (codes ",\"longest\":") c.longest
-    ∷ codes "}\n" ∷ [])
+    ∷ json_beyond c.beyond ∷ [])
 
 abbrev pub kind_line : LineKind → Subject → RuleCount → List ℕ
 kind_line kinds.Matched s c = matched_line s c
@@ -51,7 +58,7 @@ kind_line kinds.Json s c = json_line s c
 
 -- the counts of the rule of this number
 abbrev pub count_at : List RuleCount → ℕ → RuleCount
-count_at counts i = slice_index_or counts i (record { matches = 0; bytes = 0; longest = 0 })
+count_at counts i = slice_index_or counts i (record { matches = 0; bytes = 0; longest = 0; beyond = 0 })
 
 -- the lines of one kind: of the rules at these lines of the file, in their order, and then of the default rule
 abbrev pub numbered_lines : LineKind → List ℕ → List RuleCount → List ℕ
@@ -74,7 +81,7 @@ condition_lines form names turns =
 -- All lines. In columns those of rules that have not matched come behind those of the others.
 abbrev pub count_lines : CountForm → List ℕ → List (List ℕ) → Tally → List ℕ
 count_lines forms.Columns lines names t = concat (
-    codes "     matches        bytes      longest\n"
+    codes "     matches        bytes      longest       beyond\n"
     ∷ kind_lines kinds.Matched lines t
     ∷ kind_lines kinds.Never lines t
     ∷ codes "       turns\n"

@@ -1,41 +1,51 @@
--- What counting the tokens of a source leaves. (POSIX, lex, Rules in lex: which matches these are; the rest is this
--- project's.)
-use Rattle.std.specs.Prelude.{ℕ, List, [], Option, Some, None, Result, Ok, Err}
-use Rattle.lex_semantics.specs.Machine.{Machine}
-use Rattle.lexscan.specs.declared.token.Token.{Token}
+-- What counting the turns of a scan of a source leaves. (POSIX, lex, Rules in lex: which matches these are; the rest is
+-- this project's.)
+use Rattle.std.specs.Prelude.{◌≡◌, ℕ, Bool, List, [], Option, Some, None, Result, Ok, Err}
+use Rattle.lex_semantics.specs.Machine.{Machine, rules_of_machine}
+use Rattle.lexscan.specs.Scanners.{pull_finished}
 use Rattle.lexscan_window.specs.declared.error.RunError.{RunError}
+use Rattle.lexlook_counts.specs.Costs.{CostsSo, TurnCost, end_of, tokens_in}
 use Rattle.lexlook_counts.specs.Counts.{IsTallyOf}
+use Rattle.lexlook_counts.specs.Looking.{Holds, looker_machine}
 use Rattle.lexlook_counts.specs.Reading.{HasRead, HasReadAll, IsNew, StopsBy}
 use Rattle.lexlook_counts.specs.declared.counting.Counter.{Counter}
 use Rattle.lexlook_counts.specs.declared.counting.Counted.{Counted}
 use Rattle.lexlook_counts.specs.declared.tally.Tally.{Tally}
 
--- Nothing was fed or counted.
-abbrev pub IsFresh : Machine → ℕ → ℕ → Counter → Type 0
-IsFresh M rules conditions c = IsNew M c.reader × IsTallyOf rules conditions [] c.tally
+-- Nothing was fed or counted, by a machine that scans and one that tells how far turns look.
+pub record IsFresh (M N : Machine) (rules conditions : ℕ) (c : Counter) : Type 0 where
+  pub reader : IsNew M c.reader
+  pub machine : looker_machine c.looker ≡ N
+  pub holds : Holds [] 0 c.looker
+  pub counts : IsTallyOf rules conditions [] c.tally
 
 -- What the calls of a source from s to s' gave; how often it has answered its end, and how often it failed.
-module _ {A : Type 0} (gave : A → List ℕ → A → Type 0) (ends_of reads_of : A → ℕ) (M : Machine)
+module _ {A : Type 0} (gave : A → List ℕ → A → Type 0) (ends_of reads_of : A → ℕ) (M N : Machine)
     (rules conditions : ℕ) (s s' : A) where
-  -- the tokens that were told so far are counted
+  -- the turns of the tokens that were told so far are counted
   pub record HasCounted (c : Counter) : Type 0 where
     pub given : List ℕ
-    pub tokens : List Token
-    pub read : HasRead gave ends_of reads_of M s s' given tokens c.reader
-    pub counts : IsTallyOf rules conditions tokens c.tally
+    pub costs : List TurnCost
+    pub read : HasRead gave ends_of reads_of M s s' given (tokens_in costs) c.reader
+    pub machine : looker_machine c.looker ≡ N
+    pub holds : Holds given (end_of 0 costs) c.looker
+    pub looked : CostsSo (rules_of_machine N) given (pull_finished c.reader.scanner) costs
+    pub counts : IsTallyOf rules conditions costs c.tally
 
-  -- All tokens of each input that goes on as what the source gave are counted, and its scan ends with this status.
+  -- All turns over each input that goes on as what the source gave are counted, and its scan ends with this status.
   pub record CountsAll (status : ℕ) (t : Tally) : Type 0 where
     pub given : List ℕ
-    pub tokens : List Token
-    pub read : HasReadAll gave ends_of reads_of M s s' given tokens status
-    pub counts : IsTallyOf rules conditions tokens t
+    pub at_end : Bool
+    pub costs : List TurnCost
+    pub read : HasReadAll gave ends_of reads_of M s s' given at_end (tokens_in costs) status
+    pub looked : CostsSo (rules_of_machine N) given at_end costs
+    pub counts : IsTallyOf rules conditions costs t
 
   -- counting stopped before the end
   abbrev pub CountingStops : RunError → Type 0
-  CountingStops e = (given : List ℕ) × StopsBy gave ends_of reads_of M s s' given e
+  CountingStops e = (given : List ℕ) × (at_end : Bool) × StopsBy gave ends_of reads_of M s s' given at_end e
 
-  -- what one step leaves: the tokens so far, or all, or a fault
+  -- what one step leaves: the turns so far, or all, or a fault
   abbrev pub CountsOn : Counter → Result (Option ℕ) RunError → Type 0
   CountsOn c (Ok None) = HasCounted c
   CountsOn c (Ok (Some status)) = CountsAll status c.tally

@@ -1,7 +1,9 @@
 pub mod Counts
 pub mod CountLines
 pub mod CountExamples
+pub mod Costs
 pub mod Counting
+pub mod Looking
 pub mod Places
 pub mod Reading
 pub mod Told

@@ -1,19 +1,17 @@
 -- Where the tokens of a scan lie: a line for each, as they come. (POSIX, lex, Rules in lex: which matches these are;
 -- the lines are this project's.)
-use Rattle.std.specs.Prelude.{◌≡◌, ◌⊎◌, ℕ, ◌+◌, ◌-◌, Bool, List, [], ◌∷◌, ◌++◌, Option, Some, None, Result, Ok, Err, codes, decimal, slice_index}
+use Rattle.std.specs.Prelude.{◌≡◌, ◌⊎◌, ℕ, ◌+◌, ◌-◌, Bool, List, [], ◌∷◌, Option, Some, None, Result, Ok, Err, codes, decimal, slice_index}
 use Rattle.std.specs.List.{concat, flat_map}
 use Rattle.lex_io.specs.Sink.{Appended}
 use Rattle.lex_semantics.specs.Acting.{Status}
 use Rattle.lex_semantics.specs.ByteSets.{bit_of}
-use Rattle.lex_semantics.specs.Demand.{Consistent}
 use Rattle.lex_semantics.specs.Machine.{Machine, rules_of_machine}
-use Rattle.lex_semantics.specs.Rules.{Rules, rules_of}
+use Rattle.lex_semantics.specs.Rules.{rules_of}
 use Rattle.lex_semantics.specs.Spec.{Spec}
 use Rattle.lex_semantics.specs.TableFor.{TableFor}
 use Rattle.lex_semantics.specs.Text.{part}
 use Rattle.lexspec.specs.Files.{SpellsSpec}
 use Rattle.lexscan.specs.Pulls.{TokenisedSo}
-use Rattle.lexscan.specs.Tokens.{TokensOf}
 use Rattle.lexscan.specs.declared.token.Token.{Token}
 use Rattle.lexscan_window.specs.Reads.{read_fault_count, write_fault_count}
 use Rattle.lexscan_window.specs.declared.error.RunError.{RunError}
@@ -27,7 +25,7 @@ use Rattle.lexkit.specs.declared.errors.ScanError.TheVariants.{Generate, Run, Ta
 use Rattle.lexkit.specs.declared.options.Options.{Options}
 use Rattle.lexlook_specs.specs.Pictures.{in_quotes}
 use Rattle.lexlook_counts.specs.CountLines.{counted_subject}
-use Rattle.lexlook_counts.specs.Reading.{FaultsSo, HasRead, HasReadAll}
+use Rattle.lexlook_counts.specs.Reading.{AreFirst, FaultsSo, HasRead, HasReadAll}
 use Rattle.lexlook_counts.specs.declared.lines.LineKind.TheVariants as kinds
 use Rattle.lexlook_counts.specs.declared.lines.Subject.{Subject}
 use Rattle.lexlook_counts.specs.declared.lines.Subject.TheVariants.{Line, DefaultRule}
@@ -49,11 +47,6 @@ offset_line lines t text = concat (
 -- the lines of the tokens of an input
 abbrev pub offset_lines : List ℕ → List ℕ → List Token → List ℕ
 offset_lines lines x tokens = flat_map (λ t. offset_line lines t (part x t.start t.end)) tokens
-
--- Over every input that goes on so, these are the tokens of the first turns.
-abbrev pub AreFirst : Rules → List ℕ → Bool → List Token → Type 0
-AreFirst R given at_end tokens =
-    (turns : ℕ) × ((x : List ℕ) → Consistent given at_end x → TokensOf R x turns tokens)
 
 -- after a fault the lines were written, but for a write fault, which leaves a front of them
 abbrev pub Left : (List ℕ → Type 0) → List ℕ → RunError → Type 0
@@ -81,18 +74,19 @@ module _ {A B : Type 0} (gave : A → List ℕ → A → Type 0) (ends_of reads_
   -- the lines of all tokens were written, and the scan ends with this status
   pub record PlacesAll (status : ℕ) : Type 0 where
     pub given : List ℕ
+    pub at_end : Bool
     pub tokens : List Token
-    pub read : HasReadAll gave ends_of reads_of M s s' given tokens status
+    pub read : HasReadAll gave ends_of reads_of M s s' given at_end tokens status
     pub written : wrote t (offset_lines lines given tokens) t'
     pub writes : writes_of t' ≡ writes_of t
 
   -- It stopped before the end. The tokens so far are those of the first turns, and their lines were written.
   pub record PlacingStops (e : RunError) : Type 0 where
     pub given : List ℕ
-    pub more : List ℕ
     pub at_end : Bool
     pub tokens : List Token
-    pub source : gave s (given ++ more) s'
+    pub source : gave s given s'
+    pub ends : ends_of s' ≡ ends_of s + bit_of at_end
     pub first : AreFirst (rules_of_machine M) given at_end tokens
     pub written : Left (λ xs. wrote t xs t') (offset_lines lines given tokens) e
     pub stack : e ≡ runs.Stack → FaultsSo gave ends_of M s s'
@@ -134,10 +128,10 @@ module _ {A B : Type 0} (gave : A → List ℕ → A → Type 0) (ends_of : A �
     pub machine : Machine
     pub table : TableFor machine spec
     pub given : List ℕ
-    pub more : List ℕ
     pub at_end : Bool
     pub tokens : List Token
-    pub source : gave s (given ++ more) s'
+    pub source : gave s given s'
+    pub ends : ends_of s' ≡ ends_of s + bit_of at_end
     pub first : AreFirst (rules_of_machine machine) given at_end tokens
     pub written : Left (λ xs. wrote t xs t') (offset_lines (lines_of spec.rules) given tokens) e
     pub stack : e ≡ runs.Stack → FaultsSo gave ends_of machine s s'

@@ -1,4 +1,4 @@
--- What telling the counts of a source's tokens leaves. (POSIX, lex, Rules in lex: which matches these are; the rest is
+-- What telling the counts of a scan of a source leaves. (POSIX, lex, Rules in lex: which matches these are; the rest is
 -- this project's.)
 use Rattle.std.specs.Prelude.{◌≡◌, ℕ, ◌+◌, Bool, List, length, map, Result, Ok, Err}
 use Rattle.lex_io.specs.Sink.{Appended}
@@ -14,7 +14,6 @@ use Rattle.lextab_packed.specs.declared.flat.Flat.{Flat}
 use Rattle.lextab_packed.specs.FlatViews.{tables_of}
 use Rattle.lextab_packed.specs.Machines.{table_machine}
 use Rattle.lexscan.specs.Pulls.{TokenisedSo}
-use Rattle.lexscan.specs.declared.token.Token.{Token}
 use Rattle.lexscan_window.specs.declared.error.RunError.{RunError}
 use Rattle.lexscan_window.specs.declared.error.RunError.TheVariants as runs
 use Rattle.lexkit.specs.Generated.{lines_of}
@@ -23,9 +22,11 @@ use Rattle.lexkit.specs.declared.errors.ScanError.{ScanError}
 use Rattle.lexkit.specs.declared.errors.ScanError.TheVariants.{Generate, Run, Table}
 use Rattle.lexkit.specs.declared.options.Options.{Options}
 use Rattle.lexlook_counts.specs.CountLines.{count_lines}
+use Rattle.lexlook_counts.specs.Costs.{CostsSo, TurnCost, tokens_in}
 use Rattle.lexlook_counts.specs.Counting.{CountingStops, CountsAll}
 use Rattle.lexlook_counts.specs.Counts.{IsTallyOf}
 use Rattle.lexlook_counts.specs.Reading.{FaultsSo}
+use Rattle.lexlook_counts.specs.declared.counting.Machines.{Machines}
 use Rattle.lexlook_counts.specs.declared.lines.CountForm.{CountForm}
 use Rattle.lexlook_counts.specs.declared.tally.Tally.{Tally}
 
@@ -34,18 +35,23 @@ pub record IsMadeFor (limits : Limits) (S : Spec) (f : Flat) : Type 0 where
   pub within : IsWithin limits S
   pub table : TableFor (table_machine (tables_of f)) S
 
+-- two of them
+pub record AreMadeFor (limits : Limits) (S : Spec) (m : Machines) : Type 0 where
+  pub scans : IsMadeFor limits S m.scans
+  pub looks : IsMadeFor limits S m.looks
+
 -- the lines of the counts of a specification's scan
 abbrev pub lines_for : CountForm → Spec → Tally → List ℕ
 lines_for form S t = count_lines form (lines_of S.rules) (map (λ c. c.name) S.conditions) t
 
 -- What the calls of the source from s to s' gave, and what those of the sink from t to t' wrote, where a machine scans
--- for a specification.
+-- for a specification, and another tells how far its turns look.
 module _ {A B : Type 0} (gave : A → List ℕ → A → Type 0) (ends_of reads_of : A → ℕ) (wrote : B → List ℕ → B → Type 0)
-    (M : Machine) (S : Spec) (form : CountForm) (s s' : A) (t t' : B) where
-  -- the lines of the counts of all tokens were written: all of them at `Ok`, and a front of them at `Err`
+    (M N : Machine) (S : Spec) (form : CountForm) (s s' : A) (t t' : B) where
+  -- the lines of the counts of all turns were written: all of them at `Ok`, and a front of them at `Err`
   pub record LinesTold (status : ℕ) (answer : Result ℕ RunError) : Type 0 where
     pub tally : Tally
-    pub counted : CountsAll gave ends_of reads_of M (length S.rules) (length S.conditions) s s' status tally
+    pub counted : CountsAll gave ends_of reads_of M N (length S.rules) (length S.conditions) s s' status tally
     pub written : Appended (λ xs. wrote t xs t') (lines_for form S tally) answer
 
   -- after another fault nothing was written
@@ -53,12 +59,12 @@ module _ {A B : Type 0} (gave : A → List ℕ → A → Type 0) (ends_of reads_
   TellsOf (Ok status) = LinesTold status (Ok status)
   TellsOf (Err runs.Write) = (status : ℕ) × LinesTold status (Err runs.Write)
   TellsOf (Err e) =
-      CountingStops gave ends_of reads_of M (length S.rules) (length S.conditions) s s' e × (t' ≡ t)
+      CountingStops gave ends_of reads_of M N (length S.rules) (length S.conditions) s s' e × (t' ≡ t)
 
 -- The same, where a text is the specification.
 module _ {A B : Type 0} (gave : A → List ℕ → A → Type 0) (ends_of : A → ℕ) (wrote : B → List ℕ → B → Type 0)
     (s s' : A) (t t' : B) (options : Options) (form : CountForm) (text : List ℕ) where
-  -- All tokens of the scan by the specification that the text spells are counted, over each input that goes on as what
+  -- All turns of the scan by the specification that the text spells are counted, over each input that goes on as what
   -- the source gave. The lines of their counts were written: all of them at `Ok`, and a front of them at `Err`.
   pub record CountsTold (status : ℕ) (answer : Result ℕ RunError) : Type 0 where
     pub spec : Spec
@@ -66,12 +72,13 @@ module _ {A B : Type 0} (gave : A → List ℕ → A → Type 0) (ends_of : A �
     pub within : IsWithin options.limits spec
     pub given : List ℕ
     pub at_end : Bool
-    pub tokens : List Token
+    pub costs : List TurnCost
     pub tally : Tally
     pub source : gave s given s'
     pub ends : ends_of s' ≡ ends_of s + bit_of at_end
-    pub all : TokenisedSo (rules_of spec) given at_end tokens (Status status)
-    pub counts : IsTallyOf (length spec.rules) (length spec.conditions) tokens tally
+    pub all : TokenisedSo (rules_of spec) given at_end (tokens_in costs) (Status status)
+    pub looked : CostsSo (rules_of spec) given at_end costs
+    pub counts : IsTallyOf (length spec.rules) (length spec.conditions) costs tally
     pub written : Appended (λ xs. wrote t xs t') (lines_for form spec tally) answer
 
   -- The scan stopped, and nothing was written. Where the stack of conditions is at fault, it is so in the scan by a
@@ -80,7 +87,10 @@ module _ {A B : Type 0} (gave : A → List ℕ → A → Type 0) (ends_of : A �
     pub spec : Spec
     pub spells : SpellsSpec (reading options) text spec
     pub within : IsWithin options.limits spec
-    pub source : (given : List ℕ) × gave s given s'
+    pub given : List ℕ
+    pub at_end : Bool
+    pub source : gave s given s'
+    pub ends : ends_of s' ≡ ends_of s + bit_of at_end
     pub unwritten : t' ≡ t
     pub stack : e ≡ runs.Stack → (M : Machine) × TableFor M spec × FaultsSo gave ends_of M s s'
 

@@ -1,4 +1,4 @@
-//! A scan that reads a source to its end, and counts its tokens.
+//! A scan that reads a source to its end, and counts its turns.
 ghost use Rattle.std.specs.Prelude.{◌≡◌, ◌-◌, ◌^◌, ◌<◌, ℕ, false, IfOk};
 ghost use Rattle.lex_semantics.specs.Machine.{Machine};
 ghost use Rattle.lexscan.specs.Scanners.{pull_finished};
@@ -7,20 +7,29 @@ ghost use Rattle.lextab_packed.specs.Machines.{table_machine};
 ghost use Rattle.lexlook_counts.specs.Counting.{CountsOn, CountsSource, HasCounted, IsFresh};
 ghost use Rattle.lexlook_counts.specs.Reading.{HasTold};
 
+use crate::looking::Looker;
 use crate::reading::{Read, TokenReader};
 use crate::tally::Tally;
 use lexscan::{RunError, Source};
 use lextab_packed::Flat;
 use std::alloc::{AllocError, Global};
 
-/// A scan, and the counts of the tokens that it has told.
+/// Two machines of a specification: the one that scans, and the one that tells how far its turns look.
+#[derive(Drop)]
+pub(crate) struct Machines {
+    pub(crate) scans: Flat,
+    pub(crate) looks: Flat,
+}
+
+/// A scan, what tells how far its turns look, and the counts of those whose tokens it has told.
 #[derive(Drop)]
 struct Counter {
     reader: TokenReader,
+    looker: Looker,
     tally: Tally,
 }
 
-/// The counts of all tokens, and the status that the scan ends with.
+/// The counts of all turns, and the status that the scan ends with.
 #[derive(Drop)]
 pub(crate) struct Counted {
     pub(crate) tally: Tally,
@@ -31,54 +40,63 @@ impl Counter {
     /// One that was fed nothing, for so many rules and conditions.
     fn new(
         alloc: Global,
-        machine: Flat,
+        machines: Machines,
         rules: usize,
         conditions: usize,
     ) -> Result<Counter, AllocError>
-        ensures { IfOk result (IsFresh (table_machine (tables_of machine)) rules conditions) }
+        ensures { IfOk result (IsFresh (table_machine (tables_of machines.scans)) (table_machine (tables_of machines.looks))
+            rules conditions) }
     {
         let tally = Tally::new(alloc, rules, conditions)?;
+        let Machines { scans, looks } = machines;
         Ok(Counter {
-            reader: TokenReader::new(alloc, machine),
+            reader: TokenReader::new(alloc, scans),
+            looker: Looker::new(alloc, looks),
             tally,
         })
     }
 
-    /// Counts the next token, or feeds more where the scan asks for it. After the end it answers the status.
+    /// Counts the turn of the next token, or feeds more where the scan asks for it. After the end it answers the status.
     fn step<S: Source>(&mut self, source: &mut S) -> Result<Option<u8>, RunError>
         requires told { HasTold self.old.reader }
         requires ends { pull_finished self.old.reader.scanner ≡ false → S.ends source.old < 2 ^ 64 - 1 }
         requires reads { S.failures source.old < 2 ^ 64 - 1 }
-        ensures { (M : Machine) (rules conditions : ℕ) (s : S)
-            → HasCounted S.gave S.ends S.failures M rules conditions s source.old self.old
-            → CountsOn S.gave S.ends S.failures M rules conditions s source.new self.new result }
+        ensures { (M N : Machine) (rules conditions : ℕ) (s : S)
+            → HasCounted S.gave S.ends S.failures M N rules conditions s source.old self.old
+            → CountsOn S.gave S.ends S.failures M N rules conditions s source.new self.new result }
     {
-        match self.reader.read_on(source) {
+        match self.reader.read_on(source, &mut self.looker.bytes) {
             Err(error) => Err(error),
             Ok(Read::Fed) => Ok(None),
             Ok(Read::Ended(status)) => Ok(Some(status)),
             Ok(Read::Token(token)) => {
-                self.tally.count(token);
-                Ok(None)
+                match self.looker.pass(token, self.reader.is_finished()) {
+                    // A scan asks for all that its turns look at before it tells their tokens.
+                    None => Err(RunError::OutOfMemory),
+                    Some(beyond) => {
+                        self.tally.count(token, beyond);
+                        Ok(None)
+                    }
+                }
             }
         }
     }
 }
 
-/// Scans a source by a machine, and counts the tokens for so many rules and conditions.
+/// Scans a source by a machine, and counts the turns for so many rules and conditions.
 pub(crate) fn count_source<S: Source>(
     alloc: Global,
-    machine: Flat,
+    machines: Machines,
     rules: usize,
     conditions: usize,
     source: &mut S,
 ) -> Result<Counted, RunError>
     requires ends { S.ends source.old < 2 ^ 64 - 1 }
     requires reads { S.failures source.old < 2 ^ 64 - 1 }
-    ensures { CountsSource S.gave S.ends S.failures (table_machine (tables_of machine)) rules conditions source.old
-        source.new result }
+    ensures { CountsSource S.gave S.ends S.failures (table_machine (tables_of machines.scans))
+        (table_machine (tables_of machines.looks)) rules conditions source.old source.new result }
 {
-    let mut scan = match Counter::new(alloc, machine, rules, conditions) {
+    let mut scan = match Counter::new(alloc, machines, rules, conditions) {
         Err(_) => return Err(RunError::OutOfMemory),
         Ok(scan) => scan,
     };
@@ -88,6 +106,7 @@ pub(crate) fn count_source<S: Source>(
             Ok(Some(status)) => {
                 let Counter {
                     reader: _reader,
+                    looker: _looker,
                     tally,
                 } = scan;
                 return Ok(Counted { tally, status });

@@ -1,18 +1,24 @@
 //! How often the rules of a specification match an input, and where: what is counted, and the lines that tell it. It is for lexlook.
 //!
-//! - `tally`: the counts of the tokens so far, `Tally`, and one token more.
+//! - `tally`: the counts of the turns so far, `Tally`, and one turn more.
+//! - `looking`: how far a turn looks, and what is held of the input for that, `Looker`.
 //! - `reading`: a scan that reads a source, and is asked for its tokens one by one, `TokenReader`.
-//! - `counting`: the same to its end, with the counts of the tokens, `count_source`.
+//! - `counting`: the same to its end, with the counts of the turns, `count_source`.
 //! - `lines`: the lines of the counts, in columns or as JSON.
 //! - `telling`: the whole for a text and a source, `tell_counts`.
 //! - `places`: a line for each token, as they come, `tell_places`.
 //! - `laws`: worked examples of counts.
 //!
-//! It promises that the counts are those of all tokens of the scan of the source by the specification that the text spells
-//! (`specs/Counts`), and each byte of the lines (`specs/CountLines`). How a line looks may be changed with docs/MANUAL.md.
+//! It promises that the counts are those of all turns of the scan of the source by the specification that the text spells
+//! (`specs/Counts`, `specs/Costs`), and each byte of the lines (`specs/CountLines`). How a line looks may be changed with
+//! docs/MANUAL.md.
 //!
 //! - **Tokens are asked for one by one, and none is kept.** So memory stays within the tables, the longest text and what the
 //!   source has ready, however long the input is.
+//! - **How far a turn looks is walked once more**, when its token is told, by a second machine of the same specification: a scanner
+//!   tells tokens alone, and lends its machine to nobody. All that the turn looks at was fed by then. So what is held is what the
+//!   scanner holds itself. A walk goes over each byte that the match asks for, also where the scanner knows by a mark what comes of
+//!   it: where many matches look far ahead, counts take longer than a scan.
 //! - **A count stays at the greatest number of 64 bits.** A text with what yymore kept is counted whole, so the bytes of texts may be
 //!   more than those of the input.
 //! - **What has not matched comes last in columns**, since these are the lines that one looks for. As JSON each rule has its line in
@@ -23,6 +29,7 @@
 mod counting;
 mod laws;
 mod lines;
+mod looking;
 mod places;
 mod reading;
 mod tally;

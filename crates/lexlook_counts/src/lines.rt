@@ -1,6 +1,6 @@
 //! The lines in which counts are told.
 ghost use Rattle.std.specs.Prelude.{◌≡◌, ◌++◌, IfOk, OnOk, length, map};
-ghost use Rattle.lexlook_counts.specs.CountLines.{column, condition_lines, kind_line, count_lines, json_field, json_line, matched_line};
+ghost use Rattle.lexlook_counts.specs.CountLines.{column, condition_lines, kind_line, count_lines, count_columns, json_beyond, json_field, json_line, matched_line};
 ghost use Rattle.lexlook_counts.specs.CountLines.{never_line, numbered_lines, kind_lines, counted_subject, turn_line};
 
 use crate::tally::{RuleCount, Tally};
@@ -72,6 +72,18 @@ pub(crate) fn add_subject(
     }
 }
 
+/// Appends the line of the counts of a rule.
+fn add_columns(text: &mut Vec<u8>, subject: Subject, count: RuleCount) -> Result<(), AllocError>
+    ensures { OnOk result (text.new.items ≡ text.old.items ++ count_columns subject count) }
+{
+    add_column(text, count.matches)?;
+    add_column(text, count.bytes)?;
+    add_column(text, count.longest)?;
+    add_column(text, count.beyond)?;
+    add_subject(text, LineKind::Matched, subject)?;
+    add(text, b"\n")
+}
+
 /// Appends the line of a rule that has matched.
 fn add_matched(text: &mut Vec<u8>, subject: Subject, count: RuleCount) -> Result<(), AllocError>
     ensures { OnOk result (text.new.items ≡ text.old.items ++ matched_line subject count) }
@@ -79,11 +91,7 @@ fn add_matched(text: &mut Vec<u8>, subject: Subject, count: RuleCount) -> Result
     if count.matches == 0 {
         return add(text, b"");
     }
-    add_column(text, count.matches)?;
-    add_column(text, count.bytes)?;
-    add_column(text, count.longest)?;
-    add_subject(text, LineKind::Matched, subject)?;
-    add(text, b"\n")
+    add_columns(text, subject, count)
 }
 
 /// Appends the line of a rule that has not matched.
@@ -106,6 +114,14 @@ pub(crate) fn add_field(text: &mut Vec<u8>, front: &[u8], number: u64) -> Result
     add(text, digits.format(number).as_bytes())
 }
 
+/// Appends the last field of the line of a rule as JSON, and its end.
+fn add_beyond(text: &mut Vec<u8>, beyond: u64) -> Result<(), AllocError>
+    ensures { OnOk result (text.new.items ≡ text.old.items ++ json_beyond beyond) }
+{
+    add_field(text, b",\"beyond\":", beyond)?;
+    add(text, b"}\n")
+}
+
 /// Appends the line of a rule as JSON.
 fn add_json(text: &mut Vec<u8>, subject: Subject, count: RuleCount) -> Result<(), AllocError>
     ensures { OnOk result (text.new.items ≡ text.old.items ++ json_line subject count) }
@@ -115,7 +131,7 @@ fn add_json(text: &mut Vec<u8>, subject: Subject, count: RuleCount) -> Result<()
     add_field(text, b",\"matches\":", count.matches)?;
     add_field(text, b",\"bytes\":", count.bytes)?;
     add_field(text, b",\"longest\":", count.longest)?;
-    add(text, b"}\n")
+    add_beyond(text, count.beyond)
 }
 
 /// Appends the line of a rule, if it has one of this kind.
@@ -201,7 +217,7 @@ fn add_conditions(
 }
 
 /// What stands above the counts of rules, and above those of conditions.
-const RULE_HEADS: &[u8] = b"     matches        bytes      longest\n";
+const RULE_HEADS: &[u8] = b"     matches        bytes      longest       beyond\n";
 
 const TURN_HEAD: &[u8] = b"       turns\n";
 

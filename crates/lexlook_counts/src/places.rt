@@ -52,11 +52,12 @@ fn add_place(
     add(line, b"\"\n")
 }
 
-/// A scan whose tokens are told as they come, and the line of the last one.
+/// A scan whose tokens are told as they come, the line of the last one, and what was fed last.
 #[derive(Drop)]
 struct Placer {
     reader: TokenReader,
     line: Vec<u8>,
+    fed: Vec<u8>,
 }
 
 impl Placer {
@@ -102,7 +103,8 @@ impl Placer {
             → PlacesOn S.gave S.ends S.failures K.wrote K.failures M lines.now s source.new t sink.new self.new
             result }
     {
-        match self.reader.read_on(source) {
+        self.fed.clear();
+        match self.reader.read_on(source, &mut self.fed) {
             Err(error) => Err(error),
             Ok(Read::Fed) => Ok(None),
             Ok(Read::Ended(status)) => Ok(Some(status)),
@@ -131,6 +133,7 @@ fn place_source<S: Source, K: Sink>(
     let mut scan = Placer {
         reader: TokenReader::new(alloc, machine),
         line: Vec::new(alloc),
+        fed: Vec::new(alloc),
     };
     'steps: for _ in 0..u64::MAX {
         match scan.step(lines, source, sink) {

@@ -1,5 +1,5 @@
 //! The tokens of a scan that reads a source, one by one.
-ghost use Rattle.std.specs.Prelude.{◌≡◌, ◌+◌, ◌-◌, ◌^◌, ◌<◌, ◌⊎◌, ℕ, List, false, IfErr, OnOk};
+ghost use Rattle.std.specs.Prelude.{◌≡◌, ◌+◌, ◌-◌, ◌^◌, ◌<◌, ◌⊎◌, ℕ, List, false, IfErr};
 ghost use Rattle.lex_semantics.specs.ByteSets.{bit_of};
 ghost use Rattle.lex_semantics.specs.Machine.{Machine};
 ghost use Rattle.lexscan.specs.Scanners.{pull_finished};
@@ -50,14 +50,15 @@ impl TokenReader {
         }
     }
 
-    /// Feeds what the source has ready, or where that is nothing its next byte, or tells its end.
-    fn feed_on<S: Source>(&mut self, source: &mut S) -> Result<(), RunError>
+    /// Feeds what the source has ready, or where that is nothing its next byte, or tells its end. What is fed is appended to what is
+    /// kept.
+    fn feed_on<S: Source>(&mut self, source: &mut S, kept: &mut Vec<u8>) -> Result<(), RunError>
         requires ends { S.ends source.old < 2 ^ 64 - 1 }
         requires reads { S.failures source.old < 2 ^ 64 - 1 }
         requires unfinished { pull_finished self.old.scanner ≡ false }
         ensures machine { reader_machine self.new ≡ reader_machine self.old }
-        ensures fed { Feeds S.gave source.old source.new self.old self.new result }
-        ensures ends { OnOk result (S.ends source.new ≡ S.ends source.old + bit_of (pull_finished self.new.scanner)) }
+        ensures fed { Feeds S.gave source.old source.new self.old self.new kept.old.items kept.new.items result }
+        ensures ends { S.ends source.new ≡ S.ends source.old + bit_of (pull_finished self.new.scanner) }
         ensures reads { S.failures source.new ≡ S.failures source.old + read_fault_count result }
         ensures refusals { IfErr result (λ e. (e ≡ RunError.Read) ⊎ (e ≡ RunError.OutOfMemory)
             ⊎ (e ≡ RunError.TooManyReads)) }
@@ -69,6 +70,10 @@ impl TokenReader {
                 Err(error) => return Err(feed_fault(error)),
                 Ok(()) => {}
             }
+            match kept.extend_from_slice(ready) {
+                Err(_) => return Err(RunError::OutOfMemory),
+                Ok(()) => {}
+            }
             source.give(count);
             return Ok(());
         }
@@ -78,32 +83,51 @@ impl TokenReader {
                 self.scanner.finish();
                 Ok(())
             }
-            Ok(Some(byte)) => match self.scanner.feed(&[byte]) {
-                Err(error) => Err(feed_fault(error)),
-                Ok(()) => Ok(()),
-            },
+            Ok(Some(byte)) => {
+                match self.scanner.feed(&[byte]) {
+                    Err(error) => return Err(feed_fault(error)),
+                    Ok(()) => {}
+                }
+                match kept.push(byte) {
+                    Err(_) => Err(RunError::OutOfMemory),
+                    Ok(()) => Ok(()),
+                }
+            }
         }
     }
 
-    /// The next token, or what is fed where the scan asks for more, or the status that it ends with.
-    pub(crate) fn read_on<S: Source>(&mut self, source: &mut S) -> Result<Read, RunError>
+    /// The next token, or what is fed where the scan asks for more, or the status that it ends with. What is fed is appended to what
+    /// is kept.
+    pub(crate) fn read_on<S: Source>(
+        &mut self,
+        source: &mut S,
+        kept: &mut Vec<u8>,
+    ) -> Result<Read, RunError>
         requires told { HasTold self.old }
         requires ends { pull_finished self.old.scanner ≡ false → S.ends source.old < 2 ^ 64 - 1 }
         requires reads { S.failures source.old < 2 ^ 64 - 1 }
         ensures { (M : Machine) (s : S) (given : List ℕ) (tokens : List TokenModel)
             → HasRead S.gave S.ends S.failures M s source.old given tokens self.old
-            → ReadsOn S.gave S.ends S.failures M s source.new given tokens self.new result }
+            → ReadsOn S.gave S.ends S.failures M s source.new given tokens self.old self.new kept.old.items
+            kept.new.items result }
     {
         match self.scanner.next() {
             Ok(Pulled::Token(token)) => Ok(Read::Token(token)),
             Ok(Pulled::Ended(status)) => Ok(Read::Ended(status)),
-            Ok(Pulled::More) => match self.feed_on(source) {
+            Ok(Pulled::More) => match self.feed_on(source, kept) {
                 Err(error) => Err(error),
                 Ok(()) => Ok(Read::Fed),
             },
             Err(RunError::Stack) => Err(RunError::Stack),
             Err(_) => Err(RunError::OutOfMemory),
         }
+    }
+
+    /// Whether the end of the input was told.
+    pub(crate) fn is_finished(&self) -> bool
+        ensures { result ≡ pull_finished self.now.scanner }
+    {
+        self.scanner.is_finished()
     }
 
     /// The text of the token that was read last.

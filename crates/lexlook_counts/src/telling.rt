@@ -9,9 +9,9 @@ ghost use Rattle.lexspec.specs.Views.{conditions_in, rules_in, spec_of};
 ghost use Rattle.lextab_packed.specs.FlatViews.{tables_of};
 ghost use Rattle.lextab_packed.specs.Machines.{table_machine};
 ghost use Rattle.lexspec_actions.specs.Views.{condition_of};
-ghost use Rattle.lexlook_counts.specs.Told.{IsMadeFor, TellsCounts, TellsOf, lines_for};
+ghost use Rattle.lexlook_counts.specs.Told.{AreMadeFor, IsMadeFor, TellsCounts, TellsOf, lines_for};
 
-use crate::counting::{Counted, count_source};
+use crate::counting::{Counted, Machines, count_source};
 use crate::lines::{CountForm, count_lines};
 use lexkit::{
     Flat, GenError, Limits, Options, RunError, ScanError, Sink, Source, least_automaton, lines_of,
@@ -46,6 +46,24 @@ pub(crate) fn machine_of(alloc: Global, spec: &Spec, limits: Limits) -> Result<F
     }
 }
 
+/// The same twice, for a scan and to tell how far its turns look.
+fn machines_of(alloc: Global, spec: &Spec, limits: Limits) -> Result<Machines, GenError>
+    requires few_positions { limits.positions ≤ max_positions }
+    requires few_states { limits.states ≤ max_states }
+    ensures made { IfOk result (AreMadeFor limits (spec_of spec.now)) }
+    ensures refused { IfErr result (SpecRefusal limits (spec_of spec.now)) }
+{
+    let least = least_automaton(alloc, spec, limits)?;
+    let scans = match pack_flat(alloc, &least.automaton, spec) {
+        Err(_) => return Err(GenError::OutOfMemory),
+        Ok(machine) => machine,
+    };
+    match pack_flat(alloc, &least.automaton, spec) {
+        Err(_) => Err(GenError::OutOfMemory),
+        Ok(looks) => Ok(Machines { scans, looks }),
+    }
+}
+
 /// The lines of what was counted of a specification's scan.
 fn lines_for(
     alloc: Global,
@@ -62,11 +80,11 @@ fn lines_for(
     count_lines(alloc, form, &lines, &names, &counted.tally)
 }
 
-/// Counts the tokens of a source by a specification, and writes the lines.
+/// Counts the turns of a scan of a source by a specification, and writes the lines.
 fn tell_of<S: Source, K: Sink>(
     alloc: Global,
     spec: &Spec,
-    machine: Flat,
+    machines: Machines,
     form: CountForm,
     source: &mut S,
     sink: &mut K,
@@ -74,14 +92,14 @@ fn tell_of<S: Source, K: Sink>(
     requires ends { S.ends source.old < 2 ^ 64 - 1 }
     requires reads { S.failures source.old < 2 ^ 64 - 1 }
     requires writes { K.failures sink.old < 2 ^ 64 - 1 }
-    ensures told { TellsOf S.gave S.ends S.failures K.wrote (table_machine (tables_of machine)) (spec_of spec.now) form
-        source.old source.new sink.old sink.new result }
+    ensures told { TellsOf S.gave S.ends S.failures K.wrote (table_machine (tables_of machines.scans))
+        (table_machine (tables_of machines.looks)) (spec_of spec.now) form source.old source.new sink.old sink.new result }
     ensures reads { S.failures source.new ≡ S.failures source.old + read_fault_count result }
     ensures writes { K.failures sink.new ≡ K.failures sink.old + write_fault_count result }
 {
     let rules = spec.rules().len();
     let conditions = spec.conditions().len();
-    let counted = match count_source(alloc, machine, rules, conditions, source) {
+    let counted = match count_source(alloc, machines, rules, conditions, source) {
         Err(error) => return Err(error),
         Ok(counted) => counted,
     };
@@ -96,8 +114,8 @@ fn tell_of<S: Source, K: Sink>(
 }
 
 /// Scans the source by the specification that a text spells, writing nothing of what its actions write, and then writes to the
-/// sink how often each rule matched, the bytes of its texts in all and the longest, and in how many turns the scan was in each
-/// start condition. It answers the status that the scan ends with, 0 to 63. Where the scan stops at a fault nothing is
+/// sink how often each rule matched, the bytes of its texts in all and the longest, how many bytes behind its texts it looked at,
+/// and in how many turns the scan was in each start condition. It answers the status that the scan ends with, 0 to 63. Where the scan stops at a fault nothing is
 /// written. A text that spells no specification, or one whose automaton passes the limits, is refused, and then neither the
 /// source nor the sink is touched.
 pub fn tell_counts<S: Source, K: Sink>(
@@ -120,11 +138,11 @@ pub fn tell_counts<S: Source, K: Sink>(
         Err(error) => return Err(ScanError::Generate(error)),
         Ok(spec) => spec,
     };
-    let machine = match machine_of(alloc, &spec, options.limits) {
+    let machines = match machines_of(alloc, &spec, options.limits) {
         Err(error) => return Err(ScanError::Generate(error)),
-        Ok(machine) => machine,
+        Ok(machines) => machines,
     };
-    match tell_of(alloc, &spec, machine, form, source, sink) {
+    match tell_of(alloc, &spec, machines, form, source, sink) {
         Err(error) => Err(ScanError::Run(error)),
         Ok(status) => Ok(status),
     }

@@ -1,45 +1,70 @@
-use Rattle.std.proofs.Common.{ℕ, [], Ok, Option, arith, subst}
+use Rattle.std.proofs.Common.{◌≡◌, ℕ, ◌+◌, [], Ok, Option, arith, false, subst}
+use Rattle.lexscan.specs.Scanners.{pull_finished}
 use Rattle.lextab_packed.specs.FlatViews.{tables_of}
 use Rattle.lextab_packed.specs.Machines.{table_machine}
+use Rattle.lexlook_counts.specs.Costs.{tokens_in}
 use Rattle.lexlook_counts.specs.Counting.{CountsOn}
 use Rattle.lexlook_counts.proofs.Fed.{by_memory, few_ends, fresh, has_told}
 use Rattle.lexlook_counts.proofs.counting.count_source.Goals as goal
 
 pub steps-init : goal.steps-init
 steps-init g c =
-    let M = table_machine (tables_of c.args.machine) in
+    let M = table_machine (tables_of c.args.machines.scans) in
     let f = c.in-Ok.ensures in
-    record { given = []; tokens = []; read = fresh g.S.Source.gave g.S.Source.ends g.S.Source.failures M c.args.source.now c.in-Ok.scan.reader (g.met.S.Source.gave_none c.args.source.now) f.0; counts = f.1 }
+    record {
+      given = [];
+      costs = [];
+      read = fresh g.S.Source.gave g.S.Source.ends g.S.Source.failures M c.args.source.now c.in-Ok.scan.reader (g.met.S.Source.gave_none c.args.source.now) f.reader;
+      machine = f.machine;
+      holds = f.holds;
+      looked = λ x k. tt;
+      counts = f.counts;
+    }
 
 pub step-requires-clause-told : goal.step-requires-clause-told
 step-requires-clause-told g c =
     let h = c.steps.invariant in
-    has_told g.S.Source.gave g.S.Source.ends g.S.Source.failures (table_machine (tables_of c.args.machine)) c.args.source.now c.steps.source h.given h.tokens c.steps.scan.reader h.read
+    has_told g.S.Source.gave g.S.Source.ends g.S.Source.failures (table_machine (tables_of c.args.machines.scans)) c.args.source.now c.steps.source h.given (tokens_in h.costs) c.steps.scan.reader h.read
 
 pub step-requires-clause-ends : goal.step-requires-clause-ends
 step-requires-clause-ends g c =
     let h = c.steps.invariant in
-    few_ends g.S.Source.gave g.S.Source.ends g.S.Source.failures (table_machine (tables_of c.args.machine)) c.args.source.now c.steps.source h.given h.tokens c.steps.scan.reader h.read c.requires.ends
+    few_ends g.S.Source.gave g.S.Source.ends g.S.Source.failures (table_machine (tables_of c.args.machines.scans)) c.args.source.now c.steps.source h.given (tokens_in h.costs) c.steps.scan.reader h.read c.requires.ends
 
 pub step-requires-clause-reads : goal.step-requires-clause-reads
 step-requires-clause-reads g c = omega (arith, c.steps.invariant.read.reads, c.requires.reads)
 
 pub returns-in-Ok-Some : goal.returns-in-Ok-Some
 returns-in-Ok-Some g c =
-    let M = table_machine (tables_of c.args.machine) in
-    subst (λ (o : Option ℕ). CountsOn g.S.Source.gave g.S.Source.ends g.S.Source.failures M c.args.rules c.args.conditions c.args.source.now c.step.new.source c.step.new.self (Ok o)) c.in-Ok-Some.field-0-is
-    (c.in-Ok-Some.ensures M c.args.rules c.args.conditions c.args.source.now c.steps.invariant)
+    let M = table_machine (tables_of c.args.machines.scans) in
+    let N = table_machine (tables_of c.args.machines.looks) in
+    subst (λ (o : Option ℕ). CountsOn g.S.Source.gave g.S.Source.ends g.S.Source.failures M N c.args.rules c.args.conditions c.args.source.now c.step.new.source c.step.new.self (Ok o)) c.in-Ok-Some.field-0-is
+    (c.in-Ok-Some.ensures M N c.args.rules c.args.conditions c.args.source.now c.steps.invariant)
 
 pub returns-in-Err-step : goal.returns-in-Err-step
-returns-in-Err-step g c = c.in-Err-step.ensures (table_machine (tables_of c.args.machine)) c.args.rules c.args.conditions c.args.source.now c.steps.invariant
+returns-in-Err-step g c = c.in-Err-step.ensures (table_machine (tables_of c.args.machines.scans)) (table_machine (tables_of c.args.machines.looks)) c.args.rules c.args.conditions c.args.source.now c.steps.invariant
 
 pub steps-preserved : goal.steps-preserved
 steps-preserved g c =
-    let M = table_machine (tables_of c.args.machine) in
-    subst (λ (o : Option ℕ). CountsOn g.S.Source.gave g.S.Source.ends g.S.Source.failures M c.args.rules c.args.conditions c.args.source.now c.step.new.source c.step.new.self (Ok o)) c.in-Ok-None.field-0-is
-    (c.in-Ok-None.ensures M c.args.rules c.args.conditions c.args.source.now c.steps.invariant)
+    let M = table_machine (tables_of c.args.machines.scans) in
+    let N = table_machine (tables_of c.args.machines.looks) in
+    subst (λ (o : Option ℕ). CountsOn g.S.Source.gave g.S.Source.ends g.S.Source.failures M N c.args.rules c.args.conditions c.args.source.now c.step.new.source c.step.new.self (Ok o)) c.in-Ok-None.field-0-is
+    (c.in-Ok-None.ensures M N c.args.rules c.args.conditions c.args.source.now c.steps.invariant)
+
+pub returns-in-Err : goal.returns-in-Err
+returns-in-Err g c = (
+  [],
+  false,
+  record {
+    source = g.met.S.Source.gave_none c.args.source.now;
+    ends = (let zero : g.S.Source.ends c.args.source.now ≡ g.S.Source.ends c.args.source.now + 0 = omega arith in zero);
+    reads = (let zero : g.S.Source.failures c.args.source.now ≡ g.S.Source.failures c.args.source.now + 0 = omega arith in zero);
+    stack = λ e. cc;
+    not_write = λ e. cc;
+  },
+)
 
 pub returns : goal.returns
 returns g c =
     let h = c.steps.invariant in
-    (h.given, by_memory g.S.Source.gave g.S.Source.ends g.S.Source.failures (table_machine (tables_of c.args.machine)) c.args.source.now c.steps.source h.given h.tokens c.steps.scan.reader h.read)
+    (h.given, pull_finished c.steps.scan.reader.scanner, by_memory g.S.Source.gave g.S.Source.ends g.S.Source.failures (table_machine (tables_of c.args.machines.scans)) c.args.source.now c.steps.source h.given (tokens_in h.costs) c.steps.scan.reader h.read)

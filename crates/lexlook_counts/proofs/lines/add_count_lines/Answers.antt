@@ -10,7 +10,7 @@ use Rattle.lexlook_counts.proofs.lines.add_count_lines.Goals as goal
 
 -- the parts of what is told in columns
 parts_are : (form : CountForm) (lines : List ℕ) (names : List (List ℕ)) (t : Tally) (turns : List ℕ) (old one two three four text : List ℕ) → form ≡ forms.Columns → turns ≡ t.turns.items
-    → one ≡ old ++ codes "     matches        bytes      longest\n" → two ≡ one ++ kind_lines kinds.Matched lines t → three ≡ two ++ kind_lines kinds.Never lines t → four ≡ three ++ codes "       turns\n"
+    → one ≡ old ++ codes "     matches        bytes      longest       beyond\n" → two ≡ one ++ kind_lines kinds.Matched lines t → three ≡ two ++ kind_lines kinds.Never lines t → four ≡ three ++ codes "       turns\n"
     → text ≡ four ++ condition_lines form names turns → text ≡ old ++ count_lines form lines names t
 parts_are form lines names t turns old one two three four text columns same h1 h2 h3 h4 h5 =
     in_six old _ (kind_lines kinds.Matched lines t) (kind_lines kinds.Never lines t) _ (condition_lines forms.Columns names t.turns.items) [] one two three four text text h1 h2 h3 h4

@@ -10,7 +10,7 @@ use Rattle.lexlook_counts.proofs.places.place_source.Goals as goal
 pub steps-init : goal.steps-init
 steps-init g c =
     let M = table_machine (tables_of c.args.machine) in
-    let p : Placer = record { reader = c.new.result; line = c.new-2.result } in
+    let p : Placer = record { reader = c.new.result; line = c.new-2.result; fed = c.new-3.result } in
     placed_none g.S.Source.gave g.S.Source.ends g.S.Source.failures g.K.Sink.wrote g.K.Sink.failures M c.args.lines.now c.args.source.now c.args.source.now c.args.sink.now c.args.sink.now p
     (fresh g.S.Source.gave g.S.Source.ends g.S.Source.failures M c.args.source.now c.new.result (g.met.S.Source.gave_none c.args.source.now) c.new.ensures) (g.met.K.Sink.wrote_none c.args.sink.now)
 

@@ -1,4 +1,4 @@
-use Rattle.std.proofs.Common.{◌≡◌, ◌∙◌, Bool, [], ◌∷◌, ◌++◌, Ok, Err, ap, false, subst}
+use Rattle.std.proofs.Common.{◌≡◌, ◌∙◌, Bool, [], ◌∷◌, ◌++◌, Ok, Err, ap, false, refl, subst}
 use Rattle.lex_semantics.specs.Machine.{Machine}
 use Rattle.lexscan.specs.Pulls.{AfterPull, TokensTold, whole_token}
 use Rattle.lexscan.specs.Scanners.{pull_finished, pull_state, pull_text, pull_waiting}
@@ -10,7 +10,7 @@ use Rattle.lextab_packed.specs.Machines.{table_machine}
 use Rattle.lextab_packed.specs.declared.flat.Flat.{Flat}
 use Rattle.lexlook_counts.specs.Reading.{reader_machine}
 use Rattle.lexlook_counts.specs.declared.reading.TokenReader.{TokenReader}
-use Rattle.lexlook_counts.proofs.Fed.{by_feeding, by_memory, by_stack, fed_more, pulled_by, still}
+use Rattle.lexlook_counts.proofs.Fed.{by_feeding, by_memory, by_stack, fed_more, pulled_by, still, stopped_here}
 use Rattle.lexlook_counts.proofs.reading.TokenReader.read_on.Goals as goal
 
 pub feed_on-requires-clause-ends : goal.feed_on-requires-clause-ends
@@ -38,6 +38,8 @@ returns-in-Ok-Token g c M s0 given tokens h =
     let after = pulled_by (reader_machine w) M given (pull_finished w.scanner) tokens (pull_state w.scanner) (pull_state s) (pull_waiting w.scanner) (pull_waiting s) (pull_text s) (Ok c.in-Ok-Token.field-0) (Ok (pulls.Token t)) h.machine (ap Ok c.in-Ok-Token.field-0-is) (c.in-Ok-Token.ensures.pulled given tokens) h.told in (
       still g.S.Source.gave g.S.Source.ends g.S.Source.failures M s0 c.args.source.now given tokens w h q (tokens ++ whole_token t ∷ []) (ap (λ (f : Flat). table_machine (tables_of f)) c.next.ensures.machine) c.next.ensures.finished after.0,
       after.1,
+      c.next.ensures.finished,
+      refl,
     )
 
 pub returns-in-Ok-Ended : goal.returns-in-Ok-Ended
@@ -46,7 +48,6 @@ returns-in-Ok-Ended g c M s0 given tokens h =
     let s = c.next.new.self in
     let after = pulled_by (reader_machine w) M given (pull_finished w.scanner) tokens (pull_state w.scanner) (pull_state s) (pull_waiting w.scanner) (pull_waiting s) (pull_text s) (Ok c.in-Ok-Ended.field-0) (Ok (pulls.Ended c.in-Ok-Ended.status)) h.machine (ap Ok c.in-Ok-Ended.field-0-is) (c.in-Ok-Ended.ensures.pulled given tokens) h.told in
     record {
-      at_end = pull_finished w.scanner;
       source = h.source;
       ends = h.ends;
       reads = h.reads;
@@ -55,9 +56,12 @@ returns-in-Ok-Ended g c M s0 given tokens h =
 
 pub returns-in-Err-feed_on : goal.returns-in-Err-feed_on
 returns-in-Err-feed_on g c M s0 given tokens h =
+    let w = c.args.self.now in
+    let s = c.next.new.self in
     let fed = c.feed_on.ensures.fed in
-    by_feeding g.S.Source.gave g.S.Source.ends g.S.Source.failures M s0 c.args.source.now given tokens c.args.self.now h c.feed_on.new.source fed.given c.in-Err-feed_on.error
-    (g.met.S.Source.gave_more s0 c.args.source.now c.feed_on.new.source given fed.given h.source fed.source) c.in-Err-feed_on.ensures.reads c.in-Err-feed_on.ensures.refusals
+    let after = pulled_by (reader_machine w) M given (pull_finished w.scanner) tokens (pull_state w.scanner) (pull_state s) (pull_waiting w.scanner) (pull_waiting s) (pull_text s) (Ok c.in-Ok-More.field-0) (Ok pulls.More) h.machine (ap Ok c.in-Ok-More.field-0-is) (c.in-Ok-More.ensures.pulled given tokens) h.told in
+    by_feeding g.S.Source.gave g.S.Source.ends g.S.Source.failures M s0 c.args.source.now given tokens w h c.feed_on.new.source fed.given (pull_finished c.feed_on.new.self.scanner) c.in-Err-feed_on.error after.0.1
+    (g.met.S.Source.gave_more s0 c.args.source.now c.feed_on.new.source given fed.given h.source fed.source) c.feed_on.ensures.ends c.in-Err-feed_on.ensures.reads c.in-Err-feed_on.ensures.refusals
 
 pub returns-in-Ok : goal.returns-in-Ok
 returns-in-Ok g c M s0 given tokens h =
@@ -72,7 +76,9 @@ returns-in-Ok g c M s0 given tokens h =
     let more = subst (λ (K : Machine). TokensTold K given false tokens (pull_state s) (pull_waiting s) → TokensTold K (given ++ fed.given) (pull_finished q.scanner) tokens (pull_state q.scanner) (pull_waiting q.scanner)) (same ∙ h.machine) (fed.told given tokens) in (
       fed.given,
       fed_more g.S.Source.gave g.S.Source.ends g.S.Source.failures M s0 c.args.source.now given tokens w h c.feed_on.new.source fed.given q open_end (c.feed_on.ensures.machine ∙ same)
-          (g.met.S.Source.gave_more s0 c.args.source.now c.feed_on.new.source given fed.given h.source fed.source) c.in-Ok.ensures.ends c.in-Ok.ensures.reads (more told),
+          (g.met.S.Source.gave_more s0 c.args.source.now c.feed_on.new.source given fed.given h.source fed.source) c.feed_on.ensures.ends c.in-Ok.ensures.reads (more told),
+      open_end,
+      fed.keeps,
     )
 
 pub returns-in-Err-Stack : goal.returns-in-Err-Stack
@@ -80,7 +86,9 @@ returns-in-Err-Stack g c M s0 given tokens h =
     let w = c.args.self.now in
     let s = c.next.new.self in
     let after = pulled_by (reader_machine w) M given (pull_finished w.scanner) tokens (pull_state w.scanner) (pull_state s) (pull_waiting w.scanner) (pull_waiting s) (pull_text s) (Err c.in-Err-Stack.field-0) (Err runs.Stack) h.machine (ap Err c.in-Err-Stack.field-0-is) (c.in-Err-Stack.ensures.pulled given tokens) h.told in
-    by_stack g.S.Source.gave g.S.Source.ends g.S.Source.failures M s0 c.args.source.now given tokens w h after.0
+    stopped_here g.S.Source.gave g.S.Source.ends g.S.Source.failures M s0 c.args.source.now given tokens w h runs.Stack (by_stack g.S.Source.gave g.S.Source.ends g.S.Source.failures M s0 c.args.source.now given tokens w h after.0)
 
 pub returns-in-Err : goal.returns-in-Err
-returns-in-Err g c M s0 given tokens h = by_memory g.S.Source.gave g.S.Source.ends g.S.Source.failures M s0 c.args.source.now given tokens c.args.self.now h
+returns-in-Err g c M s0 given tokens h =
+    let w = c.args.self.now in
+    stopped_here g.S.Source.gave g.S.Source.ends g.S.Source.failures M s0 c.args.source.now given tokens w h runs.OutOfMemory (by_memory g.S.Source.gave g.S.Source.ends g.S.Source.failures M s0 c.args.source.now given tokens w h)

@@ -1,0 +1,25 @@
+-- How far a match looks into an input. (POSIX, lex, Rules in lex: the longest match.)
+use Rattle.std.specs.Prelude.{◌≡◌, ℕ, ◌≤◌, ◌<◌, true, false, List, length, take, drop}
+use Rattle.lex_semantics.specs.Machine.{Machine, walk}
+use Rattle.lextab_packed.specs.FlatViews.{tables_of}
+use Rattle.lextab_packed.specs.Machines.{table_machine}
+use Rattle.lexlook_counts.specs.declared.looking.Look.{Look}
+use Rattle.lexlook_counts.specs.declared.looking.Looker.{Looker}
+
+-- From a state on so many of these bytes are looked at: the machine goes on after each of them but the last. It goes on
+-- no more after that one, or these are all.
+pub record Looks (M : Machine) (s : ℕ) (w : List ℕ) (l : Look) : Type 0 where
+  pub inside : l.count ≤ length w
+  pub asked : (i : ℕ) → 1 ≤ i → i < l.count → M.goes_on (walk M s (take i w)) ≡ true
+  pub stops : l.whole ≡ false → (1 ≤ l.count) × (M.goes_on (walk M s (take l.count w)) ≡ false)
+  pub all : l.whole ≡ true → l.count ≡ length w
+
+-- the machine by which it looks
+abbrev pub looker_machine : Looker → Machine
+looker_machine l = table_machine (tables_of l.machine)
+
+-- The bytes of the input from a place on are held, as far as they were given, and the next turn begins here.
+pub record Holds (given : List ℕ) (at : ℕ) (l : Looker) : Type 0 where
+  pub inside : l.base ≤ length given
+  pub bytes : l.bytes.items ≡ drop l.base given
+  pub here : l.at ≡ at
