@@ -29,7 +29,7 @@ module _ (a : Side) (laws : MachineLaws a.machine) where
 
   can_tell : IsLabelled a → (o : Obstacle) (k : List ℕ) → Hinders a.machine o k → CanTell a.machine a.given o
   can_tell l (Unsteady i) k h = (h.1.0, has_rule a.given l i h.1.0)
-  can_tell l (Crosses d i) k h = (has_condition a.given l d (below h.0 d h.3.4.0 h.1), has_rule a.given l i (laws.in_range _ i h.3.4.2.3))
+  can_tell l (Crosses d i) k h = (has_condition a.given l d (below h.0 d h.3.4.0 h.1), has_rule a.given l i (laws.in_range _ i h.3.4.2.1.3))
   can_tell l (Strays d i) k h = (laws.in_range _ i h.3.4.2.0, has_condition a.given l d (below h.0 d h.3.4.0 h.1), has_rule a.given l i (laws.in_range _ i h.3.4.2.0))
   can_tell l (Copies d) k h = has_condition a.given l d (below h.0 d h.3.0 h.1)
   can_tell l Writes k h = tt

@@ -1,11 +1,11 @@
 -- Where the newlines of a match are.
-use Rattle.std.proofs.Common.{zero-add, ◌≡◌, ℕ, zero, suc, ◌+◌, ◌<◌, Bool, true, false, List, [], ◌∷◌, ◌++◌, length, take, drop, refl, sym, ◌∙◌, ap, subst, arith}
+use Rattle.std.proofs.Common.{zero-add, ◌≡◌, ℕ, zero, suc, ◌+◌, ◌<◌, Bool, true, List, [], ◌∷◌, ◌++◌, length, take, drop, refl, sym, ◌∙◌, ap, subst, arith}
 use Rattle.std.proofs.lemmas.List.{length-drop}
 use Rattle.lex_semantics.specs.Text.{IsText, Among, byte_at}
-use Rattle.lex_semantics.specs.Machine.{Machine, state_after}
+use Rattle.lex_semantics.specs.Machine.{Machine, walk, state_after}
 use Rattle.lex_semantics.specs.MachineLaws.{MachineLaws, LeadsToAccept}
 use Rattle.lex_semantics.proofs.MachineLaws.{walk-append}
-use Rattle.lex_semantics.proofs.Texts.{is_text_take, is_text_drop}
+use Rattle.lex_semantics.proofs.Texts.{is_text_drop}
 use Rattle.lexlook_tables.specs.Lines.{after_line}
 
 -- a list before a byte, that byte, and what follows it
@@ -30,22 +30,16 @@ pub byte_at_past : (v w : List ℕ) (j : ℕ) → byte_at (v ++ w) (length v + j
 byte_at_past [] w j = rw zero-add refl
 byte_at_past (b ∷ v) w j = (let e : suc (length v) + j ≡ suc (length v + j) = omega arith in ap (byte_at (b ∷ (v ++ w))) e ∙ byte_at_past v w j)
 
--- what a machine accepts has a newline at its end at most, where it goes on after none
-pub last_alone : (M : Machine) → MachineLaws M → (c : ℕ) (line : Bool) (w : List ℕ) (i : ℕ) → ((v : List ℕ) → IsText v → M.goes_on (after_line M c line v) ≡ false) →
-    IsText w → Among (M.accepts (state_after M c line w)) i → (j : ℕ) → suc j < length w → byte_at w j ≡ 10 → ⊥
-last_alone M laws c line w i stops text accepted j lt is = differ (sym (stops (take j w) (is_text_take j w text)) ∙ goes)
-  where
-    u : List ℕ
-    u = drop (suc j) w
+-- what a machine accepts with a newline before its end goes on after that
+module _ (M : Machine) (c : ℕ) (line : Bool) (w : List ℕ) (i j : ℕ) (accepted : Among (M.accepts (state_after M c line w)) i) (lt : suc j < length w) (is : byte_at w j ≡ 10) where
+  pub past : Among (M.accepts (walk M (after_line M c line (take j w)) (drop (suc j) w))) i
+  past = subst (λ s. Among (M.accepts s) i) (ap (state_after M c line) whole ∙ walk-append M (M.start c line) (take j w ++ 10 ∷ []) (drop (suc j) w)) accepted
+    where
+      whole : w ≡ (take j w ++ 10 ∷ []) ++ drop (suc j) w
+      whole = split_at w j (omega (arith, lt)) ∙ ap (λ b. (take j w ++ b ∷ []) ++ drop (suc j) w) is
 
-    whole : w ≡ (take j w ++ 10 ∷ []) ++ u
-    whole = split_at w j (omega (arith, lt)) ∙ ap (λ b. (take j w ++ b ∷ []) ++ drop (suc j) w) is
-
-    leads : LeadsToAccept M (after_line M c line (take j w))
-    leads = (u, is_text_drop (suc j) w text, omega (arith, length-drop (suc j) w, lt), i, subst (λ s. Among (M.accepts s) i) (ap (state_after M c line) whole ∙ walk-append M (M.start c line) (take j w ++ 10 ∷ []) u) accepted)
-
-    goes : M.goes_on (after_line M c line (take j w)) ≡ true
-    goes = (laws.goes_on (after_line M c line (take j w))).1 (∣ leads ∣₁)
-
-    differ : false ≡ true → ⊥
-    differ e = cc
+  pub goes_past : MachineLaws M → IsText w → M.goes_on (after_line M c line (take j w)) ≡ true
+  goes_past laws text = (laws.goes_on (after_line M c line (take j w))).1 (∣ leads ∣₁)
+    where
+      leads : LeadsToAccept M (after_line M c line (take j w))
+      leads = (drop (suc j) w, is_text_drop (suc j) w text, omega (arith, length-drop (suc j) w, lt), i, past)

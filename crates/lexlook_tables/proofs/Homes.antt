@@ -18,11 +18,11 @@ use Rattle.lex_semantics.proofs.MachineLaws.{machine_laws}
 use Rattle.lex_semantics.proofs.Actions.{less_from_one, begins_below}
 use Rattle.lex_semantics.proofs.Ends as E
 use Rattle.lex_semantics.proofs.Texts.{is_text_take, is_text_drop}
-use Rattle.lexlook_tables.specs.Lines.{may_keep_last, after_line, TakesLine, KeepsLines}
+use Rattle.lexlook_tables.specs.Lines.{may_keep_last, after_line, TakesLine, DiscardsLine, KeepsLines}
 use Rattle.lexlook_tables.proofs.Deeds.{IsSteady, EndsLine, steady_of, ends_of, stays}
 use Rattle.lexlook_tables.proofs.Does.{Leaves, Does, does}
 use Rattle.lexlook_tables.proofs.Settles.{Settles, settles, begin}
-use Rattle.lexlook_tables.proofs.Bytes.{split_at, byte_at_take, byte_at_drop, last_alone}
+use Rattle.lexlook_tables.proofs.Bytes.{split_at, byte_at_take, byte_at_drop, past, goes_past}
 
 -- The text so far has no newline, and where a line starts the scan is in INITIAL.
 pub record Home (M : Machine) (x : List ℕ) (p : Place) : Type 0 where
@@ -160,26 +160,32 @@ module _ (M : Machine) (laws : MachineLaws M) (keeps : KeepsLines M) where
         home_by ends = (left.home ends.home ends.begins, λ e. elim (left.more e) [ inl was ↦ no_true was | inr at ↦ ends.no_more at ])
 
         from : Full R p.condition line_start w m.rule m.keep → (b.condition ≡ 0) × (b.more ≡ true → ⊥)
-        from (inl f) = home_by (subst (EndsLine p.condition) (sym (own_statements m.rule f.0)) (ends_of p.condition (M.statements m.rule) ((keeps.lines p.condition h.condition).ends line_start (take j w) (is_text_take j w w_text) m.rule accepted may)))
+        from (inl f) = home_by (subst (EndsLine p.condition) (sym (own_statements m.rule f.0)) (ended (cases_lt (suc j) (length w))))
           where
             w_text : IsText w
             w_text = is_text_take m.len y (is_text_drop p.at x text)
 
-            last : (suc j < length w) ⊎ (length w ≤ suc j) → suc j ≡ length w
-            last (inl less) = absurd (last_alone M laws p.condition line_start w m.rule (λ v v_text. (keeps.lines p.condition h.condition).stops line_start v v_text) w_text f.1.accepted j less here)
-            last (inr more) = omega (arith, more, w_size, lt, keep_fits)
+            accepted : Among (M.accepts (state_after M p.condition line_start w)) m.rule
+            accepted = f.1.accepted
 
-            end : suc j ≡ length w
-            end = last (cases_lt (suc j) (length w))
+            -- the newline is the last byte
+            at_end : suc j ≡ length w → EndsLine p.condition (M.statements m.rule)
+            at_end end = ends_of p.condition (M.statements m.rule) ((keeps.lines p.condition h.condition).ends line_start (take j w) (is_text_take j w w_text) m.rule
+                (subst (λ v. Among (M.accepts (state_after M p.condition line_start v)) m.rule) whole accepted) (may_keep (M.cut m.rule) (length w) m.keep f.1.keeps (omega (arith, end, lt, keep_fits, w_size))))
+              where
+                whole : w ≡ take j w ++ 10 ∷ []
+                whole = split_at w j (omega (arith, end)) ∙ ap (λ r. (take j w ++ byte_at w j ∷ []) ++ r) (drop_all (suc j) w (omega (arith, end))) ∙ append-nil (take j w ++ byte_at w j ∷ []) ∙ ap (λ z. take j w ++ z ∷ []) here
 
-            whole : w ≡ take j w ++ 10 ∷ []
-            whole = split_at w j (omega (arith, end)) ∙ ap (λ r. (take j w ++ byte_at w j ∷ []) ++ r) (drop_all (suc j) w (omega (arith, end))) ∙ append-nil (take j w ++ byte_at w j ∷ []) ∙ ap (λ z. take j w ++ z ∷ []) here
+            -- the match goes on after it, and is discarded
+            goes_on_to : suc j < length w → (M.goes_on (after_line M p.condition line_start (take j w)) ≡ false) ⊎ DiscardsLine M p.condition (after_line M p.condition line_start (take j w)) → EndsLine p.condition (M.statements m.rule)
+            goes_on_to less (inl stops) = absurd (no_true (sym stops ∙ goes_past M p.condition line_start w m.rule j accepted less here laws w_text))
+            goes_on_to less (inr d) =
+                let empty = (d.discards (drop (suc j) w) m.rule (is_text_drop (suc j) w w_text) (past M p.condition line_start w m.rule j accepted less here)).1 in
+                subst (EndsLine p.condition) (sym empty) (record { home = λ e at. absurd at; begins = inl d.initial; no_more = λ at. at })
 
-            accepted : Among (M.accepts (after_line M p.condition line_start (take j w))) m.rule
-            accepted = subst (λ v. Among (M.accepts (state_after M p.condition line_start v)) m.rule) whole f.1.accepted
-
-            may : may_keep_last (M.cut m.rule) ≡ true
-            may = may_keep (M.cut m.rule) (length w) m.keep f.1.keeps (omega (arith, end, lt, keep_fits, w_size))
+            ended : (suc j < length w) ⊎ (length w ≤ suc j) → EndsLine p.condition (M.statements m.rule)
+            ended (inl less) = goes_on_to less ((keeps.lines p.condition h.condition).stops line_start (take j w) (is_text_take j w w_text))
+            ended (inr more) = at_end (omega (arith, more, w_size, lt, keep_fits))
         from (inr f) = (left.same (λ d at. no_begin_in_echo d (subst (λ z. Among z (Begin d)) echoes at)) ∙ initial p.condition refl, λ e. elim (left.more e) [ inl was ↦ no_true was | inr at ↦ no_more_in_echo (subst (λ z. Among z More) echoes at) ])
           where
             echoes : ss ≡ Echo ∷ []

@@ -13,8 +13,10 @@ pub mod Settles
 pub mod Bytes
 pub mod Homes
 pub mod Shifts
+pub mod Passing
 pub mod Apart
 pub mod Searches
 pub mod Fronts
+pub mod Exploring
 pub mod Firsts
 pub mod Standing

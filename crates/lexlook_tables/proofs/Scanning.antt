@@ -34,7 +34,7 @@ longest_first M s n [] = []
 longest_first M s n (b ∷ y) = longest_first M (M.next s b) (suc n) y ++ filter_map (match_of M (suc n)) (M.accepts (M.next s b))
 
 -- the default rule after them
-abbrev in_turn : Machine → ℕ → Bool → List ℕ → List Candidate
+abbrev pub in_turn : Machine → ℕ → Bool → List ℕ → List Candidate
 in_turn M c line y = longest_first M (M.start c line) 0 y ++ default_match M.count y
 
 module _ (M : Machine) (laws : MachineLaws M) where
@@ -113,7 +113,7 @@ module _ (M : Machine) (laws : MachineLaws M) where
         | inr a ↦ among_left (longest_first M (M.next s b) (suc n) y) (here (suc n) (M.accepts (M.next s b))) m (later a)
       ]
 
-  candidates_in_turn : (c : ℕ) (line : Bool) (y : List ℕ) → Candidates (rules_of_machine M) c line y (in_turn M c line y)
+  pub candidates_in_turn : (c : ℕ) (line : Bool) (y : List ℕ) → Candidates (rules_of_machine M) c line y (in_turn M c line y)
   candidates_in_turn c line y = record {
     in_order = joined_in_order (longest_first M (M.start c line) 0 y) (default_match M.count y) (all_in_order (M.start c line) 0 y) (default_in_order y) (λ m q a b. default_last (M.start c line) y m q a b);
     members = λ m. (λ at. (machine_listed M laws c line y m).0 (to m at), λ is. from m ((machine_listed M laws c line y m).1 is));

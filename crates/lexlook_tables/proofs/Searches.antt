@@ -40,12 +40,12 @@ among_at [] i lt = absurd (omega (arith, lt))
 among_at (x ∷ xs) zero lt = inl refl
 among_at (x ∷ xs) (suc i) lt = inr (among_at xs i (omega (arith, lt)))
 
-get_left : (xs ys : List ℕ) (i : ℕ) → i < length xs → get_or (xs ++ ys) i 0 ≡ get_or xs i 0
+pub get_left : (xs ys : List ℕ) (i : ℕ) → i < length xs → get_or (xs ++ ys) i 0 ≡ get_or xs i 0
 get_left [] ys i lt = absurd (omega (arith, lt))
 get_left (x ∷ xs) ys zero lt = refl
 get_left (x ∷ xs) ys (suc i) lt = get_left xs ys i (omega (arith, lt))
 
-get_last : (xs : List ℕ) (x i : ℕ) → i ≡ length xs → get_or (xs ++ x ∷ []) i 0 ≡ x
+pub get_last : (xs : List ℕ) (x i : ℕ) → i ≡ length xs → get_or (xs ++ x ∷ []) i 0 ≡ x
 get_last [] x zero e = refl
 get_last [] x (suc i) e = absurd (omega (arith, e))
 get_last (z ∷ xs) x zero e = absurd (omega (arith, e))
@@ -81,7 +81,7 @@ any_default [] i d e lt = absurd (omega (arith, lt))
 any_default (x ∷ xs) zero d e lt = refl
 any_default (x ∷ xs) (suc i) d e lt = any_default xs i d e (omega (arith, lt))
 
-marked_then : (marks : List Bool) (s t : ℕ) → flag (set marks s true) t ≡ true → (flag marks t ≡ true) ⊎ (t ≡ s)
+pub marked_then : (marks : List Bool) (s t : ℕ) → flag (set marks s true) t ≡ true → (flag marks t ≡ true) ⊎ (t ≡ s)
 marked_then marks s t e = elim (cases_lt t s) [
   | inl less ↦ inl (sym (get_or-set_other marks s t true false (λ f. omega (arith, less, f))) ∙ e)
   | inr more ↦ elim (cases_lt s t) [

@@ -9,6 +9,7 @@ use Rattle.lex_semantics.specs.Candidates.{Candidates}
 use Rattle.lex_semantics.specs.Acting.{Ending, Acting}
 use Rattle.lex_semantics.specs.Acting.{perform}
 use Rattle.lex_semantics.specs.Run.{Place, State, Turn, NextFrom, Turns, next_place, next_start}
+use Rattle.lex_semantics.proofs.Once.{one_state}
 use Rattle.lexlook_tables.proofs.Bytes.{byte_at_past}
 
 module _ (R : Rules) (x y : List ℕ) (k : ℕ) (size : length x ≡ suc k) (newline : byte_at x k ≡ 10) where
@@ -73,3 +74,10 @@ module _ (R : Rules) (x y : List ℕ) (k : ℕ) (size : length x ≡ suc k) (new
   turns_behind v first before reached is (suc m) t h =
       let more : suc m + before ≡ suc (m + before) = omega arith in
       subst (λ i. Turns R (x ++ y) i (behind v t)) (sym more) (behind v h.0, turns_behind v first before reached is m h.0 h.1, next_behind v h.0 t h.0.ended h.2)
+
+  -- m turns more, from where the first turn of the second piece leads
+  pub turns_after : (v : List ℕ) (first : State) (before : ℕ) → Turns R (x ++ y) before (behind v first) → Turns R y 1 first → (m : ℕ) (t : State) → Turns R y (suc m) t → Turns R (x ++ y) (m + before) (behind v t)
+  turns_after v first before reached one zero t h = subst (λ i. Turns R (x ++ y) i (behind v t)) (sym (zero-add before)) (subst (λ z. Turns R (x ++ y) before (behind v z)) (one_state R y 1 first t one h) reached)
+  turns_after v first before reached one (suc m) t h =
+      let more : suc m + before ≡ suc (m + before) = omega arith in
+      subst (λ i. Turns R (x ++ y) i (behind v t)) (sym more) (behind v h.0, turns_after v first before reached one m h.0 h.1, next_behind v h.0 t h.0.ended h.2)

@@ -1,15 +1,16 @@
 -- What stands against cuts first: at a newline, in a condition, and of a machine.
 use Rattle.std.proofs.Common.{◌≡◌, ℕ, zero, suc, ◌≤◌, ◌<◌, ◌⊎◌, Bool, true, false, List, [], ◌∷◌, ◌++◌, length, take, inl, inr, Option, None, Some, refl, sym, ◌∙◌, ap, subst, get_or, arith}
 use Rattle.std.specs.Prelude.{cond}
+use Rattle.std.proofs.lemmas.Option.{slice_get_within}
 use mathlib.Core.Logic.{∥∥₁_elim}
 use Rattle.lex_semantics.specs.Text.{IsText, Among, Ascending}
 use Rattle.lex_semantics.specs.Machine.{Machine, walk, state_after}
 use Rattle.lex_semantics.specs.MachineLaws.{MachineLaws}
 use Rattle.lex_semantics.proofs.MachineLaws.{walk-append}
 use Rattle.lexauto_reports.specs.BackWords.{Smaller}
-use Rattle.lexlook_tables.specs.Lines.{may_keep_last, is_steady, leaves_line, after_line, LinesEnd, TakesLine}
+use Rattle.lexlook_tables.specs.Lines.{may_keep_last, is_steady, leaves_line, after_line, DiscardsLine, EndsAt, LinesEnd, TakesLine}
 use Rattle.lexlook_tables.specs.Reaching.{IsReached}
-use Rattle.lexlook_tables.specs.Obstacles.{FirstOf, Along, UnsteadyRule, RuleBeyond, StrayingRule, HindersAt, HindersIn, Hinders}
+use Rattle.lexlook_tables.specs.Obstacles.{FirstOf, Along, UnsteadyRule, RuleBeyond, CrossingRule, StrayingRule, HindersAt, HindersIn, Hinders}
 use Rattle.lexlook_tables.specs.declared.lines.cutting.Obstacle.{Obstacle}
 use Rattle.lexlook_tables.specs.declared.lines.cutting.Obstacle.TheVariants.{Unsteady, Crosses, Strays, Copies, Writes}
 use Rattle.lexlook_tables.proofs.Firsts.{AfterTexts, texts}
@@ -50,17 +51,25 @@ straying_some M c s i asc k lt is keeps not before = (i ∷ [], (subst (Among (M
 pub straying_none : (M : Machine) (c s : ℕ) → ((j : ℕ) → Among (M.accepts s) j → may_keep_last (M.cut j) ≡ true → leaves_line c (M.statements j) ≡ true) → FirstOf (StrayingRule M c s) None
 straying_none M c s keeps j l g = differ (sym g.2 ∙ keeps j g.0 g.1)
 
--- what does not lead to a rule goes on no more, and the other way round
-stops : (M : Machine) → MachineLaws M → (s : ℕ) → FirstOf (RuleBeyond M s) None → (b : Bool) → M.goes_on s ≡ b → b ≡ false
-stops M laws s none false e = refl
-stops M laws s none true e = absurd (∥∥₁_elim ((laws.goes_on s).0 e) (λ x y. absurd x) (λ h. none h.3 (length h.0 ∷ h.0 ++ h.3 ∷ []) (h.0, h.1, h.2, h.4, refl)))
+-- what goes on leads to a rule, and the other way round
+pub some_beyond : (M : Machine) → MachineLaws M → (s : ℕ) → M.goes_on s ≡ true → FirstOf (RuleBeyond M s) None → ⊥
+some_beyond M laws s goes none = ∥∥₁_elim ((laws.goes_on s).0 goes) (λ x y. absurd x) (λ h. none h.3 (length h.0 ∷ h.0 ++ h.3 ∷ []) (h.0, h.1, h.2, h.4, refl))
 
 pub none_beyond : (M : Machine) → MachineLaws M → (s : ℕ) → M.goes_on s ≡ false → FirstOf (RuleBeyond M s) None
 none_beyond M laws s ends i k g = differ (sym ends ∙ (laws.goes_on s).1 ∣ (g.0, g.1, g.2, i, g.3) ∣₁)
 
+-- a rule beyond the state after a newline, where not each match is discarded
+pub crossing : (M : Machine) (c s : ℕ) → (DiscardsLine M c s → ⊥) → (o : Option ℕ) → FirstOf (RuleBeyond M s) o → FirstOf (CrossingRule M c s) o
+crossing M c s not None h = λ i k g. h i k g.1
+crossing M c s not (Some i) h = (h.0, (not, h.1), λ j k g less. h.2 j k g.1 less)
+
+pub none_crosses : (M : Machine) → MachineLaws M → (c s : ℕ) → EndsAt M c s → FirstOf (CrossingRule M c s) None
+none_crosses M laws c s (inl stops) i k g = none_beyond M laws s stops i k g.1
+none_crosses M laws c s (inr discards) i k g = g.0 discards
+
 -- at a newline after the state s
 module _ (M : Machine) (c s : ℕ) where
-  pub crosses : (i : ℕ) → FirstOf (RuleBeyond M (M.next s 10)) (Some i) → FirstOf (HindersAt M c s) (Some (Crosses c i))
+  pub crosses : (i : ℕ) → FirstOf (CrossingRule M c (M.next s 10)) (Some i) → FirstOf (HindersAt M c s) (Some (Crosses c i))
   crosses i h = (0 ∷ h.0, (refl, h.0, h.1, refl), no)
     where
       no : (y : Obstacle) (l : List ℕ) → HindersAt M c s y l → Smaller l (0 ∷ h.0) → ⊥
@@ -70,7 +79,7 @@ module _ (M : Machine) (c s : ℕ) where
       no (Copies d) l g less = g
       no Writes l g less = g
 
-  pub strays : (i : ℕ) → FirstOf (RuleBeyond M (M.next s 10)) None → FirstOf (StrayingRule M c (M.next s 10)) (Some i) → FirstOf (HindersAt M c s) (Some (Strays c i))
+  pub strays : (i : ℕ) → FirstOf (CrossingRule M c (M.next s 10)) None → FirstOf (StrayingRule M c (M.next s 10)) (Some i) → FirstOf (HindersAt M c s) (Some (Strays c i))
   strays i none h = (1 ∷ h.0, (refl, h.0, h.1, refl), no)
     where
       no : (y : Obstacle) (l : List ℕ) → HindersAt M c s y l → Smaller l (1 ∷ h.0) → ⊥
@@ -80,7 +89,7 @@ module _ (M : Machine) (c s : ℕ) where
       no (Copies d) l g less = g
       no Writes l g less = g
 
-  pub line_ends : FirstOf (RuleBeyond M (M.next s 10)) None → FirstOf (StrayingRule M c (M.next s 10)) None → FirstOf (HindersAt M c s) None
+  pub line_ends : FirstOf (CrossingRule M c (M.next s 10)) None → FirstOf (StrayingRule M c (M.next s 10)) None → FirstOf (HindersAt M c s) None
   line_ends none keeps (Crosses d j) l g = none j g.1 g.2
   line_ends none keeps (Strays d j) l g = keeps j g.1 g.2
   line_ends none keeps (Unsteady j) l g = g
@@ -122,6 +131,17 @@ module _ (M : Machine) (c : ℕ) where
   -- what is found at the states that texts lead to stands after these texts
   pub looked : (n : ℕ) (found : List ℕ) (a b : ℕ) → a ≡ M.start c false → b ≡ M.start c true → IsReached M n (a ∷ b ∷ []) found → (o : Option Obstacle) → FirstOf (Along found (HindersAt M c)) o → FirstOf (AfterTexts M from (HindersAt M c)) o
   looked n found a b is_a is_b r o h = texts M n from found (subst (λ z. IsReached M n (z ∷ M.start c true ∷ []) found) is_a (subst (λ z. IsReached M n (a ∷ z ∷ []) found) is_b r)) (HindersAt M c) o h
+
+  -- each text leads to a state that was found
+  pub found_all : (n : ℕ) (found : List ℕ) (a b : ℕ) → a ≡ M.start c false → b ≡ M.start c true → IsReached M n (a ∷ b ∷ []) found → (line : Bool) (w : List ℕ) → IsText w → Among found (state_after M c line w)
+  found_all n found a b is_a is_b r line w text = by line
+    where
+      at : (j : ℕ) → j < 2 → Among found (walk M (get_or (a ∷ b ∷ []) j 0) w)
+      at j lt = (let f = r.all j w lt text in subst (Among found) f.3 (among_at found f.0 (let inside = slice_get_within r.keys f.0 f.1 f.2 in omega (arith, inside, r.order.sized))))
+
+      by : (line : Bool) → Among found (state_after M c line w)
+      by false = subst (λ s. Among found (walk M s w)) is_a (at 0 (omega arith))
+      by true = subst (λ s. Among found (walk M s w)) is_b (at 1 (omega arith))
 
   pub newline_first : (o : Obstacle) → FirstOf (AfterTexts M from (HindersAt M c)) (Some o) → FirstOf (HindersIn M c) (Some o)
   newline_first o h = (0 ∷ k, hinders_in o line.0 w h.1.3 l holds, no)
@@ -165,15 +185,11 @@ module _ (M : Machine) (c : ℕ) where
       pub none_in : FirstOf (HindersIn M c) None
       none_in y m g = elim (in_parts y m g) [ inl e ↦ e.2 (takes e.1 e.0) | inr e ↦ none y e.0 e.1 ]
 
-      pub lines_end : MachineLaws M → LinesEnd M c
-      lines_end laws = record { stops = stopped; ends = ended; takes = takes }
+      pub lines_end : ((line : Bool) (w : List ℕ) → IsText w → EndsAt M c (M.next (state_after M c line w) 10)) → LinesEnd M c
+      lines_end ends_at = record { stops = λ line w text. subst (EndsAt M c) (sym (newline line w)) (ends_at line w text); ends = ended; takes = takes }
         where
           newline : (line : Bool) (w : List ℕ) → after_line M c line w ≡ M.next (state_after M c line w) 10
           newline line w = walk-append M (M.start c line) w (10 ∷ [])
-
-          stopped : (line : Bool) (w : List ℕ) → IsText w → M.goes_on (after_line M c line w) ≡ false
-          stopped line w text = ap M.goes_on (newline line w) ∙ stops M laws (M.next (state_after M c line w) 10)
-              (λ i k g. none (Crosses c i) (length w ∷ cond line 1 0 ∷ w ++ 0 ∷ k) (to_texts line w text (Crosses c i) (0 ∷ k) (refl, k, g, refl))) (M.goes_on (M.next (state_after M c line w) 10)) refl
 
           ended : (line : Bool) (w : List ℕ) → IsText w → (i : ℕ) → Among (M.accepts (after_line M c line w)) i → may_keep_last (M.cut i) ≡ true → leaves_line c (M.statements i) ≡ true
           ended line w text i at keeps = by (leaves_line c (M.statements i)) refl

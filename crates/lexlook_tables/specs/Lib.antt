@@ -6,3 +6,5 @@ pub mod Comparing
 pub mod Lines
 pub mod Reaching
 pub mod Obstacles
+pub mod Discarding
+pub mod NewlineExamples

@@ -1,10 +1,10 @@
 -- When an input may be cut after any newline, and its pieces scanned apart. (This project's.)
-use Rattle.std.specs.Prelude.{◌≡◌, ℕ, ◌≤◌, ◌<◌, Bool, true, false, not, ◌&&◌, ◌||◌, nat_eq, List, [], ◌∷◌, ◌++◌}
+use Rattle.std.specs.Prelude.{◌≡◌, ℕ, ◌≤◌, ◌<◌, Bool, true, false, not, ◌&&◌, ◌||◌, nat_eq, List, [], ◌∷◌, ◌++◌, ◌⊎◌}
 use Rattle.std.specs.List.{list_any}
 use Rattle.lex_semantics.specs.Text.{IsText, Among}
 use Rattle.lex_semantics.specs.Spec.{Cut, Whole, Trail, Statement, Begin, More, End, Push, Pop, has_reject}
 use Rattle.lex_semantics.specs.Rules.{Rules}
-use Rattle.lex_semantics.specs.Machine.{Machine, state_after}
+use Rattle.lex_semantics.specs.Machine.{Machine, walk, state_after}
 use Rattle.lex_semantics.specs.Acting.{Ending}
 use Rattle.lex_semantics.specs.Run.{Run}
 
@@ -67,9 +67,36 @@ pub record TakesLine (M : Machine) (c : ℕ) (line : Bool) : Type 0 where
   pub whole : M.cut rule ≡ Whole
   pub stays : has_reject (M.statements rule) ≡ false
 
--- In a condition no match goes on after a newline, and where a rule takes one the scan is in INITIAL then.
+-- each match of the rule is discarded, with all of its text (flex, Actions: an empty action)
+abbrev pub Discards : Machine → ℕ → Type 0
+Discards M i = (M.cut i ≡ Whole) × (M.statements i ≡ [])
+
+-- so is each match of the rules that are accepted in this state or further on
+abbrev pub AllDiscard : Machine → ℕ → Type 0
+AllDiscard M s = (u : List ℕ) (i : ℕ) → IsText u → Among (M.accepts (walk M s u)) i → Discards M i
+
+-- Where a match goes on from this state by this byte, it goes on as one that starts at a line in INITIAL.
+abbrev pub StartsAgainBy : Machine → ℕ → ℕ → Type 0
+StartsAgainBy M s b =
+    (u : List ℕ) (i : ℕ) → IsText u → Among (M.accepts (walk M s (b ∷ u))) i
+    → M.next s b ≡ M.next (M.start 0 true) b
+
+-- A match is taken in the state after a newline in INITIAL. It is discarded, and so is each one that goes on there:
+-- what it takes then a match takes that starts there.
+pub record DiscardsLine (M : Machine) (c s : ℕ) : Type 0 where
+  pub initial : c ≡ 0
+  pub taken : (i : ℕ) × Among (M.accepts s) i
+  pub discards : AllDiscard M s
+  pub again : (b : ℕ) → b < 256 → StartsAgainBy M s b
+
+-- no match goes on from the state after a newline, or each one there is discarded
+abbrev pub EndsAt : Machine → ℕ → ℕ → Type 0
+EndsAt M c s = (M.goes_on s ≡ false) ⊎ DiscardsLine M c s
+
+-- In a condition no match goes on after a newline, but where it is discarded. And where a rule takes a newline the scan
+-- is in INITIAL then.
 pub record LinesEnd (M : Machine) (c : ℕ) : Type 0 where
-  pub stops : (line : Bool) (w : List ℕ) → IsText w → M.goes_on (after_line M c line w) ≡ false
+  pub stops : (line : Bool) (w : List ℕ) → IsText w → EndsAt M c (after_line M c line w)
   pub ends : (line : Bool) (w : List ℕ) → IsText w → EndsLineAfter M c line w
   pub takes : (line : Bool) → 1 ≤ c → TakesLine M c line
 

@@ -3,7 +3,7 @@ use Rattle.std.specs.Prelude.{◌≡◌, ℕ, ◌≤◌, ◌<◌, Bool, true, fa
 use Rattle.lex_semantics.specs.Text.{IsText, Among}
 use Rattle.lex_semantics.specs.Machine.{Machine, walk, state_after}
 use Rattle.lexauto_reports.specs.BackWords.{Smaller}
-use Rattle.lexlook_tables.specs.Lines.{may_keep_last, is_steady, leaves_line, TakesLine}
+use Rattle.lexlook_tables.specs.Lines.{may_keep_last, is_steady, leaves_line, TakesLine, DiscardsLine}
 use Rattle.lexlook_tables.specs.declared.lines.cutting.Obstacle.{Obstacle}
 use Rattle.lexlook_tables.specs.declared.lines.cutting.Obstacle.TheVariants.{Unsteady, Crosses, Strays, Copies, Writes}
 
@@ -24,14 +24,18 @@ abbrev pub RuleBeyond : Machine → ℕ → ℕ → List ℕ → Type 0
 RuleBeyond M s i k =
     (u : List ℕ) × IsText u × (1 ≤ length u) × Among (M.accepts (walk M s u)) i × (k ≡ length u ∷ u ++ i ∷ [])
 
+-- a rule that is accepted beyond the state after a newline, where not each match is discarded that goes on there
+abbrev pub CrossingRule : Machine → ℕ → ℕ → ℕ → List ℕ → Type 0
+CrossingRule M c s i k = (DiscardsLine M c s → ⊥) × RuleBeyond M s i k
+
 -- a rule that is accepted after a newline, and does not leave the scan in INITIAL: in the order of the rules
 abbrev pub StrayingRule : Machine → ℕ → ℕ → ℕ → List ℕ → Type 0
 StrayingRule M c s i k =
     Among (M.accepts s) i × (may_keep_last (M.cut i) ≡ true) × (leaves_line c (M.statements i) ≡ false) × (k ≡ i ∷ [])
 
--- at the newline after a text that leads to the state s: a match that goes on comes first
+-- at the newline after a text that leads to the state s: a match that goes on and is not discarded comes first
 abbrev pub HindersAt : Machine → ℕ → ℕ → Obstacle → List ℕ → Type 0
-HindersAt M c s (Crosses d i) k = (d ≡ c) × (l : List ℕ) × RuleBeyond M (M.next s 10) i l × (k ≡ 0 ∷ l)
+HindersAt M c s (Crosses d i) k = (d ≡ c) × (l : List ℕ) × CrossingRule M c (M.next s 10) i l × (k ≡ 0 ∷ l)
 HindersAt M c s (Strays d i) k = (d ≡ c) × (l : List ℕ) × StrayingRule M c (M.next s 10) i l × (k ≡ 1 ∷ l)
 HindersAt M c s other k = ⊥
 

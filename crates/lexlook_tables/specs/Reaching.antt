@@ -62,3 +62,14 @@ abbrev pub unmarked : List Bool → ℕ
 unmarked [] = 0
 unmarked (true ∷ marks) = unmarked marks
 unmarked (false ∷ marks) = suc (unmarked marks)
+
+-- From a state each byte below b was followed: the states that these lead to were added, if they were new ones.
+pub record Followed (M : Machine) (s b : ℕ) (found : List ℕ) (marks : List Bool) (found' : List ℕ)
+    (marks' : List Bool) : Type 0 where
+  pub more : List ℕ
+  pub behind : found' ≡ found ++ more
+  pub led : (t : ℕ) → Among more t → (c : ℕ) × (c < b) × (t ≡ M.next s c)
+  pub all : (c : ℕ) → c < b → flag marks' (M.next s c) ≡ true
+  pub kept : (t : ℕ) → flag marks t ≡ true → flag marks' t ≡ true
+  pub marked : (t : ℕ) → flag marks' t ≡ true → (flag marks t ≡ true) ⊎ Among more t
+  pub size : length marks' ≡ length marks

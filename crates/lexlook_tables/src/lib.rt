@@ -5,8 +5,9 @@
 //!   compares what two rules do, `pairs` searches over pairs of states, one of each machine, `differing` goes back from a
 //!   pair to its text, and `tables` compares end actions first, and then matches. `examples` has worked examples.
 //! - `lines`: what stands against cuts. `actions` looks at the statements of a rule, `reaching` finds the states that
-//!   texts lead to, `newlines` looks at what a newline leads to, `cutting` does so for each condition, and `tables` calls it
-//!   for a table.
+//!   texts lead to, `discarding` looks whether all is discarded that is matched after a newline, `newlines` looks at what a
+//!   newline leads to, `cutting` does so for each condition, and `tables` calls it for a table. `examples` has worked
+//!   examples.
 //!
 //! It promises what is told, that no text before the one that is shown shows it, and that no obstacle stands before the one
 //! that is shown. And it promises that pieces that may be scanned apart write together what the whole input does. A faster
@@ -23,7 +24,8 @@
 //! - **The pairing of conditions is a list of numbers, and the empty list pairs each number with itself.** So one search
 //!   serves names and numbers.
 //! - **A cut asks that a newline leaves the scan as it was at first**: in INITIAL, with an empty stack and no text kept. It
-//!   would be enough that two scans agree from there on, but this can be said of a rule.
+//!   would be enough that two scans agree from there on, but this can be said of a rule. A match may go on after the newline
+//!   only where nothing is done with it, and with what is matched further on (docs/DECISIONS.md).
 //! - **Each condition counts, and each rule that a text of it is accepted by**, whether or not a scan comes there. The stack
 //!   is not looked into: a rule that pushes and one that pops could match within each line.
 #![tactic(auto)]
@@ -31,7 +33,7 @@
 mod lines;
 mod same;
 
-pub use lines::{MachineSizes, Obstacle, find_obstacle, find_obstacle_in};
+pub use lines::{MachineSizes, Obstacle, examples_of_newlines, find_obstacle, find_obstacle_in};
 pub use same::{
     Comparison, Difference, PairSizes, compare, examples_of_same, number_in, rules_after,
     tell_apart,

@@ -2,10 +2,11 @@
 ghost use Rattle.std.specs.Prelude.{◌≡◌, ℕ, ◌<◌, true, false, [], None, IfOk};
 ghost use Rattle.lex_semantics.specs.Text.{Among};
 ghost use Rattle.lex_semantics.specs.Machine.{rules_of_machine};
-ghost use Rattle.lexlook_tables.specs.Lines.{LinesEnd, ScansApart};
+ghost use Rattle.lexlook_tables.specs.Lines.{EndsAt, LinesEnd, ScansApart};
 ghost use Rattle.lexlook_tables.specs.Obstacles.{FirstOf, Along, UnsteadyRule, HindersAt, HindersIn, Hinders};
 
 use crate::lines::actions::is_steady;
+use crate::lines::discarding::Known;
 use crate::lines::newlines::{copies_line, obstacle_at};
 use crate::lines::reaching::reached;
 use lex_machine::Machine;
@@ -24,7 +25,7 @@ pub struct MachineSizes {
 pub enum Obstacle {
     /// The rule ends the scan or uses the stack of conditions; or it sets a condition and has REJECT.
     Unsteady { rule: u32 },
-    /// In this condition a match of the rule may go on after a newline.
+    /// In this condition a match of the rule may go on after a newline, and not each one there is discarded.
     Crosses { condition: u8, rule: u32 },
     /// The rule may take a newline in this condition, and not leave the scan in INITIAL, or it keeps the text by
     /// yymore.
@@ -60,10 +61,15 @@ fn obstacle_among<M: Machine>(
 ) -> Result<Option<Obstacle>, AllocError>
     requires states { states ≡ M.states machine.now }
     requires found { (s : ℕ) → Among found.now s → s < M.states machine.now }
-    ensures { IfOk result (FirstOf (Along found.now (HindersAt (M.machine machine.now) condition))) }
+    ensures first { IfOk result (FirstOf (Along found.now (HindersAt (M.machine machine.now) condition))) }
+    ensures ends { IfOk result (λ o. o ≡ None → (s : ℕ) → Among found.now s
+        → EndsAt (M.machine machine.now) condition ((M.machine machine.now).next s 10)) }
 {
+    let mut known = Known::new(alloc, states)?;
     for state in found {
-        if let Some(obstacle) = obstacle_at(alloc, machine, states, condition, *state)? {
+        if let Some(obstacle) = obstacle_at(
+            alloc, machine, states, condition, *state, &mut known,
+        )? {
             return Ok(Some(obstacle));
         }
     }
@@ -107,8 +113,8 @@ fn writes_at_end<M: Machine>(machine: &M) -> bool
 /// What stands first against a cut of an input after any of its newlines. Where nothing does, the pieces may be scanned
 /// apart, by one machine or by several at a time, and what they write put together. Rules that may not stand there
 /// come first, and then the conditions. In each of these shorter texts before a newline come first. Of one length
-/// those that are not at the start of a line come first, then byte order counts. It takes five bytes of memory for
-/// each state.
+/// those that are not at the start of a line come first, then byte order counts. It takes up to fourteen bytes of memory
+/// for each state.
 pub fn find_obstacle<M: Machine>(
     alloc: Global,
     machine: &M,

@@ -1,13 +1,15 @@
 //! What a newline leads to.
-ghost use Rattle.std.specs.Prelude.{◌≡◌, ℕ, ◌<◌, ◌≤◌, Bool, true, false, slice_get, IfOk};
+ghost use Rattle.std.specs.Prelude.{◌≡◌, ℕ, ◌<◌, ◌≤◌, Bool, true, false, None, slice_get, IfOk};
 ghost use Rattle.lex_semantics.specs.Text.{Among};
 ghost use Rattle.lex_semantics.specs.Spec.{Whole};
 ghost use Rattle.lex_machine.specs.Views.{cut_of};
-ghost use Rattle.lexlook_tables.specs.Lines.{TakesLine};
-ghost use Rattle.lexlook_tables.specs.Obstacles.{FirstOf, Along, RuleAfter, RuleBeyond, StrayingRule, HindersAt};
+ghost use Rattle.lexlook_tables.specs.Lines.{TakesLine, EndsAt};
+ghost use Rattle.lexlook_tables.specs.Obstacles.{FirstOf, Along, RuleAfter, RuleBeyond, CrossingRule, StrayingRule, HindersAt};
+ghost use Rattle.lexlook_tables.specs.Discarding.{IsKnown};
 
 use crate::lines::actions::{ends_line, may_keep_last};
 use crate::lines::cutting::Obstacle;
+use crate::lines::discarding::{Known, discards_line};
 use crate::lines::reaching::reached;
 use lex_machine::{Cut, Machine, has_reject};
 use std::alloc::{AllocError, Global};
@@ -61,6 +63,33 @@ fn rule_beyond<M: Machine>(
     let starts = [state];
     let found = reached(alloc, machine, states, &starts)?;
     Ok(rule_after_some(machine, &found))
+}
+
+/// The rule by which a match goes on from the state after a newline, where not each one is discarded. It is the one of
+/// `rule_beyond`.
+fn crossing_rule<M: Machine>(
+    alloc: Global,
+    machine: &M,
+    states: u32,
+    condition: u8,
+    state: u32,
+    known: &mut Known,
+) -> Result<Option<u32>, AllocError>
+    requires states { states ≡ M.states machine.now }
+    requires state { state < M.states machine.now }
+    requires known { IsKnown (M.machine machine.now) (M.states machine.now) known.old }
+    ensures rule { IfOk result (FirstOf (CrossingRule (M.machine machine.now) condition state)) }
+    ensures ends { IfOk result (λ rule. rule ≡ None → EndsAt (M.machine machine.now) condition state) }
+    ensures known { IfOk result (λ rule. rule ≡ None
+        → IsKnown (M.machine machine.now) (M.states machine.now) known.new) }
+{
+    if !machine.goes_on(state) {
+        return Ok(None);
+    }
+    if discards_line(machine, condition, state, known)? {
+        return Ok(None);
+    }
+    rule_beyond(alloc, machine, states, state)
 }
 
 /// The first rule that the state accepts after a newline and that does not leave the scan in INITIAL, if there is one.
@@ -119,16 +148,20 @@ pub(crate) fn obstacle_at<M: Machine>(
     states: u32,
     condition: u8,
     state: u32,
+    known: &mut Known,
 ) -> Result<Option<Obstacle>, AllocError>
     requires states { states ≡ M.states machine.now }
     requires state { state < M.states machine.now }
-    ensures { IfOk result (FirstOf (HindersAt (M.machine machine.now) condition state)) }
+    requires known { IsKnown (M.machine machine.now) (M.states machine.now) known.old }
+    ensures first { IfOk result (FirstOf (HindersAt (M.machine machine.now) condition state)) }
+    ensures ends { IfOk result (λ found. found ≡ None
+        → EndsAt (M.machine machine.now) condition ((M.machine machine.now).next state 10)) }
+    ensures known { IfOk result (λ found. found ≡ None
+        → IsKnown (M.machine machine.now) (M.states machine.now) known.new) }
 {
     let next = machine.step(state, b'\n');
-    if machine.goes_on(next) {
-        if let Some(rule) = rule_beyond(alloc, machine, states, next)? {
-            return Ok(Some(Obstacle::Crosses { condition, rule }));
-        }
+    if let Some(rule) = crossing_rule(alloc, machine, states, condition, next, known)? {
+        return Ok(Some(Obstacle::Crosses { condition, rule }));
     }
     match straying_rule(machine, condition, next) {
         Some(rule) => Ok(Some(Obstacle::Strays { condition, rule })),

@@ -1,13 +1,13 @@
 //! The states of a machine that texts lead to.
-ghost use Rattle.std.specs.Prelude.{◌≡◌, ℕ, ◌+◌, ◌<◌, ◌≤◌, true, length, IfOk, OnOk, List};
+ghost use Rattle.std.specs.Prelude.{◌≡◌, ℕ, ◌+◌, ◌<◌, ◌≤◌, true, length, get_or, IfOk, OnOk, List};
 ghost use Rattle.lex_semantics.specs.Text.{Among, flag};
-ghost use Rattle.lexlook_tables.specs.Reaching.{Found, IsReached, Added, BegunFrom, unmarked};
+ghost use Rattle.lexlook_tables.specs.Reaching.{Found, IsReached, Added, BegunFrom, Followed, unmarked};
 
 use lex_machine::Machine;
 use std::alloc::{AllocError, Global};
 
 /// Adds a state to those found, if it is a new one.
-fn add(found: &mut Vec<u32>, marks: &mut Vec<bool>, state: u32) -> Result<(), AllocError>
+pub(crate) fn add(found: &mut Vec<u32>, marks: &mut Vec<bool>, state: u32) -> Result<(), AllocError>
     requires { state < length marks.old.items }
     ensures { OnOk result (Added found.old.items marks.old.items state found.new.items marks.new.items) }
 {
@@ -30,7 +30,7 @@ fn add_all(found: &mut Vec<u32>, marks: &mut Vec<bool>, states: &[u32]) -> Resul
 }
 
 /// Adds the states to which each byte leads from the one at this place.
-fn widen<M: Machine>(
+pub(crate) fn widen<M: Machine>(
     machine: &M,
     found: &mut Vec<u32>,
     marks: &mut Vec<bool>,
@@ -45,6 +45,8 @@ fn widen<M: Machine>(
     ensures found { OnOk result ((from : List ℕ)
         → Found (M.machine machine.now) (M.states machine.now) from found.old.items marks.old.items place 0
         → Found (M.machine machine.now) (M.states machine.now) from found.new.items marks.new.items place 256) }
+    ensures followed { OnOk result (Followed (M.machine machine.now) (get_or found.old.items place 0) 256
+        found.old.items marks.old.items found.new.items marks.new.items) }
 {
     let state = found[place];
     'bytes: for byte in 0..256u32 {
