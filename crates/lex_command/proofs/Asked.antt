@@ -8,7 +8,7 @@ use Rattle.lex_command.specs.Refusal.{refusal_of}
 use Rattle.lex_command.specs.declared.error.ArgsError.TheVariants.{Usage}
 use Rattle.lex_command.specs.LookLine.{AsksToShow, IsLookOf, about_of, lexlook_app}
 use Rattle.lex_command.specs.declared.look.args.Look.{Look}
-use Rattle.lex_command.specs.declared.look.args.Look.TheVariants.{About as OfItself, Check, Letters, One, Same}
+use Rattle.lex_command.specs.declared.look.args.Look.TheVariants.{About as OfItself, Check, Letters, One, Same, Suite}
 use Rattle.lex_command.specs.declared.look.args.About.{About}
 
 lexlook_is_simple : is_simple lexlook_app ≡ true
@@ -52,6 +52,11 @@ asked_by words a m (Check files strict json patterns) is plain matches fault h =
   ap (λ (b : App). fault_of b words) (sym is) ∙ fault,
   subst (λ (r : Option (Text × List Row)). IsLookOf r (Check files strict json patterns)) (rows_are words a m is matches) h,
 )
+asked_by words a m (Suite file folder patterns) is plain matches fault h = (
+  plain,
+  ap (λ (b : App). fault_of b words) (sym is) ∙ fault,
+  subst (λ (r : Option (Text × List Row)). IsLookOf r (Suite file folder patterns)) (rows_are words a m is matches) h,
+)
 
 -- and what the words ask for is what the matches ask for
 pub asks_by : (words : List Text) (a : App) (m : ArgMatches) (look : Look) → a ≡ lexlook_app → about_of words ≡ None
@@ -65,6 +70,8 @@ asks_by words a m (Letters sets) is plain matches h =
     subst (λ (r : Option (Text × List Row)). IsLookOf r (Letters sets)) (sym (rows_are words a m is matches)) h.2
 asks_by words a m (Check files strict json patterns) is plain matches h =
     subst (λ (r : Option (Text × List Row)). IsLookOf r (Check files strict json patterns)) (sym (rows_are words a m is matches)) h.2
+asks_by words a m (Suite file folder patterns) is plain matches h =
+    subst (λ (r : Option (Text × List Row)). IsLookOf r (Suite file folder patterns)) (sym (rows_are words a m is matches)) h.2
 
 none_fault : (words : List Text) (a : App) (look : Look) → a ≡ lexlook_app → about_of words ≡ None → AsksToShow words look → fault_of a words ≡ []
 none_fault words a (OfItself what) is plain h = absurd (clash (about_of words) what h plain)
@@ -72,6 +79,7 @@ none_fault words a (One what file patterns) is plain h = ap (λ (b : App). fault
 none_fault words a (Same left right patterns) is plain h = ap (λ (b : App). fault_of b words) is ∙ h.1
 none_fault words a (Letters sets) is plain h = ap (λ (b : App). fault_of b words) is ∙ h.1
 none_fault words a (Check files strict json patterns) is plain h = ap (λ (b : App). fault_of b words) is ∙ h.1
+none_fault words a (Suite file folder patterns) is plain h = ap (λ (b : App). fault_of b words) is ∙ h.1
 
 -- words that are refused as no line of the program's ask for nothing
 pub asks_for_none : (words : List Text) (a : App) (e : Error) (look : Look) → a ≡ lexlook_app → about_of words ≡ None → HasKind (fault_of a words) e

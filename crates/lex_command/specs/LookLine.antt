@@ -1,16 +1,16 @@
 -- What the words of the command line of lexlook ask for.
-use Rattle.std.specs.Prelude.{◌≡◌, ◌||◌, if◌then◌else◌, ⊤, true, List, [], ◌∷◌, ◌++◌, Option, Some, None, fold, map, codes, string_bytes}
+use Rattle.std.specs.Prelude.{◌≡◌, ◌||◌, if◌then◌else◌, ⊤, true, List, [], ◌∷◌, ◌++◌, Option, Some, None, fold, map, codes, option_map, string_bytes}
 use Rattle.std.specs.Borrow.{Bor}
 use Rattle.std.specs.Str.{bytes_eq}
 use Rattle.clap.specs.Words.{App, Row, Rule, Text, all_of, fault_of, first_of, new_app, new_rule, subcommand_of, with_rule, with_subcommand}
 use Rattle.clap.specs.Simple.{on_top}
 use Rattle.clap.specs.declared.builder.action.ArgAction.TheVariants.{Count, Set}
-use Rattle.lex_command.specs.CommandLine.{files_of, words_rule}
+use Rattle.lex_command.specs.CommandLine.{files_of, letter_rule, words_rule}
 use Rattle.lex_command.specs.Flags.{flag_rule, has_flag, is_separator, pattern_rules, patterns_of}
 use Rattle.lex_command.specs.declared.look.args.About.{About}
 use Rattle.lex_command.specs.declared.look.args.About.TheVariants.{Help, UnicodeVersion, Version}
 use Rattle.lex_command.specs.declared.look.args.Look.{Look}
-use Rattle.lex_command.specs.declared.look.args.Look.TheVariants.{About as OfItself, Check, Letters, One, Same}
+use Rattle.lex_command.specs.declared.look.args.Look.TheVariants.{About as OfItself, Check, Letters, One, Same, Suite}
 use Rattle.lex_command.specs.declared.look.args.Subcommand.{Subcommand}
 use Rattle.lex_command.specs.declared.look.args.Subcommand.TheVariants.{Count as Counts, Cover, Header, Lines, Overlaps, Picture, Trace, Words}
 
@@ -50,6 +50,10 @@ long_rule word = record (new_rule word) { long = Some word; action = Some Count 
 abbrev pub check_words : List Rule
 check_words = flag_rule (codes "strict") 115 ∷ long_rule (codes "json") ∷ needed_words_rule (codes "file") ∷ []
 
+-- where the inputs of `suite` are put, by `-o` (111), and its file
+abbrev pub suite_words : List Rule
+suite_words = letter_rule (codes "out") 111 ∷ one_file
+
 -- a flag of a subcommand's own, and its file
 abbrev pub flagged_file : Text → List Rule
 flagged_file flag = long_rule flag ∷ one_file
@@ -79,6 +83,7 @@ lexlook_app = fold with_subcommand no_subcommand (
     ∷ (file_app (codes "count") (flagged_file (codes "json"))).top
     ∷ sets_app.top
     ∷ (file_app (codes "check") check_words).top
+    ∷ (file_app (codes "suite") suite_words).top
     ∷ [])
 
 -- ---- what is asked for
@@ -119,7 +124,8 @@ HasOwn (Header rust) met = rust ≡ has_flag (codes "rust") met
 HasOwn (Counts json) met = json ≡ has_flag (codes "json") met
 HasOwn other met = ⊤
 
--- what a subcommand asks for, by its name and what stands behind it: the files, with `-i` and `-X` as they stand there
+-- What a subcommand asks for, by its name and what stands behind it: the files, with `-i` and `-X` as they stand there,
+-- and the folder of `suite` if one does.
 abbrev pub IsLookOf : Option (Text × List Row) → Look → Type 0
 IsLookOf (Some p) (One what file patterns) = (p.0 ≡ name_of what)
     × (Some (string_bytes file) ≡ first_of (codes "file") p.1)
@@ -133,6 +139,10 @@ IsLookOf (Some p) (Letters sets) =
 IsLookOf (Some p) (Check files strict json patterns) = (p.0 ≡ codes "check")
     × (map string_bytes files.items ≡ files_of p.1)
     × (strict ≡ has_flag (codes "strict") p.1) × (json ≡ has_flag (codes "json") p.1) × (patterns ≡ patterns_of p.1)
+IsLookOf (Some p) (Suite file folder patterns) = (p.0 ≡ codes "suite")
+    × (Some (string_bytes file) ≡ first_of (codes "file") p.1)
+    × (option_map string_bytes folder ≡ first_of (codes "out") p.1)
+    × (patterns ≡ patterns_of p.1)
 IsLookOf p look = ⊥
 
 -- The words ask for something of the program itself if one of them does, before any `--`. Else they are a line of the

@@ -10,13 +10,13 @@
 //! A subcommand has its words in lex_command, its call in lexlook_calls or a room of its own, and here its case of `tell`.
 //! What that writes `show` puts on standard output and flushes, and answers the status: 1 for an answer no. A trace and the
 //! definition of sets have functions of their own, since the one reads too and the other has no options. So have counts, and what is told by
-//! `cover`, which reads its input whole.
+//! `cover`, which reads its input whole, and a suite, which may go to the files of a folder.
 //!
 //! - **A line of a failure names the file**, where one is refused or not read. Of two that are compared it is the first if
 //!   that is refused beside itself, since the call tells the failure alone.
 #![tactic(auto)]
 
-ghost use Rattle.std.specs.Prelude.{◌≡◌, ◌≤◌, ◌<◌, ◌-◌, ◌^◌, OnOk};
+ghost use Rattle.std.specs.Prelude.{◌≡◌, ◌≤◌, ◌<◌, ◌-◌, ◌^◌, length, OnOk};
 
 mod failure;
 mod reading;
@@ -36,9 +36,10 @@ use lexlook_calls::{
 };
 use lexlook_check::{Form, SourceFile, tell_check};
 use lexlook_counts::{CountForm, tell_counts, tell_places};
-use lexlook_suites::tell_cover;
+use lexlook_suites::{Suite, make_suite, tell_cover, tell_suite};
 use lexlook_unicode::{DefinitionError, UNICODE, definition_of};
 use std::alloc::{AllocError, Global};
+use std::fs::File;
 use std::io;
 use std::io::ErrorKind;
 use std::process::ExitCode;
@@ -234,6 +235,64 @@ fn show_cover(rt: &HostRuntime, text: &[u8], options: Options) -> Result<ExitCod
     Ok(ExitCode::from(status))
 }
 
+/// Writes the inputs of a suite that were made for a condition, by its number, to a file of a folder.
+fn write_condition(
+    rt: &HostRuntime,
+    suite: &Suite,
+    folder: &str,
+    condition: usize,
+) -> Result<(), Failure>
+    requires { condition < length suite.now.names.items }
+{
+    let lines = suite.lines_in(rt.alloc(), condition)?;
+    let name = match std::str::from_utf8(suite.names[condition].as_slice()) {
+        Ok(name) => name,
+        Err(_) => return Err(Failure::Output),
+    };
+    let path = format!(in rt.alloc(); "{folder}/{name}.txt")?;
+    let file = match File::create(rt, path.as_str()) {
+        Ok(file) => file,
+        Err(_) => return Err(Failure::Output),
+    };
+    let mut sink = ToBytes::new(ByteWriter::new(rt.alloc(), file)?);
+    sink.put(lines.as_slice())?;
+    sink.flush()?;
+    Ok(())
+}
+
+/// Writes the inputs of a suite to a folder, a file for each condition, and to standard output the edges that none of them
+/// goes over.
+fn write_suite(rt: &HostRuntime, suite: &Suite, folder: &str) -> Result<(), Failure> {
+    for condition in 0..suite.names.len() {
+        write_condition(rt, suite, folder, condition)?;
+    }
+    let mut sink = ToWrite::new(io::writer(rt));
+    sink.put(suite.left.as_slice())?;
+    sink.flush()?;
+    Ok(())
+}
+
+/// Writes the suite of a specification to standard output, or into a folder.
+fn show_suite(
+    rt: &HostRuntime,
+    text: &[u8],
+    folder: &Option<String>,
+    options: Options,
+) -> Result<ExitCode, Failure>
+    requires few_positions { options.limits.positions ≤ MAX_POSITIONS }
+    requires few_states { options.limits.states ≤ MAX_STATES }
+{
+    if let Some(folder) = folder {
+        let suite = make_suite(rt.alloc(), text, options)?;
+        write_suite(rt, &suite, folder.as_str())?;
+        return Ok(ExitCode::SUCCESS);
+    }
+    let mut sink = ToBytes::new(ByteWriter::new(rt.alloc(), io::writer(rt))?);
+    tell_suite(rt.alloc(), text, options, &mut sink)?;
+    sink.flush()?;
+    Ok(ExitCode::SUCCESS)
+}
+
 /// Writes the definition of sets of code points to standard output. A word that names no set is usage, and so are sets of
 /// which there is no pattern.
 fn show_letters(rt: &HostRuntime, sets: &[String]) -> Result<ExitCode, Failure> {
@@ -337,6 +396,15 @@ fn run(rt: &HostRuntime) -> Result<ExitCode, LookFailure> {
             let read = read_files(rt, files)?;
             let files = read.as_slice();
             Ok(show_check(rt, files, strict, json, options_of(patterns))?)
+        }
+        Look::Suite {
+            file,
+            folder,
+            patterns,
+        } => {
+            let read = read_spec_file(rt, file)?;
+            let shown = show_suite(rt, read.bytes.as_slice(), &folder, options_of(patterns));
+            shown_of(shown, read.name)
         }
     }
 }

@@ -44,6 +44,16 @@ few S h =
     let one = and_parts a b two.0 in
     (leb-true (length S.conditions) max_conditions one.1, leb-true (length S.rules) max_rules two.1)
 
+pub some_conditions : (S : Spec) → is_sound S ≡ true → 1 ≤ length S.conditions
+some_conditions S h =
+    let a = nat_le 1 (length S.conditions) in
+    let b = nat_le (length S.conditions) max_conditions in
+    let d = nat_le (length S.rules) max_rules in
+    let four = and_parts (a && b && d && sound_conditions S.conditions) (sound_rules (length S.conditions) S.rules) h in
+    let three = and_parts (a && b && d) (sound_conditions S.conditions) four.0 in
+    let two = and_parts (a && b) d three.0 in
+    leb-true 1 (length S.conditions) (and_parts a b two.0).0
+
 pub few_rules : (S : Spec) → is_sound S ≡ true → length S.rules < 2 ^ 32
 few_rules S h = let low = (few S h).1 in omega (arith, low)
 

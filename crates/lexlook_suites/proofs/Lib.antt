@@ -5,3 +5,6 @@ pub mod Over
 pub mod Members
 pub mod Covered
 pub mod Lined
+pub mod Treed
+pub mod Collected
+pub mod Suited

@@ -47,25 +47,25 @@ module _ (p : Parts) (x : List ℕ) (from : ℕ) (t : Token) (ts : List Token) w
     ],
   )
 
--- What is marked, with what the turns that are left go through, is what all turns do.
-pub record Turning (p : Parts) (x : List ℕ) (us : List Token) (m : Marks) (from : ℕ) (left : List Token) : Type 0 where
+-- What is marked, with what the turns that are left go through, is what was marked, with what all turns do.
+pub record Turning (p : Parts) (x : List ℕ) (us : List Token) (old m : Marks) (from : ℕ) (left : List Token) : Type 0 where
   pub size : IsSized (states p) m
-  pub visited : (q : ℕ) → q < states p → ((flag m.states.items q ≡ true) ⊎ TurnComesTo p x from left q) ↔ TurnComesTo p x 0 us q
-  pub taken : (q b : ℕ) → q < states p → b < 256 → ((flag m.bytes.items (256 * q + b) ≡ true) ⊎ TurnGoesBy p x from left q b) ↔ TurnGoesBy p x 0 us q b
+  pub visited : (q : ℕ) → q < states p → ((flag m.states.items q ≡ true) ⊎ TurnComesTo p x from left q) ↔ ((flag old.states.items q ≡ true) ⊎ TurnComesTo p x 0 us q)
+  pub taken : (q b : ℕ) → q < states p → b < 256 → ((flag m.bytes.items (256 * q + b) ≡ true) ⊎ TurnGoesBy p x from left q b) ↔ ((flag old.bytes.items (256 * q + b) ≡ true) ⊎ TurnGoesBy p x 0 us q b)
 
-not_marked : (b : Bool) (Z : Type 0) → b ≡ false → ((b ≡ true) ⊎ Z) ↔ Z
-not_marked b Z e = (λ h. elim h [ inl t ↦ absurd (let f = e in cc) | inr z ↦ z ], λ z. inr z)
+not_marked : (b : Bool) (A Z : Type 0) → b ≡ false → (A ↔ ((b ≡ true) ⊎ Z)) → (A ↔ Z)
+not_marked b A Z e h = (λ a. elim (h.0 a) [ inl t ↦ absurd (let f = e in cc) | inr z ↦ z ], λ z. h.1 (inr z))
 
-module _ (p : Parts) (x : List ℕ) (us : List Token) where
-  pub turning_start : (m : Marks) → AreNone (states p) m → Turning p x us m 0 us
-  turning_start m none = record {
-    size = none.size;
-    visited = λ q low. not_marked _ _ (none.states q);
-    taken = λ q b low small. not_marked _ _ (none.bytes q b);
+module _ (p : Parts) (x : List ℕ) (us : List Token) (old : Marks) where
+  pub turning_start : IsSized (states p) old → Turning p x us old old 0 us
+  turning_start size = record {
+    size = size;
+    visited = λ q low. (λ h. h, λ h. h);
+    taken = λ q b low small. (λ h. h, λ h. h);
   }
 
-  pub turning_on : (m one : Marks) (from : ℕ) (t : Token) (ts : List Token) → Turning p x us m from (t ∷ ts)
-      → Adds (states p) m one (ComesTo p (start p t.condition (at_line_start x from)) (drop from x)) (GoesBy p (start p t.condition (at_line_start x from)) (drop from x)) → Turning p x us one t.end ts
+  pub turning_on : (m one : Marks) (from : ℕ) (t : Token) (ts : List Token) → Turning p x us old m from (t ∷ ts)
+      → Adds (states p) m one (ComesTo p (start p t.condition (at_line_start x from)) (drop from x)) (GoesBy p (start p t.condition (at_line_start x from)) (drop from x)) → Turning p x us old one t.end ts
   turning_on m one from t ts h added = record {
     size = added.size;
     visited = λ q low. moved _ _ _ _ _ _ (added.states q low) (turn_comes p x from t ts q) (h.visited q low);
@@ -78,11 +78,19 @@ module _ (p : Parts) (x : List ℕ) (us : List Token) where
   no_turn_goes : (from q b : ℕ) → TurnGoesBy p x from [] q b → ⊥
   no_turn_goes from q b h = h.2
 
-  pub turned_all : (m : Marks) (from : ℕ) (left : List Token) → left ≡ [] → Turning p x us m from left → AreMarks p x us m
+  pub turned_all : (m : Marks) (from : ℕ) (left : List Token) → left ≡ [] → Turning p x us old m from left → Adds (states p) old m (TurnComesTo p x 0 us) (TurnGoesBy p x 0 us)
   turned_all m from left is h =
-      let g = subst (λ (l : List Token). Turning p x us m from l) is h in
+      let g = subst (λ (l : List Token). Turning p x us old m from l) is h in
       record {
         size = g.size;
-        visited = λ q low. only_left _ _ _ (no_turn_comes from q) (g.visited q low);
-        taken = λ q b low small. only_left _ _ _ (no_turn_goes from q b) (g.taken q b low small);
+        states = λ q low. only_left _ _ _ (no_turn_comes from q) (g.visited q low);
+        bytes = λ q b low small. only_left _ _ _ (no_turn_goes from q b) (g.taken q b low small);
       }
+
+  -- where nothing was marked
+  pub turned_none : (m : Marks) → AreNone (states p) old → Adds (states p) old m (TurnComesTo p x 0 us) (TurnGoesBy p x 0 us) → AreMarks p x us m
+  turned_none m none added = record {
+    size = added.size;
+    visited = λ q low. not_marked _ _ _ (none.states q) (added.states q low);
+    taken = λ q b low small. not_marked _ _ _ (none.bytes q b) (added.bytes q b low small);
+  }

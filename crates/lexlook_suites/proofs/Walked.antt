@@ -59,7 +59,7 @@ comes_last p s q = (
   λ h. ([], [], refl, sym h.0, h.1),
 )
 
-not_empty : (c : ℕ) (front rest : List ℕ) → [] ≡ front ++ c ∷ rest → ⊥
+pub not_empty : (c : ℕ) (front rest : List ℕ) → [] ≡ front ++ c ∷ rest → ⊥
 not_empty c [] rest is = cc
 not_empty c (d ∷ f) rest is = cc
 

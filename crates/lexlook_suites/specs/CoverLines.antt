@@ -3,7 +3,7 @@ use Rattle.std.specs.Prelude.{ℕ, ◌<◌, ◌==◌, if◌then◌else◌, List,
 use Rattle.std.specs.List.{concat, flat_map, range_with_len}
 use Rattle.lex_semantics.specs.Text.{Among}
 use Rattle.lexlook_specs.specs.declared.words.finding.ShownText.{ShownText}
-use Rattle.lexlook_calls.specs.Words.{shown_place}
+use Rattle.lexlook_suites.specs.Shown.{text_and_start}
 use Rattle.lexlook_suites.specs.Shares.{share_of, share_of_all}
 use Rattle.lexlook_suites.specs.declared.covering.Cover.{Cover}
 use Rattle.lexlook_suites.specs.declared.edges.Edge.{Edge}
@@ -46,7 +46,7 @@ shares_lines lines n states edges = concat (
 abbrev pub edge_line : List (List ℕ) → Edge → Option ShownText → List ℕ
 edge_line names e None = []
 edge_line names e (Some s) = concat (
-    codes "not walked: " ∷ decimal e.state ∷ codes " -> " ∷ decimal e.target ∷ shown_place names s ∷ [])
+    codes "not walked: " ∷ decimal e.state ∷ codes " -> " ∷ decimal e.target ∷ text_and_start names s ∷ [])
 
 abbrev pub missed_line : List (List ℕ) → Missed → List ℕ
 missed_line names m = edge_line names m.edge m.text

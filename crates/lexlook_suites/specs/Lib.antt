@@ -1,3 +1,4 @@
+pub mod Shown
 pub mod Walks
 pub mod Marking
 pub mod Edges
@@ -8,3 +9,9 @@ pub mod CoverLines
 pub mod Covers
 pub mod Told
 pub mod CoverExamples
+pub mod Trees
+pub mod Inputs
+pub mod Gathers
+pub mod SuiteLines
+pub mod Suites
+pub mod SuiteExamples

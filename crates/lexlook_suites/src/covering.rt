@@ -13,7 +13,7 @@ use lexauto_dfa::Dfa;
 use std::alloc::{AllocError, Global};
 
 /// So many edges at most are told with a text.
-const LINE_LIMIT: usize = 1_000;
+pub(crate) const LINE_LIMIT: usize = 1_000;
 
 /// What matches go through: all states and edges, and the first of the edges that none goes through.
 #[derive(Drop)]
@@ -27,7 +27,7 @@ pub struct Cover {
 }
 
 /// The first of these edges that are told.
-fn told_of(edges: &[Edge]) -> &[Edge]
+pub(crate) fn told_of(edges: &[Edge]) -> &[Edge]
     ensures { result.now ≡ take line_limit edges.now }
 {
     if edges.len() <= LINE_LIMIT {

@@ -30,7 +30,7 @@ pub struct Edge {
 }
 
 /// The rule that matches at a state, of so many.
-fn rule_at(dfa: &Dfa, rules: u32, state: u32) -> u32
+pub(crate) fn rule_at(dfa: &Dfa, rules: u32, state: u32) -> u32
     requires { state < states_of dfa.now }
     ensures { result ≡ rule_at (lists_of dfa.now) rules state }
 {
@@ -57,7 +57,7 @@ fn leads_before(dfa: &Dfa, state: u32, byte: u32, target: u32) -> bool
 
 /// Whether a match goes to the target by some byte.
 #[tactic(auto, using(crate::proofs::Edged::goes_more))]
-fn is_walked(dfa: &Dfa, marks: &Marks, state: u32, target: u32) -> bool
+pub(crate) fn is_walked(dfa: &Dfa, marks: &Marks, state: u32, target: u32) -> bool
     requires known { state < states_of dfa.now }
     requires size { IsSized (states_of dfa.now) marks.now }
     ensures { result ≡ goes_to (marked_by marks.now state) (next_of dfa.now state) target }

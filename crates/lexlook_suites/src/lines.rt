@@ -1,7 +1,6 @@
 //! The lines that tell what the matches of an input go through.
 ghost use Rattle.std.specs.Prelude.{◌≡◌, ◌<◌, ◌++◌, [], decimal, length, map, slice_index_or, IfOk, IfSome, OnOk};
-ghost use Rattle.lexlook_calls.specs.Lines.{start_words};
-ghost use Rattle.lexlook_calls.specs.Words.{shown_place};
+ghost use Rattle.lexlook_suites.specs.Shown.{text_and_start, line_start_words};
 ghost use Rattle.lexlook_suites.specs.CoverLines.{HasName, missed_line, missed_lines, more_line, rule_shares};
 ghost use Rattle.lexlook_suites.specs.CoverLines.{share_line, share_subject, share_words, shares_lines};
 
@@ -116,7 +115,7 @@ pub(crate) fn add_shares(
 
 /// Appends whether a match is at the start of a line.
 fn add_start(text: &mut Vec<u8>, line_start: bool) -> Result<(), AllocError>
-    ensures { OnOk result (text.new.items ≡ text.old.items ++ start_words line_start) }
+    ensures { OnOk result (text.new.items ≡ text.old.items ++ line_start_words line_start) }
 {
     if line_start {
         return add(text, b" at the start of a line");
@@ -135,7 +134,7 @@ fn name_of<'a>(names: &[&'a [u8]], condition: u8) -> &'a [u8]
 /// Appends a text and where a match of it starts.
 fn add_text(text: &mut Vec<u8>, names: &[&[u8]], shown: &ShownText) -> Result<(), AllocError>
     requires { shown.now.condition < length names.now }
-    ensures { OnOk result (text.new.items ≡ text.old.items ++ shown_place (map (λ n. n.now) names.now) shown.now) }
+    ensures { OnOk result (text.new.items ≡ text.old.items ++ text_and_start (map (λ n. n.now) names.now) shown.now) }
 {
     add(text, b": \"")?;
     add_string(text, shown.text.as_slice())?;

@@ -29,7 +29,7 @@ pub(crate) struct Scanned {
 }
 
 /// The names of conditions.
-fn names_of(alloc: Global, conditions: &[Condition]) -> Result<Vec<&[u8]>, AllocError>
+pub(crate) fn names_of(alloc: Global, conditions: &[Condition]) -> Result<Vec<&[u8]>, AllocError>
     ensures { IfOk result (λ names. map (λ n. n.now) names.items ≡ map (λ c. c.name) (map condition_of conditions.now)) }
 {
     let mut names = Vec::new(alloc);
@@ -40,14 +40,14 @@ fn names_of(alloc: Global, conditions: &[Condition]) -> Result<Vec<&[u8]>, Alloc
 }
 
 /// How many rules there are.
-fn rule_count(spec: &Spec) -> u32
+pub(crate) fn rule_count(spec: &Spec) -> u32
     ensures { result ≡ length (rules_in (spec_of spec.now)) }
 {
     spec.rules().len() as u32
 }
 
 /// How many conditions there are.
-fn condition_count(spec: &Spec) -> u8
+pub(crate) fn condition_count(spec: &Spec) -> u8
     ensures { result ≡ length (conditions_in (spec_of spec.now)) }
 {
     spec.conditions().len() as u8

@@ -3,7 +3,7 @@ ghost use Rattle.std.specs.Prelude.{◌≡◌, ◌<◌, drop, IfOk};
 ghost use Rattle.lex_semantics.specs.Text.{at_line_start};
 ghost use Rattle.lexauto_dfa.specs.Automata.{lists_of, start_of, states_of};
 ghost use Rattle.lexlook_suites.specs.Marking.{Adds, IsSized};
-ghost use Rattle.lexlook_suites.specs.Turns.{AreMarks};
+ghost use Rattle.lexlook_suites.specs.Turns.{AreMarks, TurnComesTo, TurnGoesBy};
 ghost use Rattle.lexlook_suites.specs.Walks.{ComesTo, GoesBy};
 
 use crate::marks::Marks;
@@ -13,7 +13,7 @@ use std::alloc::{AllocError, Global};
 
 /// The state where a match starts in a condition; the dead one where there is no such condition.
 #[tactic(auto, using(crate::proofs::Turned::no_start))]
-fn start_in(dfa: &Dfa, condition: u8, line_start: bool) -> u32
+pub(crate) fn start_in(dfa: &Dfa, condition: u8, line_start: bool) -> u32
     ensures state { result ≡ start_of dfa.now condition line_start }
     ensures known { result < states_of dfa.now }
 {
@@ -58,6 +58,19 @@ impl Marks {
         let start = start_in(dfa, condition, is_line_start(input, at));
         self.walk(dfa, start, rest_of(input, at));
     }
+
+    /// Marks what the turns of these tokens of an input go through.
+    pub(crate) fn turns(&mut self, dfa: &Dfa, input: &[u8], tokens: &[Token])
+        requires { IsSized (states_of dfa.now) self.old }
+        ensures { Adds (states_of dfa.now) self.old self.new (TurnComesTo (lists_of dfa.now) input.now 0 tokens.now)
+            (TurnGoesBy (lists_of dfa.now) input.now 0 tokens.now) }
+    {
+        let mut at = 0usize;
+        for token in tokens {
+            self.turn(dfa, input, at, token.condition);
+            at = token.end;
+        }
+    }
 }
 
 /// What the turns of these tokens of an input go through.
@@ -70,10 +83,6 @@ pub(crate) fn marks_of(
     ensures { IfOk result (AreMarks (lists_of dfa.now) input.now tokens.now) }
 {
     let mut marks = Marks::none(alloc, dfa)?;
-    let mut at = 0usize;
-    for token in tokens {
-        marks.turn(dfa, input, at, token.condition);
-        at = token.end;
-    }
+    marks.turns(dfa, input, tokens);
     Ok(marks)
 }

@@ -159,7 +159,7 @@ fn with_job_flags<'a>(alloc: Global, command: Command<'a>) -> Result<Command<'a>
 }
 
 /// A word that has a value: by its letter, or else by its long name.
-fn value_word<'a>(alloc: Global, name: &'a str, letter: Option<char>) -> Arg<'a>
+pub(crate) fn value_word<'a>(alloc: Global, name: &'a str, letter: Option<char>) -> Arg<'a>
     ensures rule { rule_of result ≡ value_rule name.entry.now letter }
     ensures global { result.global ≡ false }
 {

@@ -1,15 +1,15 @@
 //! What a command line of lexlook asks for.
 ghost use Rattle.std.specs.Prelude.{◌≡◌, ◌≢◌, IfErr, IfOk, IfSome, None, Some, codes, false, fold, map};
-ghost use Rattle.std.specs.Prelude.{string_bytes};
+ghost use Rattle.std.specs.Prelude.{option_map, string_bytes};
 ghost use Rattle.clap.specs.Words.{app_of, found_of, rows_of, rule_of, subcommand_rows_of, with_rule, with_subcommand};
 ghost use Rattle.lex_command.specs.LookLine.{AsksToShow, HasOwn, IsLookOf, about_of, file_app, first_about, lexlook_app, name_of};
 ghost use Rattle.lex_command.specs.CommandLine.{words_rule};
-ghost use Rattle.lex_command.specs.LookLine.{check_words, long_rule, needed_rule, needed_words_rule, own_rules, sets_app};
+ghost use Rattle.lex_command.specs.LookLine.{check_words, long_rule, needed_rule, needed_words_rule, own_rules, sets_app, suite_words};
 ghost use Rattle.lex_command.specs.LookLine.{told_version};
 
 use crate::error::ArgsError;
 use crate::flags::{PatternFlags, copied, has, patterns_of, value_of, values_of, with_flags};
-use crate::job::files_of;
+use crate::job::{files_of, value_word};
 use clap::{Arg, ArgAction, ArgMatches, Command};
 use std::alloc::{AllocError, Global};
 
@@ -87,11 +87,19 @@ pub enum Look {
         /// How patterns are read.
         patterns: PatternFlags,
     },
+    /// Inputs that go over the edges of a specification's automaton, with what their scans do.
+    Suite {
+        file: String,
+        /// Where they are put, a file for each start condition: `-o`. Else they go to standard output.
+        folder: Option<String>,
+        /// How patterns are read.
+        patterns: PatternFlags,
+    },
 }
 
 /// Reads the words after the program's name: `picture FILE`, `same FILE FILE`, `lines FILE`, `words FILE`, `overlaps FILE`,
 /// `trace FILE`, `cover FILE`, `header FILE`, `count FILE` or `check FILE..`, with `-i` or `-X` or without, and `check` with `-s` and `--json` too,
-/// `trace` with `--offsets`, `header` with `--rust`, `count` with `--json`, `utf8 SET..`, or any words with `--help`, `-h` or `--version`. Behind `utf8` the version is that of Unicode. Flags may
+/// `trace` with `--offsets`, `header` with `--rust`, `count` with `--json`, `suite FILE` with `-o FOLDER` or without, `utf8 SET..`, or any words with `--help`, `-h` or `--version`. Behind `utf8` the version is that of Unicode. Flags may
 /// be repeated. Words that it refuses by `Usage` ask for nothing.
 pub fn read_args(alloc: Global, words: &[String]) -> Result<Look, ArgsError>
     ensures asked { IfOk result (AsksToShow (map string_bytes words.now)) }
@@ -295,6 +303,25 @@ fn with_check<'a>(alloc: Global, top: Command<'a>) -> Result<Command<'a>, AllocE
     top.subcommand(check_command(alloc)?)
 }
 
+/// The words of `suite`: how patterns are read, where the inputs are put, and its file.
+fn suite_command<'a>(alloc: Global) -> Result<Command<'a>, AllocError>
+    ensures { IfOk result (λ c. app_of c ≡ file_app (codes "suite") suite_words) }
+{
+    let flags = &[("fold", 'i'), ("posix", 'X')];
+    let command = Command::new(alloc, "suite").disable_help_flag(true);
+    let command = with_flags(alloc, command, flags)?;
+    let command = command.arg(value_word(alloc, "out", Some('o')))?;
+    command.arg(needed_word(alloc, "file"))
+}
+
+/// The words with `suite`.
+fn with_suite<'a>(alloc: Global, top: Command<'a>) -> Result<Command<'a>, AllocError>
+    ensures { IfOk result (λ c. app_of c
+        ≡ with_subcommand (app_of top.entry) (file_app (codes "suite") suite_words).top) }
+{
+    top.subcommand(suite_command(alloc)?)
+}
+
 const ONE: &[&str] = &["file"];
 
 /// The subcommands of files: their names, the flags of their own, and what the files are called.
@@ -321,7 +348,8 @@ fn command<'a>(alloc: Global) -> Result<Command<'a>, AllocError>
         .subcommand_required(true);
     let top = with_looks(alloc, top, LOOKS)?;
     let top = with_letters(alloc, top)?;
-    with_check(alloc, top)
+    let top = with_check(alloc, top)?;
+    with_suite(alloc, top)
 }
 
 /// What the matches ask for.
@@ -334,6 +362,7 @@ fn look_of(alloc: Global, matches: &ArgMatches<'_>) -> Result<Look, ArgsError>
         Some((name, found)) if name == "same" => same_look(alloc, found),
         Some((name, found)) if name == "utf8" => letters_look(alloc, found),
         Some((name, found)) if name == "check" => check_look(alloc, found),
+        Some((name, found)) if name == "suite" => suite_look(alloc, found),
         Some((name, found)) => one_look(alloc, name, found),
         None => Err(ArgsError::Usage),
     }
@@ -372,7 +401,8 @@ fn named(name: &str, found: &ArgMatches<'_>) -> Option<Subcommand>
 fn one_look(alloc: Global, name: &str, found: &ArgMatches<'_>) -> Result<Look, ArgsError>
     ensures asked { IfOk result (IsLookOf (Some (name.now, rows_of (found_of found.now)))) }
     ensures refused { IfErr result (λ e. e ≡ ArgsError.Usage → name.now ≢ codes "same" → name.now ≢ codes "utf8"
-        → name.now ≢ codes "check" → (look : Look) → IsLookOf (Some (name.now, rows_of (found_of found.now))) look → ⊥) }
+        → name.now ≢ codes "check" → name.now ≢ codes "suite"
+        → (look : Look) → IsLookOf (Some (name.now, rows_of (found_of found.now))) look → ⊥) }
 {
     let what = match named(name, found) {
         None => return Err(ArgsError::Usage),
@@ -433,6 +463,33 @@ fn check_look(alloc: Global, found: &ArgMatches<'_>) -> Result<Look, ArgsError>
         files: files_of(alloc, found)?,
         strict: has(found, "strict"),
         json: has(found, "json"),
+        patterns: patterns_of(found),
+    })
+}
+
+/// The value, as a text of its own.
+fn own(alloc: Global, value: Option<&str>) -> Result<Option<String>, AllocError>
+    ensures { IfOk result (λ o. option_map string_bytes o ≡ option_map (λ s. s.now) value.entry) }
+{
+    match value {
+        None => Ok(None),
+        Some(text) => Ok(Some(String::from_str(alloc, text)?)),
+    }
+}
+
+/// The suite that the matches behind its name ask for.
+fn suite_look(alloc: Global, found: &ArgMatches<'_>) -> Result<Look, ArgsError>
+    ensures asked { IfOk result (IsLookOf (Some (codes "suite", rows_of (found_of found.now)))) }
+    ensures refused { IfErr result (λ e. e ≡ ArgsError.Usage
+        → (look : Look) → IsLookOf (Some (codes "suite", rows_of (found_of found.now))) look → ⊥) }
+{
+    let file = match value_of(found, "file") {
+        None => return Err(ArgsError::Usage),
+        Some(file) => file,
+    };
+    Ok(Look::Suite {
+        file: String::from_str(alloc, file)?,
+        folder: own(alloc, value_of(found, "out"))?,
         patterns: patterns_of(found),
     })
 }

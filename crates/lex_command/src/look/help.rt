@@ -31,7 +31,10 @@ const HELP: &str = "lexlook shows what a specification of lex does.\n\n\
     the names and numbers of its rules for a program in C, as an enum, or in Rust, as constants\n\
     lexlook count FILE [-i] [-X] [--json]\n    \
     how often each rule matches standard input, with the bytes of its texts, and the turns in each\n    \
-    start condition, by columns or as JSON, and the scan's status\n\n\
+    start condition, by columns or as JSON, and the scan's status\n\
+    lexlook suite FILE [-i] [-X] [-o FOLDER]\n    \
+    inputs over the edges of its automaton, for each start condition, each with what its scan writes and\n    \
+    the status, and the edges that no input goes over; with -o a file for each condition in this folder\n\n\
     FILE may be - for standard input. With -i letters stand for both cases. With -X an interval\n\
     applies to the whole series to its left. A SET is U+0400-U+04FF, Lu, Greek, XID_Start or the like,\n\
     by the version of Unicode that lexlook utf8 --version tells.\n";

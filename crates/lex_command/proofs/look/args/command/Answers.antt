@@ -1,7 +1,7 @@
 use Rattle.std.proofs.Common.{◌≡◌, ◌∙◌, ◌∷◌, [], ap, codes, fold, rules}
 use Rattle.std.proofs.lemmas.Result.{IfOk-weaker}
 use Rattle.clap.specs.Words.{App, app_of, with_subcommand}
-use Rattle.lex_command.specs.LookLine.{check_words, file_app, flagged_file, no_subcommand, one_file, sets_app, two_files}
+use Rattle.lex_command.specs.LookLine.{check_words, file_app, flagged_file, no_subcommand, one_file, sets_app, suite_words, two_files}
 use Rattle.lex_command.proofs.look.args.command.Goals as goal
 
 -- the subcommands of files
@@ -23,4 +23,5 @@ returns c =
     let none : app_of c.subcommand_required-top.result ≡ no_subcommand = search rules in
     let files = c.in_ok-top.ensures ∙ ap with_files none in
     let sets = c.in_ok-top-2.ensures ∙ ap (λ (a : App). with_subcommand a sets_app.top) files in
-    IfOk-weaker c.with_check.result _ _ (λ new h. h ∙ ap (λ (a : App). with_subcommand a (file_app (codes "check") check_words).top) sets) c.with_check.ensures
+    let check = c.in_ok-top-3.ensures ∙ ap (λ (a : App). with_subcommand a (file_app (codes "check") check_words).top) sets in
+    IfOk-weaker c.with_suite.result _ _ (λ new h. h ∙ ap (λ (a : App). with_subcommand a (file_app (codes "suite") suite_words).top) check) c.with_suite.ensures

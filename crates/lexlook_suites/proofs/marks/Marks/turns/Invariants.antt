@@ -1,0 +1,6 @@
+use Rattle.std.proofs.Common.{drop}
+use Rattle.lexlook_suites.proofs.Turned.{Turning}
+use Rattle.lexlook_suites.proofs.marks.Marks.turns.Given as goal
+
+abbrev pub invariant-loop-token : goal.invariant-loop-token
+invariant-loop-token l = Turning l.dfa.parts l.input l.tokens l.fn.self l.self l.at (drop l.token-index l.tokens)
