@@ -254,11 +254,11 @@ def faulty_rows(spec, line, expected):
 def examples_of_lexlook(text):
     """The text of manual_looks.txt: what lexlook writes in the chapters on it."""
     small = after(text, "Say that `small.l` is this specification:")
-    pictures, comparing, cutting, taken, shared, traced, every, counted, covered, stepped, named = (
+    pictures, comparing, cutting, taken, shared, traced, every, counted, covered, tested, stepped, named = (
         chapter(text, title)
         for title in (
             "Pictures", "Comparing", "Cutting at newlines", "Texts that rules take", "Rules that overlap", "Lines of matches", "Every fault",
-            "Counts of matches", "What matches go through", "From a draft to its tests", "Names of rules",
+            "Counts of matches", "What matches go through", "Inputs for tests", "From a draft to its tests", "Names of rules",
         )
     )
     words = after(comparing, "Say that `words.l` is this:")
@@ -283,6 +283,7 @@ def examples_of_lexlook(text):
             ("written", after(traced, "With `--offsets` each match")),
         ),
         row("cover", ("spec", after(covered, "Say that `a.l` is this")), ("input", echoed), ("written", after(covered, "Then `echo"))),
+        row("suite", ("spec", after(covered, "Say that `a.l` is this")), ("written", after(tested, "Of `a.l` above it writes"))),
         row("counts", ("spec", after(counted, "Say that `a.l` is this")), ("input", sums), ("written", after(counted, "Then `printf"))),
         row(
             "check",
@@ -306,6 +307,7 @@ def step_rows(stepped):
     yield row("overlaps", mended, ("written", after(stepped, "**Which rule wins?**")))
     yield row("counts", mended, given, ("written", after(stepped, "**What does an input use?**")))
     yield row("cover", mended, given, ("written", after(stepped, "**What does it leave out?**")))
+    yield row("suite", mended, ("written", after(stepped, "**Which inputs test all of it?**")))
 
 
 def check(files):

@@ -94,6 +94,7 @@ pub(crate) fn answered(alloc: Global, row: &Row<'_>) -> Result<Answer, AllocErro
         Kind::Scan => scans::scan(alloc, row),
         Kind::Skipped => specifications::skipped(alloc, row),
         Kind::Specification => specifications::specification(alloc, row),
+        Kind::Suite => looks::suite(alloc, row),
         Kind::Table => tables::table(alloc, row),
         Kind::Tokens => tokens::tokens(alloc, row),
         Kind::Trace => looks::trace(alloc, row),

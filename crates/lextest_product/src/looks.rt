@@ -10,7 +10,7 @@ use lexlook_calls::{
 };
 use lexlook_check::{Form, SourceFile, tell_check};
 use lexlook_counts::{CountForm, tell_counts, tell_places};
-use lexlook_suites::tell_cover;
+use lexlook_suites::{tell_cover, tell_suite};
 use lexlook_tables::{Comparison, Difference, compare as compared, find_obstacle_in};
 use std::alloc::{AllocError, Global};
 
@@ -177,6 +177,16 @@ pub(crate) fn cover(alloc: Global, row: &Row<'_>) -> Result<Answer, AllocError> 
     let mut sink = MemorySink::new(alloc);
     let text = row.value("spec");
     let answer = tell_cover(alloc, text, options_of(row), row.value("input"), &mut sink);
+    answer_of(alloc, answer, sink, 0)
+}
+
+/// Writes inputs that go over the edges of an automaton.
+pub(crate) fn suite(alloc: Global, row: &Row<'_>) -> Result<Answer, AllocError> {
+    let mut sink = MemorySink::new(alloc);
+    let answer = match tell_suite(alloc, row.value("spec"), options_of(row), &mut sink) {
+        Ok(()) => Ok(0),
+        Err(error) => Err(error),
+    };
     answer_of(alloc, answer, sink, 0)
 }
 
