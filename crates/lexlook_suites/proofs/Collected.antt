@@ -14,7 +14,7 @@ use Rattle.lexscan.specs.Tokens.{Tokenised, TokensOf}
 use Rattle.lexscan.specs.declared.token.Token.{Token}
 use Rattle.lexlook_suites.specs.Edges.{goes_below, goes_to, marked_by}
 use Rattle.lexlook_suites.specs.Gathers.{Adds, Faults, Grows, HasAllEdges, HasEdge, HasEdges, HasText, IsFirst, IsGathered, IsScanned}
-use Rattle.lexlook_suites.specs.Inputs.{AreInputs, AreMarksOf, GoesOver, GoesOverAll, InputComesTo, InputGoesBy, IsInputOf}
+use Rattle.lexlook_suites.specs.Inputs.{AreInputs, AreMarksOf, GoesOverEdge, GoesOverAll, InputComesTo, InputGoesBy, IsInputOf}
 use Rattle.lexlook_suites.specs.Marking.{Adds as AddsMarks, AreNone}
 use Rattle.lexlook_suites.specs.Texts.{LeadsOver}
 use Rattle.lexlook_suites.specs.Trees.{IsStep, IsTree, state_at}
@@ -199,7 +199,7 @@ module _ (R : Rules) (p : Parts) (g : Gathered) (way x v : List ℕ) (a s b : �
 -- ---- all edges
 
 module _ (R : Rules) (p : Parts) (g : Gathered) (steps : List Step) (places : List (Option ℕ)) (gathered : IsGathered R p g) (tree : IsTree p (start p 0 true) steps places (length steps)) (dead : (b : ℕ) → next p 0 b ≡ 0) (has : HasAllEdges R p g steps 0) where
-  told : (s t b : ℕ) → next p s b ≡ t → s < states p → HasEdge R p g s b → GoesOver p g.inputs.items s t ⊎ ((v : List ℕ) × LeadsOver p s t 0 true v × Faults R v)
+  told : (s t b : ℕ) → next p s b ≡ t → s < states p → HasEdge R p g s b → GoesOverEdge p g.inputs.items s t ⊎ ((v : List ℕ) × LeadsOver p s t 0 true v × Faults R v)
   told s t b on known (inl marked) =
       let r = goes_some (marked_by g.marks s) (next p s) (next p s b) marked in
       inl (r.0, r.1, r.3 ∙ on, (gathered.marks.taken s r.0 known r.1).0 r.2)

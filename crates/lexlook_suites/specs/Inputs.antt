@@ -39,11 +39,11 @@ pub record AreMarksOf (p : Parts) (is : List Input) (m : Marks) : Type 0 where
       → (flag m.bytes.items (256 * q + b) ≡ true) ↔ InputGoesBy p is q b
 
 -- a turn of one of the inputs goes over the edge from a state to a state
-abbrev pub GoesOver : Parts → List Input → ℕ → ℕ → Type 0
-GoesOver p is s t = (b : ℕ) × (b < 256) × (next p s b ≡ t) × InputGoesBy p is s b
+abbrev pub GoesOverEdge : Parts → List Input → ℕ → ℕ → Type 0
+GoesOverEdge p is s t = (b : ℕ) × (b < 256) × (next p s b ≡ t) × InputGoesBy p is s b
 
 -- Of the edges that a text leads over from the start of the first condition at the start of a line: one of the inputs
 -- goes over each, but where the scan of such a text stops.
 abbrev pub GoesOverAll : Parts → (List ℕ → Type 0) → List Input → Type 0
 GoesOverAll p Stops is = (s t : ℕ) (w : List ℕ) → t ≢ 0 → LeadsOver p s t 0 true w
-    → GoesOver p is s t ⊎ ((v : List ℕ) × LeadsOver p s t 0 true v × Stops v)
+    → GoesOverEdge p is s t ⊎ ((v : List ℕ) × LeadsOver p s t 0 true v × Stops v)
