@@ -4,8 +4,9 @@
     scripts/flex/suites.py LEXLOOK [SPEC..]
 
 LEXLOOK is the program, as crates/lexlook/out/lexlook. For each specification, or each one of examples/ if none is named, flex builds a
-scanner, and scans each input of the suite. What it writes and its status must be those of the suite. A line is printed for each specification; the
-status is 1 where something differs. It wants flex 2.6.4 and a C compiler, and is no part of the gate."""
+scanner, and scans each input of the suite. What it writes and its status must be those of the suite. Where an action prints the text by %s, inputs
+with a byte NUL are left out: printf of C ends the text there. A line is printed for each specification; the status is 1 where something differs. It
+wants flex 2.6.4 and a C compiler, and is no part of the gate."""
 import glob
 import os
 import re
@@ -55,13 +56,18 @@ def main():
             if not scanner:
                 print(f"{name}: {len(inputs)} inputs, {missed} edges not walked; flex refuses it")
                 continue
-            wrong = 0
+            wrong = left_out = 0
+            with open(spec, "rb") as file:
+                prints_text = b"%s" in file.read()
             for text, output, status in inputs:
+                if prints_text and b"\0" in text:
+                    left_out += 1
+                    continue
                 ran = subprocess.run([scanner], input=text, capture_output=True)
                 if (ran.stdout, ran.returncode) != (output, status):
                     print(f"{name}: {text!r}: {ran.stdout!r} {ran.returncode}, not {output!r} {status}")
                     wrong += 1
-        print(f"{name}: {len(inputs)} inputs, {missed} edges not walked, {wrong} otherwise than flex's")
+        print(f"{name}: {len(inputs)} inputs, {missed} edges not walked, {left_out} with a byte NUL left out, {wrong} otherwise than flex's")
         faults += wrong
     return 1 if faults else 0
 
