@@ -1,28 +1,26 @@
 -- Inputs that are gathered one by one, and what their turns go through.
-use Rattle.std.proofs.Common.{◌≡◌, ◌≢◌, ◌∙◌, ◌⊎◌, ◌↔◌, ◌≤◌, ◌<◌, ◌+◌, ◌*◌, ℕ, zero, suc, Bool, true, false, ◌||◌, ◌&&◌, List, [], ◌∷◌, ◌++◌, length, Option, Some, None, inl, inr, refl, sym, ap, subst, append_assoc, arith}
+use Rattle.std.proofs.Common.{◌≡◌, ◌≢◌, ◌∙◌, ◌⊎◌, ◌↔◌, ◌<◌, ◌+◌, ℕ, zero, suc, Bool, true, false, ◌||◌, ◌&&◌, List, [], ◌∷◌, ◌++◌, length, Option, Some, None, inl, inr, refl, sym, ap, subst, arith}
 use Rattle.std.specs.Prelude.{◌==◌}
 use Rattle.std.proofs.lemmas.Bool.{and_parts, cases_eq, eqb-true}
 use Rattle.std.proofs.lemmas.List.{nil_from_length}
 use Rattle.lex_semantics.specs.Acting.{Ending, Status}
 use Rattle.lex_semantics.specs.Rules.{Rules}
-use Rattle.lex_semantics.specs.Run.{State, Turns, first_state}
-use Rattle.lex_semantics.specs.Text.{Among, IsText, flag}
-use Rattle.lexauto_dfa.specs.Parts.{after, conditions, next, start, states}
+use Rattle.lex_semantics.specs.Run.{State, Turns}
+use Rattle.lex_semantics.specs.Text.{Among, IsText}
+use Rattle.lexauto_dfa.specs.Parts.{after, next, start, states}
 use Rattle.lexauto_dfa.specs.declared.dfa.Parts.{Parts}
 use Rattle.lexauto_dfa.proofs.Accepting.{among_push}
 use Rattle.lexscan.specs.Tokens.{Tokenised, TokensOf}
 use Rattle.lexscan.specs.declared.token.Token.{Token}
 use Rattle.lexlook_suites.specs.Edges.{goes_below, goes_to, marked_by}
-use Rattle.lexlook_suites.specs.Gathers.{Adds, Faults, Grows, HasAllEdges, HasEdge, HasEdges, HasText, IsFirst, IsGathered, IsScanned}
-use Rattle.lexlook_suites.specs.Inputs.{AreInputs, AreMarksOf, GoesOverEdge, GoesOverAll, InputComesTo, InputGoesBy, IsInputOf}
+use Rattle.lexlook_suites.specs.Gathers.{Adds, Faults, HasAllEdges, HasEdge, HasEdges, HasText, IsFirst, IsGathered}
+use Rattle.lexlook_suites.specs.Inputs.{AreInputs, AreMarksOf, GoesOverEdge, GoesOverAll, IsInputOf}
 use Rattle.lexlook_suites.specs.Marking.{Adds as AddsMarks, AreNone}
 use Rattle.lexlook_suites.specs.Texts.{LeadsOver}
 use Rattle.lexlook_suites.specs.Trees.{IsStep, IsTree, state_at}
 use Rattle.lexlook_suites.specs.Turns.{TurnBegins, TurnComesTo, TurnGoesBy}
-use Rattle.lexlook_suites.specs.Walks.{GoesBy}
 use Rattle.lexlook_suites.specs.declared.gathering.Gathered.{Gathered}
 use Rattle.lexlook_suites.specs.declared.inputs.Input.{Input}
-use Rattle.lexlook_suites.specs.declared.marks.Marks.{Marks}
 use Rattle.lexlook_suites.specs.declared.trees.Step.{Step}
 use Rattle.lexlook_suites.proofs.Edged.{goes_found}
 use Rattle.lexlook_suites.proofs.Treed.{comes_there}

@@ -1,5 +1,5 @@
 -- What is told of a scan.
-use Rattle.std.proofs.Common.{◌≡◌, ◌∙◌, ◌⊎◌, ◌≤◌, ◌<◌, ◌^◌, ℕ, Bool, true, List, [], ◌++◌, length, map, Result, Ok, Err, inl, inr, refl, sym, ap, subst, arith}
+use Rattle.std.proofs.Common.{◌≡◌, ◌∙◌, ◌≤◌, ◌<◌, ◌^◌, ℕ, true, List, [], ◌++◌, length, Err, inl, inr, refl, sym, ap, subst, arith}
 use Rattle.std.specs.Prelude.{◌&&◌, nat_le}
 use Rattle.std.proofs.lemmas.Bool.{and_parts, leb-true}
 use Rattle.lex_semantics.specs.Acting.{Status}
@@ -28,7 +28,7 @@ use Rattle.lexkit.specs.declared.errors.GenError.{GenError}
 use Rattle.lexkit.specs.declared.errors.GenError.TheVariants as gens
 use Rattle.lexkit.specs.declared.errors.ScanError.TheVariants.{Run}
 use Rattle.lexkit.specs.declared.options.Options.{Options}
-use Rattle.lexlook_suites.specs.Told.{LinesTold, Stops, TellsOf}
+use Rattle.lexlook_suites.specs.Told.{Stops, TellsOf}
 use Rattle.lexauto_dfa.specs.declared.dfa.Parts.{Parts}
 
 -- ---- limits

@@ -1,9 +1,9 @@
 -- The first texts that lead over edges.
-use Rattle.std.proofs.Common.{◌≡◌, ◌∙◌, ◌⊎◌, ◌≤◌, ◌<◌, ◌+◌, ◌*◌, ℕ, zero, suc, Bool, true, false, List, [], ◌∷◌, ◌++◌, length, map, take, get_or, flat_map, Option, Some, None, inl, inr, refl, sym, ap, subst, arith}
-use Rattle.std.specs.Prelude.{◌==◌, ◌≢◌, min, not, ◌||◌, if◌then◌else◌, filter}
+use Rattle.std.proofs.Common.{◌≡◌, ◌∙◌, ◌⊎◌, ◌≤◌, ◌<◌, ◌+◌, ◌*◌, ℕ, zero, suc, Bool, true, false, List, [], ◌∷◌, ◌++◌, length, get_or, Option, Some, None, inl, inr, refl, sym, ap, subst, arith}
+use Rattle.std.specs.Prelude.{min}
 use Rattle.std.proofs.lemmas.Bool.{cases_eq, cases_lt, eq-eqb}
 use Rattle.lex_semantics.specs.Text.{Among, IsText}
-use Rattle.lexauto_dfa.specs.Parts.{after, conditions, next, start, states}
+use Rattle.lexauto_dfa.specs.Parts.{after, conditions, next, start}
 use Rattle.lexauto_dfa.specs.declared.dfa.Parts.{Parts}
 use Rattle.lexauto_reports.specs.BackWords.{NotAfter, Precedes}
 use Rattle.lexauto_reports.specs.Counting.{LeadsTo, walk}
@@ -11,11 +11,10 @@ use Rattle.lexauto_reports.specs.Searching.{AreFound, at, place_of}
 use Rattle.lexauto_reports.proofs.Counted.{from_start}
 use Rattle.lexauto_reports.proofs.Orders.{before_last, before_longer, not_after_trans}
 use Rattle.lexlook_specs.specs.Placing.{IsLeastOf, least_place}
-use Rattle.lexlook_specs.specs.Words.{IsNotLater, StartsFirst}
+use Rattle.lexlook_specs.specs.Words.{StartsFirst}
 use Rattle.lexlook_specs.specs.declared.words.finding.ShownText.{ShownText}
 use Rattle.lexlook_specs.proofs.Places.{least_is, least_nowhere, least_of_two, least_there}
-use Rattle.lexlook_specs.specs.Pictures.{leads_below}
-use Rattle.lexlook_suites.specs.Texts.{IsEdge, IsFirstStart, IsTextOver, LeadsFrom, LeadsOver}
+use Rattle.lexlook_suites.specs.Texts.{IsEdge, IsFirstStart, IsTextOver}
 use Rattle.lexlook_suites.specs.declared.edges.Edge.{Edge}
 use Rattle.lexlook_suites.specs.declared.texts.Start.{Start}
 use Rattle.lexlook_suites.proofs.Edged.{leads_later}

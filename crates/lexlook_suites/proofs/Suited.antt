@@ -1,5 +1,5 @@
 -- The suite of a specification, by its rules.
-use Rattle.std.proofs.Common.{◌≡◌, ◌∙◌, ◌<◌, ◌≤◌, ◌++◌, ◌∷◌, ℕ, zero, suc, List, [], length, get_or, map, sym, ap, subst, arith}
+use Rattle.std.proofs.Common.{◌≡◌, ◌∙◌, ◌<◌, ◌++◌, ◌∷◌, ℕ, zero, suc, List, [], length, get_or, map, sym, ap, subst, arith}
 use Rattle.lex_semantics.specs.Acting.{Status}
 use Rattle.lex_semantics.specs.Machine.{Machine}
 use Rattle.lex_semantics.specs.Rules.{Rules, rules_of}
@@ -26,7 +26,7 @@ use Rattle.lexscan.specs.TurnInvariants.{RunCompleted}
 use Rattle.lexscan.specs.declared.token.Token.{Token}
 use Rattle.lexscan_window.specs.declared.error.RunError.TheVariants as runs
 use Rattle.lex_semantics.specs.Acting.{Ending}
-use Rattle.lexlook_suites.specs.Gathers.{Adds, Faults, HasAllEdges, IsFirst, IsGathered, rules_by}
+use Rattle.lexlook_suites.specs.Gathers.{Adds, Faults, HasAllEdges, IsFirst, rules_by}
 use Rattle.lexlook_suites.specs.Inputs.{GoesOverAll, IsInputOf}
 use Rattle.lexlook_suites.specs.Told.{Stops}
 use Rattle.lexlook_suites.specs.Trees.{IsTree}

@@ -1,5 +1,5 @@
 -- What turns go through, one after another.
-use Rattle.std.proofs.Common.{◌≡◌, ◌⊎◌, ◌↔◌, ℕ, ◌+◌, ◌*◌, ◌<◌, ◌≤◌, Bool, true, false, List, [], ◌∷◌, length, drop, inl, inr, refl, sym, ap, subst, ◌∙◌, arith}
+use Rattle.std.proofs.Common.{◌≡◌, ◌⊎◌, ◌↔◌, ℕ, ◌+◌, ◌*◌, ◌<◌, ◌≤◌, Bool, true, false, List, [], ◌∷◌, length, drop, inl, inr, refl, subst, arith}
 use Rattle.std.proofs.lemmas.List.{get_or_past}
 use Rattle.lex_semantics.specs.Text.{at_line_start, flag}
 use Rattle.lexauto_dfa.specs.Automata.{start_of}

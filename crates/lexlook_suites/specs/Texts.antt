@@ -1,5 +1,5 @@
 -- The texts that lead over edges, and the first of them. (This project's.)
-use Rattle.std.specs.Prelude.{◌≡◌, ◌≢◌, ℕ, ◌<◌, Bool, false, not, List, [], ◌∷◌, ◌++◌, filter, map, Option, Some, None}
+use Rattle.std.specs.Prelude.{◌≡◌, ℕ, ◌<◌, Bool, false, not, List, [], ◌∷◌, ◌++◌, filter, map, Option, Some, None}
 use Rattle.lex_semantics.specs.Text.{Among, IsText}
 use Rattle.lexauto_dfa.specs.Parts.{after, conditions, next, start, states}
 use Rattle.lexauto_dfa.specs.declared.dfa.Parts.{Parts}

@@ -81,6 +81,25 @@ fn text_by(
     Ok(text)
 }
 
+/// So many texts at most are added for a start at whose end a scan backs up.
+const MOST_BACKING_UP: usize = 1_000;
+
+/// Whether no rule takes the text that leads to the step at a place, and one takes a shorter one on the way. It notes whether one
+/// takes any of these.
+fn backs_up(dfa: &Dfa, tree: &Tree, place: usize, taken: &mut [bool]) -> bool
+    requires place { place < length tree.now.steps.items }
+    requires tree { (j : ℕ) → j < length tree.now.steps.items
+        → IsStep (lists_of dfa.now) tree.now.start tree.now.steps.items j }
+{
+    let step = tree.steps[place];
+    let before = step.from < taken.len() && taken[step.from];
+    let here = !dfa.accepts(step.state).is_empty();
+    if place < taken.len() {
+        taken[place] = before || here;
+    }
+    before && !here
+}
+
 impl Gathered {
     /// No inputs.
     pub(crate) fn none(alloc: Global, dfa: &Dfa, machine: &Flat) -> Result<Gathered, AllocError>
@@ -260,6 +279,51 @@ impl Gathered {
             return Ok(());
         }
         seen[rule] = true;
+        self.add_to(alloc, dfa, machine, tree, way, place)
+    }
+
+    /// Adds texts from a start on at whose end a scan backs up, behind the way to that start: no rule takes them, and one takes a
+    /// shorter one on the way. Those of the first 1,000 such states.
+    pub(crate) fn add_all_backing_up(
+        &mut self,
+        alloc: Global,
+        dfa: &Dfa,
+        machine: &Flat,
+        tree: &Tree,
+        way: &Way,
+    ) -> Result<(), AllocError>
+        requires gathered { IsGathered (rules_by machine.now) (lists_of dfa.now) self.old }
+        requires tree { (j : ℕ) → j < length tree.now.steps.items
+            → IsStep (lists_of dfa.now) tree.now.start tree.now.steps.items j }
+        ensures { OnOk result (Adds (rules_by machine.now) (lists_of dfa.now) self.old self.new) }
+    {
+        let most = self.inputs.len().saturating_add(MOST_BACKING_UP);
+        let mut taken = vec![in alloc; false; tree.steps.len()]?;
+        for place in 1..tree.steps.len() {
+            let backs_up = backs_up(dfa, tree, place, &mut taken);
+            if backs_up && self.inputs.len() < most {
+                self.add_to(alloc, dfa, machine, tree, way, place)?;
+            }
+        }
+        Ok(())
+    }
+
+    /// Adds the text that leads to the step at a place, behind the way to where it begins.
+    fn add_to(
+        &mut self,
+        alloc: Global,
+        dfa: &Dfa,
+        machine: &Flat,
+        tree: &Tree,
+        way: &Way,
+        place: usize,
+    ) -> Result<(), AllocError>
+        requires gathered { IsGathered (rules_by machine.now) (lists_of dfa.now) self.old }
+        requires place { place < length tree.now.steps.items }
+        requires tree { (j : ℕ) → j < length tree.now.steps.items
+            → IsStep (lists_of dfa.now) tree.now.start tree.now.steps.items j }
+        ensures { OnOk result (Adds (rules_by machine.now) (lists_of dfa.now) self.old self.new) }
+    {
         let text = way.on_to(alloc, dfa, tree, place)?;
         self.add(alloc, dfa, machine, way.condition, way.text.len(), text)?;
         Ok(())

@@ -33,7 +33,8 @@ use std::alloc::{AllocError, Global};
 const MOST_WAYS: usize = 512;
 
 impl Gathered {
-    /// Adds the inputs for a start: the way to it alone, the first text of each rule, and texts over all edges.
+    /// Adds the inputs for a start: the way to it alone, the first text of each rule, texts at whose end a scan backs up, and texts
+    /// over all edges.
     fn add_start(
         &mut self,
         alloc: Global,
@@ -52,6 +53,7 @@ impl Gathered {
     {
         self.add_end(alloc, dfa, machine, way)?;
         self.add_rules(alloc, dfa, machine, tree, way, rules)?;
+        self.add_all_backing_up(alloc, dfa, machine, tree, way)?;
         self.add_all_edges(alloc, dfa, machine, tree, way)?;
         Ok(())
     }

@@ -1,4 +1,4 @@
-use Rattle.std.proofs.Common.{◌∙◌, false, sym, arith}
+use Rattle.std.proofs.Common.{false, arith}
 use Rattle.std.proofs.lemmas.List.{get_or_read}
 use Rattle.lex_semantics.specs.Text.{flag}
 use Rattle.lexlook_suites.specs.Edges.{rule_at}

@@ -1,7 +1,6 @@
 use Rattle.std.proofs.Common.{◌≡◌, ◌∙◌, ◌++◌, List, ℕ, Some, ap, subst, sym, arith}
 use Rattle.lex_io.specs.Source.{Gives}
 use Rattle.lex_io.specs.SliceSources.{slice_ends, slice_rest}
-use Rattle.lex_io.specs.MemorySinks.{written_of}
 use Rattle.lex_machine.proofs.Growing.{is_text_from}
 use Rattle.lex_semantics.specs.Acting.{Status}
 use Rattle.lex_semantics.specs.Run.{Run}

@@ -1,4 +1,4 @@
-use Rattle.std.proofs.Common.{◌≡◌, ◌++◌, flat_map, map, take}
+use Rattle.std.proofs.Common.{◌≡◌, ◌++◌, map, take}
 use Rattle.lexlook_suites.specs.CoverLines.{missed_lines}
 use Rattle.lexlook_suites.proofs.lines.add_all_missed.Given as goal
 

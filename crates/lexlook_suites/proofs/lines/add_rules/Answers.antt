@@ -1,4 +1,4 @@
-use Rattle.std.proofs.Common.{◌∙◌, ℕ, ◌++◌, ap}
+use Rattle.std.proofs.Common.{◌∙◌, ◌++◌, ap}
 use Rattle.std.specs.Prelude.{slice_index}
 use Rattle.lexlook_specs.proofs.Joining.{more_in_range}
 use Rattle.lexlook_suites.specs.CoverLines.{share_line}

@@ -2,7 +2,7 @@ use Rattle.std.proofs.Common.{◌≡◌, ◌∙◌, ℕ, List, ap, length, map, 
 use Rattle.std.specs.Borrow.{Bor}
 use Rattle.std.proofs.lemmas.List.{length-map}
 use Rattle.lex_semantics.specs.Spec.{Condition}
-use Rattle.lexspec.specs.Views.{conditions_in, rules_in, spec_of}
+use Rattle.lexspec.specs.Views.{conditions_in, spec_of}
 use Rattle.lexlook_suites.specs.CoverLines.{HasName}
 use Rattle.lexlook_suites.specs.Covers.{IsCoverOf}
 use Rattle.lexlook_suites.specs.SuiteLines.{left_lines}

@@ -1,4 +1,4 @@
-use Rattle.std.proofs.Common.{◌∙◌, List, ap, map, arith}
+use Rattle.std.proofs.Common.{◌∙◌, ap, map, arith}
 use Rattle.lex_semantics.specs.Rules.{rules_of}
 use Rattle.lex_semantics.specs.Spec.{Condition}
 use Rattle.lexauto_dfa.specs.Automata.{machine_of}

@@ -1,4 +1,4 @@
-use Rattle.std.proofs.Common.{◌≡◌, ◌∙◌, List, ℕ, None, Some, inl, refl, subst, sym, true}
+use Rattle.std.proofs.Common.{◌≡◌, List, ℕ, inl, subst, true}
 use Rattle.lexlook_suites.specs.Gathers.{HasText, IsScanned, rules_by}
 use Rattle.lexlook_suites.proofs.Collected.{adds_none, input_kept, text_kept}
 use Rattle.lexlook_suites.proofs.gathering.Gathered.add.Goals as goal

@@ -1,4 +1,4 @@
-use Rattle.std.proofs.Common.{◌≡◌, ◌≤◌, ℕ, length, subst, arith}
+use Rattle.std.proofs.Common.{◌≡◌, ℕ, subst, arith}
 use Rattle.lexlook_suites.specs.Gathers.{HasAllEdges, rules_by}
 use Rattle.lexlook_suites.proofs.Collected.{adds_none, adds_on, all_edges_more}
 use Rattle.lexlook_suites.proofs.gathering.Gathered.add_all_edges.Goals as goal

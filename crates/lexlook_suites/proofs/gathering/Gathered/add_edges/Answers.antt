@@ -1,5 +1,4 @@
-use Rattle.std.proofs.Common.{◌≡◌, ◌≢◌, ℕ, subst, arith}
-use Rattle.lexauto_dfa.specs.Parts.{next}
+use Rattle.std.proofs.Common.{◌≡◌, ℕ, subst, arith}
 use Rattle.lexlook_suites.specs.Gathers.{HasEdges, rules_by}
 use Rattle.lexlook_suites.specs.Trees.{state_at}
 use Rattle.lexlook_suites.proofs.Collected.{adds_none, adds_on, edges_more}

@@ -1,4 +1,4 @@
-use Rattle.std.proofs.Common.{◌≡◌, ◌∙◌, ◌<◌, ◌++◌, ◌∷◌, [], ℕ, ap, length, sym, arith}
+use Rattle.std.proofs.Common.{◌∙◌, ◌<◌, ◌++◌, ◌∷◌, [], ap, sym, arith}
 use Rattle.lexlook_suites.specs.Gathers.{rules_by}
 use Rattle.lexlook_suites.specs.Trees.{state_at}
 use Rattle.lexlook_suites.proofs.Collected.{adds_none, edge_added, edge_walked}

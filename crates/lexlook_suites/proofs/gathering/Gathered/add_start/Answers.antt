@@ -7,4 +7,5 @@ returns-clause-adds c =
     let R = rules_by c.args.machine.now in
     let p = c.args.dfa.now.parts in
     adds_on R p c.args.self.now c.add_end.new.self c.add_all_edges.new.self c.in_ok-add_end.ensures
-    (adds_on R p c.add_end.new.self c.add_rules.new.self c.add_all_edges.new.self c.in_ok-add_rules.ensures c.in_ok-add_all_edges.ensures.adds)
+    (adds_on R p c.add_end.new.self c.add_rules.new.self c.add_all_edges.new.self c.in_ok-add_rules.ensures
+    (adds_on R p c.add_rules.new.self c.add_all_backing_up.new.self c.add_all_edges.new.self c.in_ok-add_all_backing_up.ensures c.in_ok-add_all_edges.ensures.adds))

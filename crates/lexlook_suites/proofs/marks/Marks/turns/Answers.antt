@@ -1,4 +1,4 @@
-use Rattle.std.proofs.Common.{List, ◌+◌, drop, subst, arith}
+use Rattle.std.proofs.Common.{List, ◌+◌, drop, subst}
 use Rattle.std.proofs.lemmas.List.{drop_all}
 use Rattle.lexscan.specs.declared.token.Token.{Token}
 use Rattle.lexlook_suites.proofs.Turned.{Turning, turned_all, turning_on, turning_start}

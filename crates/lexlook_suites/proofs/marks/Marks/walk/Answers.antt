@@ -1,4 +1,4 @@
-use Rattle.std.proofs.Common.{ℕ, List, ◌≡◌, ◌+◌, [], drop, subst, arith}
+use Rattle.std.proofs.Common.{ℕ, List, ◌+◌, drop, subst}
 use Rattle.std.proofs.lemmas.List.{drop_all}
 use Rattle.lexauto_dfa.specs.Automata.{states_of}
 use Rattle.lexlook_suites.proofs.Walked.{Walking, left_first, walked_all, walked_dead, walking_on}

@@ -1,7 +1,4 @@
-use Rattle.std.proofs.Common.{◌≡◌, ◌<◌, ◌∙◌, Some, None, length, set, ap, sym, arith}
-use Rattle.lexauto_dfa.specs.Parts.{next}
-use Rattle.lexauto_reports.specs.Searching.{place_of}
-use Rattle.lexlook_suites.specs.Trees.{state_at}
+use Rattle.std.proofs.Common.{◌≡◌, ◌<◌, ◌∙◌, Some, length, set, ap, sym, arith}
 use Rattle.lexlook_suites.proofs.Treed.{came, fewer_more, none_at, past_found, past_more, some_at, tree_more}
 use Rattle.lexlook_suites.proofs.trees.Tree.add.Goals as goal
 

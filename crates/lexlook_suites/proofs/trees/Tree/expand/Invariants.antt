@@ -1,4 +1,4 @@
-use Rattle.std.proofs.Common.{◌≡◌, ◌≤◌, ◌<◌, ◌+◌, length}
+use Rattle.std.proofs.Common.{◌≡◌, ◌≤◌, ◌+◌, length}
 use Rattle.lexauto_reports.specs.Searching.{unfound}
 use Rattle.lexlook_suites.specs.Trees.{IsPast, IsTree}
 use Rattle.lexlook_suites.proofs.trees.Tree.expand.Given as goal
