@@ -82,7 +82,7 @@ fn text_by(
 }
 
 /// So many texts at most are added for a start at whose end a scan backs up.
-const MOST_BACKING_UP: usize = 1_000;
+const MOST_BACKING_UP: usize = 250;
 
 /// Whether no rule takes the text that leads to the step at a place, and one takes a shorter one on the way. It notes whether one
 /// takes any of these.
@@ -283,7 +283,7 @@ impl Gathered {
     }
 
     /// Adds texts from a start on at whose end a scan backs up, behind the way to that start: no rule takes them, and one takes a
-    /// shorter one on the way. Those of the first 1,000 such states.
+    /// shorter one on the way. Those of the first 250 such states.
     pub(crate) fn add_all_backing_up(
         &mut self,
         alloc: Global,
