@@ -15,7 +15,7 @@ use lexscan_matching::{
 use lexscan_window::{RunError, State};
 
 /// How many bytes a match goes over again at most, before what was known of walks over them is kept.
-const BACKLOG: usize = 128;
+const BACKLOG: usize = 32;
 
 /// Whether the next match has more bytes before it that are held than it may go over again.
 #[inline(always)]

@@ -21,7 +21,7 @@ pub struct GlancedMatch<'m> {
 }
 
 /// How many bytes a walk has at most that is gone over again.
-const FEW: usize = 128;
+const FEW: usize = 32;
 
 /// What is told of the match of a walk that is gone over again: by the last state that accepts a rule, or else of the
 /// default rule, which writes one byte.
