@@ -265,6 +265,7 @@ def examples_of_lexlook(text):
     compared = after(comparing, "Then `lexlook same small.l words.l`")
     given = re.search(r"`printf '([^']*)' \| lexlook trace a\.l`", traced)[1]
     sums = re.search(r"`printf '([^']*)' \| lexlook count a\.l`", counted)[1].replace("\\n", "\n")
+    tried = re.search(r"`printf '([^']*)' \| lexlook count b\.l`", counted)[1]
     echoed = re.search(r"`echo (.*?) \| lexlook cover a\.l`", covered)[1] + "\n"
     cuts = [line for names, rows in tables(cutting) for line in rows if "As in" in names]
     return file(
@@ -285,6 +286,7 @@ def examples_of_lexlook(text):
         row("cover", ("spec", after(covered, "Say that `a.l` is this")), ("input", echoed), ("written", after(covered, "Then `echo"))),
         row("suite", ("spec", after(covered, "Say that `a.l` is this")), ("written", after(tested, "Of `a.l` above it writes"))),
         row("counts", ("spec", after(counted, "Say that `a.l` is this")), ("input", sums), ("written", after(counted, "Then `printf"))),
+        row("counts", ("spec", after(counted, "Say that `b.l` is this")), ("input", tried), ("written", after(counted, "lexlook count b.l` writes"))),
         row(
             "check",
             ("names", "draft.l b.l"),

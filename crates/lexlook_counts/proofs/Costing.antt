@@ -48,7 +48,7 @@ module _ (M : Machine) (laws : MachineLaws M) (given : List ℕ) (p : Place) (in
       subst (Reach (rules_of_machine M) given p) (sym n) (reach_end (rules_of_machine M) given p inside (λ i lt. all_asked i (omega (arith, n, lt))))
 
 -- what an input is that goes on so
-begins_so : (given : List ℕ) (at_end : Bool) (x : List ℕ) → Consistent given at_end x → BeginsWith x given
+pub begins_so : (given : List ℕ) (at_end : Bool) (x : List ℕ) → Consistent given at_end x → BeginsWith x given
 begins_so given true x (text, is) = ([], is ∙ sym (append-nil given))
 begins_so given false x (text, begins) = begins
 

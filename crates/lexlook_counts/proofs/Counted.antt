@@ -1,5 +1,6 @@
 -- The counts of turns, as more is read.
-use Rattle.std.proofs.Common.{◌≡◌, ◌∙◌, ℕ, ◌+◌, Bool, false, List, [], ◌∷◌, ◌++◌, drop, ap, sym, subst, arith, length-append}
+use Rattle.std.proofs.Common.{◌≡◌, ◌∙◌, ℕ, Bool, false, List, [], ◌∷◌, ◌++◌, drop, ap, sym, subst, arith, length-append}
+use Rattle.std.specs.List.{concat}
 use Rattle.std.proofs.lemmas.List.{drop-append-le}
 use Rattle.lex_semantics.specs.Demand.{Consistent}
 use Rattle.lex_semantics.specs.Machine.{Machine, rules_of_machine}
@@ -9,12 +10,16 @@ use Rattle.lexscan.specs.declared.pull.PulledToken.{PulledToken}
 use Rattle.lexlook_counts.specs.Costs.{IsCost, cost_by, end_of, tokens_in}
 use Rattle.lexlook_counts.specs.Counting.{HasCounted}
 use Rattle.lexlook_counts.specs.Counts.{IsTallyOf}
+use Rattle.lexlook_counts.specs.Descending.{CountsTurn}
+use Rattle.lexlook_counts.specs.GivenUp.{GivesUp, given_counts}
 use Rattle.lexlook_counts.specs.Looking.{Holds, looker_machine}
 use Rattle.lexlook_counts.specs.Reading.{HasRead}
 use Rattle.lexlook_counts.specs.declared.counting.Counter.{Counter}
+use Rattle.lexlook_counts.specs.declared.given_up.GivenUp.{GivenUp}
 use Rattle.lexlook_counts.specs.declared.looking.Looker.{Looker}
 use Rattle.lexlook_counts.proofs.Costing.{costs_more, end_more, tokens_more}
 use Rattle.lexlook_counts.proofs.Fed.{goes_on_so}
+use Rattle.lexlook_counts.proofs.Turns.{concat_more, given_more}
 
 -- the bytes that are held, with those that were fed
 pub holds_more : (given more : List ℕ) (at : ℕ) (l m : Looker) → Holds given at l → m.base ≡ l.base → m.at ≡ l.at → m.bytes.items ≡ l.bytes.items ++ more → Holds (given ++ more) at m
@@ -27,8 +32,8 @@ holds_more given more at l m h base here bytes = record {
 module _ {A : Type 0} (gave : A → List ℕ → A → Type 0) (ends_of reads_of : A → ℕ) (M N : Machine) (rules conditions : ℕ) (s s' : A) (c : Counter) (h : HasCounted gave ends_of reads_of M N rules conditions s s' c) where
   -- more was fed
   pub counted_more : (s'' : A) (q : Counter) (more : List ℕ) → HasRead gave ends_of reads_of M s s'' (h.given ++ more) (tokens_in h.costs) q.reader → pull_finished c.reader.scanner ≡ false
-      → looker_machine q.looker ≡ looker_machine c.looker → Holds (h.given ++ more) (end_of 0 h.costs) q.looker → q.tally ≡ c.tally → HasCounted gave ends_of reads_of M N rules conditions s s'' q
-  counted_more s'' q more read going machine holds tally = record {
+      → looker_machine q.looker ≡ looker_machine c.looker → Holds (h.given ++ more) (end_of 0 h.costs) q.looker → q.tally ≡ c.tally → q.given_up ≡ c.given_up → HasCounted gave ends_of reads_of M N rules conditions s s'' q
+  counted_more s'' q more read going machine holds tally gives = record {
     given = h.given ++ more;
     costs = h.costs;
     read = read;
@@ -36,14 +41,18 @@ module _ {A : Type 0} (gave : A → List ℕ → A → Type 0) (ends_of reads_of
     holds = holds;
     looked = λ x k. h.looked x (subst (λ (b : Bool). Consistent h.given b x) (sym going) (goes_on_so h.given more (pull_finished q.reader.scanner) x k));
     counts = subst (IsTallyOf rules conditions h.costs) (sym tally) h.counts;
+    given_up = h.given_up;
+    gave_up = λ x k. h.gave_up x (subst (λ (b : Bool). Consistent h.given b x) (sym going) (goes_on_so h.given more (pull_finished q.reader.scanner) x k));
+    counts_given_up = ap (λ (g : GivenUp). g.counts.items) gives ∙ h.counts_given_up;
   }
 
   -- a token more was told
   pub counted_one : (s'' : A) (q : Counter) (t : PulledToken) (beyond : ℕ) → HasRead gave ends_of reads_of M s s'' h.given (tokens_in h.costs ++ whole_token t ∷ []) q.reader → pull_finished q.reader.scanner ≡ pull_finished c.reader.scanner
       → looker_machine q.looker ≡ looker_machine c.looker → Holds h.given (whole_token t).end q.looker
       → ((x : List ℕ) → Consistent h.given (pull_finished q.reader.scanner) x → IsCost (rules_of_machine (looker_machine c.looker)) x (end_of 0 h.costs) (cost_by t beyond))
-      → IsTallyOf rules conditions (h.costs ++ cost_by t beyond ∷ []) q.tally → HasCounted gave ends_of reads_of M N rules conditions s s'' q
-  counted_one s'' q t beyond read finished machine holds looks counts = record {
+      → IsTallyOf rules conditions (h.costs ++ cost_by t beyond ∷ []) q.tally
+      → CountsTurn (looker_machine c.looker) h.given (end_of 0 h.costs) t.condition (pull_finished q.reader.scanner) c.given_up.counts.items q.given_up.counts.items → HasCounted gave ends_of reads_of M N rules conditions s s'' q
+  counted_one s'' q t beyond read finished machine holds looks counts turn = record {
     given = h.given;
     costs = h.costs ++ cost_by t beyond ∷ [];
     read = subst (λ ts. HasRead gave ends_of reads_of M s s'' h.given ts q.reader) (sym (tokens_more h.costs (cost_by t beyond))) read;
@@ -52,4 +61,8 @@ module _ {A : Type 0} (gave : A → List ℕ → A → Type 0) (ends_of reads_of
     looked = λ x k. costs_more (rules_of_machine N) x 0 h.costs (cost_by t beyond) (h.looked x (subst (λ (b : Bool). Consistent h.given b x) finished k))
         (subst (λ (K : Machine). IsCost (rules_of_machine K) x (end_of 0 h.costs) (cost_by t beyond)) h.machine (looks x k));
     counts = counts;
+    given_up = h.given_up ++ turn.rules ∷ [];
+    gave_up = λ x k. given_more (rules_of_machine N) x 0 h.costs (cost_by t beyond) h.given_up turn.rules (h.gave_up x (subst (λ (b : Bool). Consistent h.given b x) finished k))
+        (subst (λ (K : Machine). GivesUp (rules_of_machine K) x (end_of 0 h.costs) t.condition turn.rules) h.machine (turn.gives_up x k));
+    counts_given_up = turn.counted rules (concat h.given_up) h.counts_given_up ∙ ap (given_counts rules) (sym (concat_more h.given_up turn.rules));
   }

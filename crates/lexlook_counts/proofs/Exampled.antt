@@ -1,7 +1,12 @@
--- How far the matches of an example look.
-use Rattle.std.proofs.Common.{◌≡◌, ◌⊎◌, ℕ, ◌+◌, ◌-◌, ◌≤◌, ◌<◌, List, length, take, drop, inl, inr, arith, length-drop}
+-- How far the matches of an example look, and the matches of another one.
+use Rattle.std.proofs.Common.{◌≡◌, ◌⊎◌, ℕ, ◌+◌, ◌≤◌, ◌<◌, true, false, List, [], ◌∷◌, codes, length, take, drop, inl, inr, arith, length-drop, refl}
 use Rattle.std.proofs.lemmas.List.{length-take-le}
+use Rattle.lex_semantics.specs.ByteSets.{has, set_of, single}
+use Rattle.lex_semantics.specs.Candidates.{Candidate, Candidates}
 use Rattle.lex_semantics.specs.Demand.{AsksAt, Reach}
+use Rattle.lex_semantics.specs.Examples as E
+use Rattle.lex_semantics.specs.Rules.{rules_of}
+use Rattle.lex_semantics.proofs.PlainRun.{candidates_are}
 use Rattle.lexlook_counts.specs.CountExamples.{three_asked}
 use Rattle.lexlook_counts.specs.Costs.{begins_at}
 
@@ -19,3 +24,16 @@ three_reach x at r inside far some = record { inside = inside; asked = λ i lt. 
     from i lt far (inl first) = omega (arith, first, some)
     from i lt (inl three) (inr live) = let n = size i lt in omega (arith, n, three, live)
     from i lt (inr few) (inr live) = omega (arith, lt, few.1)
+
+-- a match that is all text
+abbrev whole : ℕ → ℕ → Candidate
+whole n i = record { len = n; rule = i; keep = n }
+
+-- the matches of `a+ REJECT;` and `aa ;` at three bytes, and at one behind another
+pub at_three : Candidates (rules_of (E.many_or_two true)) 0 true (codes "aaa") (whole 3 0 ∷ whole 2 0 ∷ whole 2 1 ∷ whole 1 0 ∷ whole 1 2 ∷ [])
+unfolding has set_of single
+at_three = candidates_are (E.many_or_two true) 0 true (codes "aaa") _ refl
+
+pub at_one : Candidates (rules_of (E.many_or_two true)) 0 false (codes "a") (whole 1 0 ∷ whole 1 2 ∷ [])
+unfolding has set_of single
+at_one = candidates_are (E.many_or_two true) 0 false (codes "a") _ refl

@@ -6,3 +6,6 @@ pub mod Placing
 pub mod Costing
 pub mod Counted
 pub mod Exampled
+pub mod Giving
+pub mod Passing
+pub mod Turns

@@ -15,11 +15,11 @@ use Rattle.lexlook_counts.specs.declared.tally.RuleCount.{RuleCount}
 
 -- ---- numbers told by a function of their place
 
-alike_in_range : {A : Type 0} (d : A) (f g : ℕ → A) (n : ℕ) → ((k : ℕ) → k < n → f k ≡ g k) → map f (range_with_len 0 n) ≡ map g (range_with_len 0 n)
+pub alike_in_range : {A : Type 0} (d : A) (f g : ℕ → A) (n : ℕ) → ((k : ℕ) → k < n → f k ≡ g k) → map f (range_with_len 0 n) ≡ map g (range_with_len 0 n)
 alike_in_range d f g n e =
     fill_by_all g (map f (range_with_len 0 n)) n d (length-map-range_with_len f 0 n) (λ k low. get_or-map-range_with_len f 0 n k k d low (omega arith) ∙ e k low)
 
-set_in_range : {A : Type 0} (d : A) (f g : ℕ → A) (n i : ℕ) (y : A) (xs : List A) → xs ≡ map f (range_with_len 0 n) → i < length xs → y ≡ g i → ((k : ℕ) → k ≢ i → f k ≡ g k) → set xs i y ≡ map g (range_with_len 0 n)
+pub set_in_range : {A : Type 0} (d : A) (f g : ℕ → A) (n i : ℕ) (y : A) (xs : List A) → xs ≡ map f (range_with_len 0 n) → i < length xs → y ≡ g i → ((k : ℕ) → k ≢ i → f k ≡ g k) → set xs i y ≡ map g (range_with_len 0 n)
 set_in_range d f g n i y xs is low here e =
     fill_by_all g (set xs i y) n d (length-set xs i y ∙ size)
     (λ k lt. elim (cases_eq k i) [

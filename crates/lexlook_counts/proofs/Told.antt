@@ -22,13 +22,14 @@ use Rattle.lexkit.specs.declared.options.Options.{Options}
 use Rattle.lexlook_counts.specs.Costs.{TurnCost, tokens_in}
 use Rattle.lexlook_counts.specs.Counting.{CountingStops, CountsAll, CountsSource}
 use Rattle.lexlook_counts.specs.Counts.{IsTallyOf, rule_count, turn_count}
+use Rattle.lexlook_counts.specs.GivenUp.{given_count, given_counts}
 use Rattle.lexlook_counts.specs.Told.{AreMadeFor, CountsStopped, CountsTold, LinesTold, TellsCounts, TellsOf}
 use Rattle.lexlook_counts.specs.declared.counting.Counted.{Counted}
 use Rattle.lexlook_counts.specs.declared.counting.Machines.{Machines}
 use Rattle.lexlook_counts.specs.declared.lines.CountForm.{CountForm}
 use Rattle.lexlook_counts.specs.declared.tally.Tally.{Tally}
 use Rattle.lexscan_window.specs.declared.matched.MatchedRule.TheVariants.{Numbered}
-use Rattle.lexlook_counts.proofs.Spelled.{table_costs}
+use Rattle.lexlook_counts.proofs.Spelled.{table_costs, table_given}
 
 -- ---- counts of faults, by the fault
 
@@ -70,8 +71,8 @@ recounted gave ends_of reads_of M N n m n' m' s s' r e f h =
     subst (λ (k : ℕ). CountsSource gave ends_of reads_of M N n' k s s' r) f (subst (λ (k : ℕ). CountsSource gave ends_of reads_of M N k m s s' r) e h)
 
 -- memory ran out after all turns were counted
-pub late_memory : {A : Type 0} (gave : A → List ℕ → A → Type 0) (ends_of reads_of : A → ℕ) (M N : Machine) (n m : ℕ) (s s' : A) (status : ℕ) (t : Tally) → CountsAll gave ends_of reads_of M N n m s s' status t → CountingStops gave ends_of reads_of M N n m s s' runs.OutOfMemory
-late_memory gave ends_of reads_of M N n m s s' status t h = (
+pub late_memory : {A : Type 0} (gave : A → List ℕ → A → Type 0) (ends_of reads_of : A → ℕ) (M N : Machine) (n m : ℕ) (s s' : A) (status : ℕ) (t : Tally) (g : List ℕ) → CountsAll gave ends_of reads_of M N n m s s' status t g → CountingStops gave ends_of reads_of M N n m s s' runs.OutOfMemory
+late_memory gave ends_of reads_of M N n m s s' status t g h = (
   h.given,
   h.at_end,
   record {
@@ -86,6 +87,9 @@ late_memory gave ends_of reads_of M N n m s s' status t h = (
 -- there are counts of each rule and condition
 pub each_rule : (n m : ℕ) (costs : List TurnCost) (t : Tally) → IsTallyOf n m costs t → length t.rules.items ≡ n
 each_rule n m costs t h = ap length h.of_rules ∙ length-map-range_with_len (λ i. rule_count costs (Numbered i)) 0 n
+
+pub each_given : (n : ℕ) (rules given : List ℕ) → given ≡ given_counts n rules → length given ≡ n
+each_given n rules given h = ap length h ∙ length-map-range_with_len (given_count rules) 0 n
 
 pub each_condition : (n m : ℕ) (costs : List TurnCost) (t : Tally) → IsTallyOf n m costs t → length t.turns.items ≡ m
 each_condition n m costs t h = ap length h.of_conditions ∙ length-map-range_with_len (turn_count costs) 0 m
@@ -110,12 +114,15 @@ module _ {A B : Type 0} (gave : A → List ℕ → A → Type 0) (ends_of reads_
     given = h.counted.given;
     at_end = h.counted.at_end;
     costs = h.counted.costs;
-    tally = h.tally;
+    given_up = h.counted.given_up;
+    counted = h.counts;
     source = h.counted.read.source;
     ends = h.counted.read.ends;
     all = λ x c. table_tokens (table_machine (tables_of f.scans)) S (laws_of (tables_of f.scans)) sound made.scans.table x (tokens_in h.counted.costs) (Status status) c.0 (h.counted.read.all x c);
     looked = λ x c. table_costs (table_machine (tables_of f.scans)) (table_machine (tables_of f.looks)) S sound made.scans.table made.looks.table x h.counted.costs (Status status) c.0 (h.counted.read.all x c) (h.counted.looked x c);
+    gave_up = λ x c. table_given (table_machine (tables_of f.scans)) (table_machine (tables_of f.looks)) S sound made.scans.table made.looks.table x h.counted.costs h.counted.given_up (Status status) c.0 (h.counted.read.all x c) (h.counted.gave_up x c);
     counts = h.counted.counts;
+    counts_given_up = h.counted.given_up_is;
     written = h.written;
   }
 

@@ -1,6 +1,6 @@
 -- Worked examples of counts and places: a rule that matched twice, one that never did, the default rule, and what turns
 -- look at. (This project's.)
-use Rattle.std.specs.Prelude.{◌≡◌, ◌<◌, List, [], ◌∷◌, length, codes}
+use Rattle.std.specs.Prelude.{◌≡◌, ◌<◌, List, [], ◌∷◌, length, codes, None}
 use Rattle.lex_semantics.specs.Rules.{Rules}
 use Rattle.lexscan.specs.declared.token.Token.{Token}
 use Rattle.lexscan_window.specs.declared.matched.MatchedRule.TheVariants.{Numbered, Default}
@@ -61,11 +61,12 @@ pub record CountExamples : Type 0 where
   pub outer : turn_count three_costs 0 ≡ 1
   pub inner : turn_count three_costs 1 ≡ 2
   pub in_column : column 345 ≡ codes "         345 "
-  pub matched : matched_line DefaultRule (record { matches = 1; bytes = 1; longest = 1; beyond = 20 })
+  pub matched : matched_line DefaultRule (record { matches = 1; bytes = 1; longest = 1; beyond = 20 }) None
       ≡ codes "           1            1            1           20 default rule\n"
-  pub never : never_line (Line 3) no_matches ≡ codes "line 3: never\n"
-  pub none : matched_line (Line 3) no_matches ≡ []
+  pub never : never_line (Line 3) no_matches None ≡ codes "line 3: never\n"
+  pub none : matched_line (Line 3) no_matches None ≡ []
   -- the rules stand at lines 7 and 9
   pub placed : offset_lines (7 ∷ 9 ∷ []) (codes "abc\"d\n") three_tokens
       ≡ codes "0 3 line 7 \"abc\"\n3 1 default rule \"\\\"\"\n4 2 line 7 \"d\\n\"\n"
-  pub json : json_line (Line 3) no_matches ≡ codes "{\"line\":3,\"matches\":0,\"bytes\":0,\"longest\":0,\"beyond\":0}\n"
+  pub json : json_line (Line 3) no_matches None
+      ≡ codes "{\"line\":3,\"matches\":0,\"bytes\":0,\"longest\":0,\"beyond\":0}\n"

@@ -1,6 +1,8 @@
 -- The lines in which counts are told: in columns, or as JSON. (This project's; JSON: RFC 8259.)
-use Rattle.std.specs.Prelude.{ℕ, ◌-◌, ◌==◌, if◌then◌else◌, List, [], ◌∷◌, ◌++◌, length, take, codes, decimal, flat_map, slice_index, slice_index_or}
+use Rattle.std.specs.Prelude.{ℕ, ◌-◌, ◌==◌, ◌&&◌, Bool, if◌then◌else◌, List, [], ◌∷◌, ◌++◌, length, take, codes, decimal, flat_map, slice_index, slice_index_or, Option, Some, None, unwrap_or}
 use Rattle.std.specs.List.{concat, range_with_len}
+use Rattle.lexlook_counts.specs.GivenUp.{given_where}
+use Rattle.lexlook_counts.specs.declared.counting.Counted.{Counted}
 use Rattle.lexlook_counts.specs.declared.lines.CountForm.{CountForm}
 use Rattle.lexlook_counts.specs.declared.lines.CountForm.TheVariants as forms
 use Rattle.lexlook_counts.specs.declared.lines.LineKind.{LineKind}
@@ -8,7 +10,6 @@ use Rattle.lexlook_counts.specs.declared.lines.LineKind.TheVariants as kinds
 use Rattle.lexlook_counts.specs.declared.lines.Subject.{Subject}
 use Rattle.lexlook_counts.specs.declared.lines.Subject.TheVariants.{Line, DefaultRule}
 use Rattle.lexlook_counts.specs.declared.tally.RuleCount.{RuleCount}
-use Rattle.lexlook_counts.specs.declared.tally.Tally.{Tally}
 
 -- a number at the right of a column of 12 places, and a blank
 abbrev pub column : ℕ → List ℕ
@@ -21,52 +22,68 @@ counted_subject kinds.Json DefaultRule = codes "\"rule\":\"default\""
 counted_subject kind (Line line) = codes "line " ++ decimal line
 counted_subject kind DefaultRule = codes "default rule"
 
+-- how many bytes were looked at behind texts, and how often the rule was given up, where some rule has REJECT
+abbrev pub last_columns : ℕ → Option ℕ → List ℕ
+last_columns beyond None = column beyond
+last_columns beyond (Some given_up) = column beyond ++ column given_up
+
 -- the line of the counts of a rule
-abbrev pub count_columns : Subject → RuleCount → List ℕ
-count_columns s c = concat (
-    column c.matches ∷ column c.bytes ∷ column c.longest ∷ column c.beyond ∷ counted_subject kinds.Matched s
-    ∷ codes "\n" ∷ [])
+abbrev pub count_columns : Subject → RuleCount → Option ℕ → List ℕ
+count_columns s c given_up = concat (
+    column c.matches ∷ column c.bytes ∷ column c.longest ∷ last_columns c.beyond given_up
+    ∷ counted_subject kinds.Matched s ∷ codes "\n" ∷ [])
 
--- the line of a rule that has matched, and of one that has not
-abbrev pub matched_line : Subject → RuleCount → List ℕ
-matched_line s c = if c.matches == 0 then [] else count_columns s c
+-- no match of a rule was taken or given up
+abbrev pub never_tried : RuleCount → Option ℕ → Bool
+never_tried c given_up = c.matches == 0 && unwrap_or given_up 0 == 0
 
-abbrev pub never_line : Subject → RuleCount → List ℕ
-never_line s c = if c.matches == 0 then counted_subject kinds.Never s ++ codes ": never\n" else []
+-- the line of a rule that has matched or was given up, and of one that did not
+abbrev pub matched_line : Subject → RuleCount → Option ℕ → List ℕ
+matched_line s c given_up = if never_tried c given_up then [] else count_columns s c given_up
+
+abbrev pub never_line : Subject → RuleCount → Option ℕ → List ℕ
+never_line s c given_up =
+    if never_tried c given_up then counted_subject kinds.Never s ++ codes ": never\n" else []
 
 -- a name of JSON with what stands before it, and a number
 abbrev pub json_field : List ℕ → ℕ → List ℕ
 json_field front n = front ++ decimal n
 
--- the last field of the line of a rule, and its end
-abbrev pub json_beyond : ℕ → List ℕ
-json_beyond n = json_field (codes ",\"beyond\":") n ++ codes "}\n"
+-- the last fields of the line of a rule
+abbrev pub json_last : ℕ → Option ℕ → List ℕ
+json_last beyond None = json_field (codes ",\"beyond\":") beyond
+json_last beyond (Some given_up) =
+    json_field (codes ",\"beyond\":") beyond ++ json_field (codes ",\"given_up\":") given_up
 
 -- the line of a rule as JSON
-abbrev pub json_line : Subject → RuleCount → List ℕ
-json_line s c = concat (
+abbrev pub json_line : Subject → RuleCount → Option ℕ → List ℕ
+json_line s c given_up = concat (
     codes "{" ∷ counted_subject kinds.Json s
     ∷ json_field (codes ",\"matches\":") c.matches
     ∷ json_field (codes ",\"bytes\":") c.bytes
     ∷ json_field (codes ",\"longest\":") c.longest
-    ∷ json_beyond c.beyond ∷ [])
+    ∷ (json_last c.beyond given_up ++ codes "}\n") ∷ [])
 
-abbrev pub kind_line : LineKind → Subject → RuleCount → List ℕ
-kind_line kinds.Matched s c = matched_line s c
-kind_line kinds.Never s c = never_line s c
-kind_line kinds.Json s c = json_line s c
+abbrev pub kind_line : LineKind → Subject → RuleCount → Option ℕ → List ℕ
+kind_line kinds.Matched s c given_up = matched_line s c given_up
+kind_line kinds.Never s c given_up = never_line s c given_up
+kind_line kinds.Json s c given_up = json_line s c given_up
 
 -- the counts of the rule of this number
 abbrev pub count_at : List RuleCount → ℕ → RuleCount
 count_at counts i = slice_index_or counts i (record { matches = 0; bytes = 0; longest = 0; beyond = 0 })
 
--- the lines of one kind: of the rules at these lines of the file, in their order, and then of the default rule
-abbrev pub numbered_lines : LineKind → List ℕ → List RuleCount → List ℕ
-numbered_lines kind lines counts =
-    flat_map (λ i. kind_line kind (Line (slice_index lines i)) (count_at counts i)) (range_with_len 0 (length lines))
+-- the lines of one kind: of the rules at these lines of the file, in their order, and then of the default rule, which
+-- is never given up
+abbrev pub numbered_lines : LineKind → Bool → List ℕ → Counted → List ℕ
+numbered_lines kind rejecting lines c =
+    flat_map (λ i. kind_line kind (Line (slice_index lines i)) (count_at c.tally.rules.items i)
+    (given_where rejecting (slice_index c.given_up.items i))) (range_with_len 0 (length lines))
 
-abbrev pub kind_lines : LineKind → List ℕ → Tally → List ℕ
-kind_lines kind lines t = numbered_lines kind lines t.rules.items ++ kind_line kind DefaultRule t.default_rule
+abbrev pub kind_lines : LineKind → Bool → List ℕ → Counted → List ℕ
+kind_lines kind rejecting lines c =
+    numbered_lines kind rejecting lines c
+    ++ kind_line kind DefaultRule c.tally.default_rule (given_where rejecting 0)
 
 -- the line of a condition
 abbrev pub turn_line : CountForm → List ℕ → ℕ → List ℕ
@@ -78,14 +95,21 @@ abbrev pub condition_lines : CountForm → List (List ℕ) → List ℕ → List
 condition_lines form names turns =
     flat_map (λ c. turn_line form (slice_index_or names c []) (slice_index turns c)) (range_with_len 0 (length names))
 
--- All lines. In columns those of rules that have not matched come behind those of the others.
-abbrev pub count_lines : CountForm → List ℕ → List (List ℕ) → Tally → List ℕ
-count_lines forms.Columns lines names t = concat (
-    codes "     matches        bytes      longest       beyond\n"
-    ∷ kind_lines kinds.Matched lines t
-    ∷ kind_lines kinds.Never lines t
+-- what stands above the columns of rules
+abbrev pub rule_heads : Bool → List ℕ
+rule_heads rejecting =
+    if rejecting then codes "     matches        bytes      longest       beyond     given up\n"
+    else codes "     matches        bytes      longest       beyond\n"
+
+-- All lines, where some rule has REJECT or none. In columns those of rules that have not matched or been given up come
+-- behind those of the others.
+abbrev pub count_lines : CountForm → Bool → List ℕ → List (List ℕ) → Counted → List ℕ
+count_lines forms.Columns rejecting lines names c = concat (
+    rule_heads rejecting
+    ∷ kind_lines kinds.Matched rejecting lines c
+    ∷ kind_lines kinds.Never rejecting lines c
     ∷ codes "       turns\n"
-    ∷ condition_lines forms.Columns names t.turns.items
+    ∷ condition_lines forms.Columns names c.tally.turns.items
     ∷ [])
-count_lines forms.Json lines names t =
-    kind_lines kinds.Json lines t ++ condition_lines forms.Json names t.turns.items
+count_lines forms.Json rejecting lines names c =
+    kind_lines kinds.Json rejecting lines c ++ condition_lines forms.Json names c.tally.turns.items

@@ -1,11 +1,13 @@
 -- What counting the turns of a scan of a source leaves. (POSIX, lex, Rules in lex: which matches these are; the rest is
 -- this project's.)
 use Rattle.std.specs.Prelude.{◌≡◌, ℕ, Bool, List, [], Option, Some, None, Result, Ok, Err}
+use Rattle.std.specs.List.{concat}
 use Rattle.lex_semantics.specs.Machine.{Machine, rules_of_machine}
 use Rattle.lexscan.specs.Scanners.{pull_finished}
 use Rattle.lexscan_window.specs.declared.error.RunError.{RunError}
 use Rattle.lexlook_counts.specs.Costs.{CostsSo, TurnCost, end_of, tokens_in}
 use Rattle.lexlook_counts.specs.Counts.{IsTallyOf}
+use Rattle.lexlook_counts.specs.GivenUp.{GivenUpSo, given_counts}
 use Rattle.lexlook_counts.specs.Looking.{Holds, looker_machine}
 use Rattle.lexlook_counts.specs.Reading.{HasRead, HasReadAll, IsNew, StopsBy}
 use Rattle.lexlook_counts.specs.declared.counting.Counter.{Counter}
@@ -18,6 +20,7 @@ pub record IsFresh (M N : Machine) (rules conditions : ℕ) (c : Counter) : Type
   pub machine : looker_machine c.looker ≡ N
   pub holds : Holds [] 0 c.looker
   pub counts : IsTallyOf rules conditions [] c.tally
+  pub none_given_up : c.given_up.counts.items ≡ given_counts rules []
 
 -- What the calls of a source from s to s' gave; how often it has answered its end, and how often it failed.
 module _ {A : Type 0} (gave : A → List ℕ → A → Type 0) (ends_of reads_of : A → ℕ) (M N : Machine)
@@ -31,15 +34,21 @@ module _ {A : Type 0} (gave : A → List ℕ → A → Type 0) (ends_of reads_of
     pub holds : Holds given (end_of 0 costs) c.looker
     pub looked : CostsSo (rules_of_machine N) given (pull_finished c.reader.scanner) costs
     pub counts : IsTallyOf rules conditions costs c.tally
+    pub given_up : List (List ℕ)
+    pub gave_up : GivenUpSo (rules_of_machine N) given (pull_finished c.reader.scanner) costs given_up
+    pub counts_given_up : c.given_up.counts.items ≡ given_counts rules (concat given_up)
 
   -- All turns over each input that goes on as what the source gave are counted, and its scan ends with this status.
-  pub record CountsAll (status : ℕ) (t : Tally) : Type 0 where
+  pub record CountsAll (status : ℕ) (t : Tally) (counts_given_up : List ℕ) : Type 0 where
     pub given : List ℕ
     pub at_end : Bool
     pub costs : List TurnCost
     pub read : HasReadAll gave ends_of reads_of M s s' given at_end (tokens_in costs) status
     pub looked : CostsSo (rules_of_machine N) given at_end costs
     pub counts : IsTallyOf rules conditions costs t
+    pub given_up : List (List ℕ)
+    pub gave_up : GivenUpSo (rules_of_machine N) given at_end costs given_up
+    pub given_up_is : counts_given_up ≡ given_counts rules (concat given_up)
 
   -- counting stopped before the end
   abbrev pub CountingStops : RunError → Type 0
@@ -48,10 +57,10 @@ module _ {A : Type 0} (gave : A → List ℕ → A → Type 0) (ends_of reads_of
   -- what one step leaves: the turns so far, or all, or a fault
   abbrev pub CountsOn : Counter → Result (Option ℕ) RunError → Type 0
   CountsOn c (Ok None) = HasCounted c
-  CountsOn c (Ok (Some status)) = CountsAll status c.tally
+  CountsOn c (Ok (Some status)) = CountsAll status c.tally c.given_up.counts.items
   CountsOn c (Err e) = CountingStops e
 
   -- what all steps leave
   abbrev pub CountsSource : Result Counted RunError → Type 0
-  CountsSource (Ok counted) = CountsAll counted.status counted.tally
+  CountsSource (Ok counted) = CountsAll counted.status counted.tally counted.given_up.items
   CountsSource (Err e) = CountingStops e

@@ -3,6 +3,9 @@ pub mod CountLines
 pub mod CountExamples
 pub mod Costs
 pub mod Counting
+pub mod Descending
+pub mod GivenUp
+pub mod GivenUpExamples
 pub mod Looking
 pub mod Places
 pub mod Reading

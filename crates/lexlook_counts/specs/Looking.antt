@@ -1,10 +1,12 @@
 -- How far a match looks into an input. (POSIX, lex, Rules in lex: the longest match.)
 use Rattle.std.specs.Prelude.{◌≡◌, ℕ, ◌≤◌, ◌<◌, true, false, List, length, take, drop}
 use Rattle.lex_semantics.specs.Machine.{Machine, walk}
+use Rattle.lex_semantics.specs.Text.{at_line_start}
 use Rattle.lextab_packed.specs.FlatViews.{tables_of}
 use Rattle.lextab_packed.specs.Machines.{table_machine}
 use Rattle.lexlook_counts.specs.declared.looking.Look.{Look}
 use Rattle.lexlook_counts.specs.declared.looking.Looker.{Looker}
+use Rattle.lexlook_counts.specs.declared.looking.TurnStart.{TurnStart}
 
 -- From a state on so many of these bytes are looked at: the machine goes on after each of them but the last. It goes on
 -- no more after that one, or these are all.
@@ -23,3 +25,9 @@ pub record Holds (given : List ℕ) (at : ℕ) (l : Looker) : Type 0 where
   pub inside : l.base ≤ length given
   pub bytes : l.bytes.items ≡ drop l.base given
   pub here : l.at ≡ at
+
+-- A turn that begins here in this condition starts in this state, and these are the bytes given from there on.
+pub record Starts (M : Machine) (given : List ℕ) (at condition : ℕ) (t : TurnStart) : Type 0 where
+  pub inside : at ≤ length given
+  pub first : t.first ≡ M.start condition (at_line_start given at)
+  pub bytes : t.bytes.now ≡ drop at given

@@ -1,12 +1,13 @@
 -- What telling the counts of a scan of a source leaves. (POSIX, lex, Rules in lex: which matches these are; the rest is
 -- this project's.)
 use Rattle.std.specs.Prelude.{◌≡◌, ℕ, ◌+◌, Bool, List, length, map, Result, Ok, Err}
+use Rattle.std.specs.List.{concat}
 use Rattle.lex_io.specs.Sink.{Appended}
 use Rattle.lex_semantics.specs.Acting.{Status}
 use Rattle.lex_semantics.specs.ByteSets.{bit_of}
 use Rattle.lex_semantics.specs.Machine.{Machine}
 use Rattle.lex_semantics.specs.Rules.{rules_of}
-use Rattle.lex_semantics.specs.Spec.{Spec}
+use Rattle.lex_semantics.specs.Spec.{Spec, rejects}
 use Rattle.lex_semantics.specs.TableFor.{TableFor}
 use Rattle.lexspec.specs.Files.{SpellsSpec}
 use Rattle.lexauto.specs.declared.subsets.Limits.{Limits}
@@ -25,10 +26,11 @@ use Rattle.lexlook_counts.specs.CountLines.{count_lines}
 use Rattle.lexlook_counts.specs.Costs.{CostsSo, TurnCost, tokens_in}
 use Rattle.lexlook_counts.specs.Counting.{CountingStops, CountsAll}
 use Rattle.lexlook_counts.specs.Counts.{IsTallyOf}
+use Rattle.lexlook_counts.specs.GivenUp.{GivenUpSo, given_counts}
 use Rattle.lexlook_counts.specs.Reading.{FaultsSo}
+use Rattle.lexlook_counts.specs.declared.counting.Counted.{Counted}
 use Rattle.lexlook_counts.specs.declared.counting.Machines.{Machines}
 use Rattle.lexlook_counts.specs.declared.lines.CountForm.{CountForm}
-use Rattle.lexlook_counts.specs.declared.tally.Tally.{Tally}
 
 -- a machine that is a table for a specification, whose automaton is within the limits
 pub record IsMadeFor (limits : Limits) (S : Spec) (f : Flat) : Type 0 where
@@ -41,8 +43,8 @@ pub record AreMadeFor (limits : Limits) (S : Spec) (m : Machines) : Type 0 where
   pub looks : IsMadeFor limits S m.looks
 
 -- the lines of the counts of a specification's scan
-abbrev pub lines_for : CountForm → Spec → Tally → List ℕ
-lines_for form S t = count_lines form (lines_of S.rules) (map (λ c. c.name) S.conditions) t
+abbrev pub lines_for : CountForm → Spec → Counted → List ℕ
+lines_for form S c = count_lines form (rejects S) (lines_of S.rules) (map (λ c. c.name) S.conditions) c
 
 -- What the calls of the source from s to s' gave, and what those of the sink from t to t' wrote, where a machine scans
 -- for a specification, and another tells how far its turns look.
@@ -50,9 +52,10 @@ module _ {A B : Type 0} (gave : A → List ℕ → A → Type 0) (ends_of reads_
     (M N : Machine) (S : Spec) (form : CountForm) (s s' : A) (t t' : B) where
   -- the lines of the counts of all turns were written: all of them at `Ok`, and a front of them at `Err`
   pub record LinesTold (status : ℕ) (answer : Result ℕ RunError) : Type 0 where
-    pub tally : Tally
-    pub counted : CountsAll gave ends_of reads_of M N (length S.rules) (length S.conditions) s s' status tally
-    pub written : Appended (λ xs. wrote t xs t') (lines_for form S tally) answer
+    pub counts : Counted
+    pub counted : CountsAll gave ends_of reads_of M N (length S.rules) (length S.conditions) s s' status counts.tally
+        counts.given_up.items
+    pub written : Appended (λ xs. wrote t xs t') (lines_for form S counts) answer
 
   -- after another fault nothing was written
   abbrev pub TellsOf : Result ℕ RunError → Type 0
@@ -73,13 +76,16 @@ module _ {A B : Type 0} (gave : A → List ℕ → A → Type 0) (ends_of : A �
     pub given : List ℕ
     pub at_end : Bool
     pub costs : List TurnCost
-    pub tally : Tally
+    pub given_up : List (List ℕ)
+    pub counted : Counted
     pub source : gave s given s'
     pub ends : ends_of s' ≡ ends_of s + bit_of at_end
     pub all : TokenisedSo (rules_of spec) given at_end (tokens_in costs) (Status status)
     pub looked : CostsSo (rules_of spec) given at_end costs
-    pub counts : IsTallyOf (length spec.rules) (length spec.conditions) costs tally
-    pub written : Appended (λ xs. wrote t xs t') (lines_for form spec tally) answer
+    pub gave_up : GivenUpSo (rules_of spec) given at_end costs given_up
+    pub counts : IsTallyOf (length spec.rules) (length spec.conditions) costs counted.tally
+    pub counts_given_up : counted.given_up.items ≡ given_counts (length spec.rules) (concat given_up)
+    pub written : Appended (λ xs. wrote t xs t') (lines_for form spec counted) answer
 
   -- The scan stopped, and nothing was written. Where the stack of conditions is at fault, it is so in the scan by a
   -- table for the specification.

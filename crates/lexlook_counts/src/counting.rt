@@ -7,6 +7,7 @@ ghost use Rattle.lextab_packed.specs.Machines.{table_machine};
 ghost use Rattle.lexlook_counts.specs.Counting.{CountsOn, CountsSource, HasCounted, IsFresh};
 ghost use Rattle.lexlook_counts.specs.Reading.{HasTold};
 
+use crate::given_up::GivenUp;
 use crate::looking::Looker;
 use crate::reading::{Read, TokenReader};
 use crate::tally::Tally;
@@ -21,18 +22,20 @@ pub(crate) struct Machines {
     pub(crate) looks: Flat,
 }
 
-/// A scan, what tells how far its turns look, and the counts of those whose tokens it has told.
+/// A scan, what tells how far its turns look, the counts of those whose tokens it has told, and of what these gave up.
 #[derive(Drop)]
 struct Counter {
     reader: TokenReader,
     looker: Looker,
     tally: Tally,
+    given_up: GivenUp,
 }
 
-/// The counts of all turns, and the status that the scan ends with.
+/// The counts of all turns, how often each rule was given up, and the status that the scan ends with.
 #[derive(Drop)]
 pub(crate) struct Counted {
     pub(crate) tally: Tally,
+    pub(crate) given_up: Vec<u64>,
     pub(crate) status: u8,
 }
 
@@ -48,11 +51,13 @@ impl Counter {
             rules conditions) }
     {
         let tally = Tally::new(alloc, rules, conditions)?;
+        let given_up = GivenUp::new(alloc, rules)?;
         let Machines { scans, looks } = machines;
         Ok(Counter {
             reader: TokenReader::new(alloc, scans),
             looker: Looker::new(alloc, looks),
             tally,
+            given_up,
         })
     }
 
@@ -70,7 +75,13 @@ impl Counter {
             Ok(Read::Fed) => Ok(None),
             Ok(Read::Ended(status)) => Ok(Some(status)),
             Ok(Read::Token(token)) => {
-                match self.looker.pass(token, self.reader.is_finished()) {
+                let finished = self.reader.is_finished();
+                let given_up = &mut self.given_up;
+                match given_up.count_next(&self.looker, token.condition, finished) {
+                    Err(error) => return Err(error),
+                    Ok(()) => {}
+                }
+                match self.looker.pass(token, finished) {
                     // A scan asks for all that its turns look at before it tells their tokens.
                     None => Err(RunError::OutOfMemory),
                     Some(beyond) => {
@@ -108,8 +119,13 @@ pub(crate) fn count_source<S: Source>(
                     reader: _reader,
                     looker: _looker,
                     tally,
+                    given_up,
                 } = scan;
-                return Ok(Counted { tally, status });
+                return Ok(Counted {
+                    tally,
+                    given_up: given_up.counts,
+                    status,
+                });
             }
             Err(error) => return Err(error),
         }

@@ -2,6 +2,7 @@
 //!
 //! - `tally`: the counts of the turns so far, `Tally`, and one turn more.
 //! - `looking`: how far a turn looks, and what is held of the input for that, `Looker`.
+//! - `given_up`: how often the matches of each rule are given up by REJECT, `GivenUp`.
 //! - `reading`: a scan that reads a source, and is asked for its tokens one by one, `TokenReader`.
 //! - `counting`: the same to its end, with the counts of the turns, `count_source`.
 //! - `lines`: the lines of the counts, in columns or as JSON.
@@ -10,7 +11,7 @@
 //! - `laws`: worked examples of counts.
 //!
 //! It promises that the counts are those of all turns of the scan of the source by the specification that the text spells
-//! (`specs/Counts`, `specs/Costs`), and each byte of the lines (`specs/CountLines`). How a line looks may be changed with
+//! (`specs/Counts`, `specs/Costs`, `specs/GivenUp`), and each byte of the lines (`specs/CountLines`). How a line looks may be changed with
 //! docs/MANUAL.md.
 //!
 //! - **Tokens are asked for one by one, and none is kept.** So memory stays within the tables, the longest text and what the
@@ -19,14 +20,20 @@
 //!   tells tokens alone, and lends its machine to nobody. All that the turn looks at was fed by then. So what is held is what the
 //!   scanner holds itself. A walk goes over each byte that the match asks for, also where the scanner knows by a mark what comes of
 //!   it: where many matches look far ahead, counts take longer than a scan.
+//! - **What REJECT gives up is told only of files that have it**, so the output of all others stays as it was. Only there the states
+//!   of a walk are kept, four bytes for each byte that a turn looks at. Matches are then tried from the longest down, and none behind
+//!   the one that is taken. So it costs what the scan itself costs.
+//! - **A match is given up where its action has REJECT.** Nothing may stand behind that, and nothing before it ends the scan but a fault of
+//!   the stack of conditions, after which no counts are written.
 //! - **A count stays at the greatest number of 64 bits.** A text with what yymore kept is counted whole, so the bytes of texts may be
 //!   more than those of the input.
-//! - **What has not matched comes last in columns**, since these are the lines that one looks for. As JSON each rule has its line in
+//! - **What has not matched or been given up comes last in columns**, since these are the lines that one looks for. As JSON each rule has its line in
 //!   the order of the file.
 //! - **After a fault no counts are written.** Counts of a part of the input would look like those of all.
 #![tactic(auto)]
 
 mod counting;
+mod given_up;
 mod laws;
 mod lines;
 mod looking;
@@ -35,7 +42,7 @@ mod reading;
 mod tally;
 mod telling;
 
-pub use laws::examples_of_counts;
+pub use laws::{examples_of_counts, examples_of_given_up};
 pub use lines::CountForm;
 pub use places::tell_places;
 pub use tally::{RuleCount, Tally};

@@ -1,9 +1,12 @@
 //! The lines in which counts are told.
 ghost use Rattle.std.specs.Prelude.{◌≡◌, ◌++◌, IfOk, OnOk, length, map};
-ghost use Rattle.lexlook_counts.specs.CountLines.{column, condition_lines, kind_line, count_lines, count_columns, json_beyond, json_field, json_line, matched_line};
-ghost use Rattle.lexlook_counts.specs.CountLines.{never_line, numbered_lines, kind_lines, counted_subject, turn_line};
+ghost use Rattle.lexlook_counts.specs.CountLines.{column, condition_lines, kind_line, count_lines, count_columns, json_field, json_last, json_line};
+ghost use Rattle.lexlook_counts.specs.CountLines.{counted_subject, kind_lines, last_columns, matched_line, never_line, never_tried, numbered_lines};
+ghost use Rattle.lexlook_counts.specs.CountLines.{rule_heads, turn_line};
+ghost use Rattle.lexlook_counts.specs.GivenUp.{given_where};
 
-use crate::tally::{RuleCount, Tally};
+use crate::counting::Counted;
+use crate::tally::RuleCount;
 use itoa::Buffer;
 use lexlook_specs::{add, add_number};
 use std::alloc::{AllocError, Global};
@@ -72,33 +75,79 @@ pub(crate) fn add_subject(
     }
 }
 
+/// How often a rule was given up, where that is told: some rule of the file has REJECT.
+fn given_where(rejecting: bool, count: u64) -> Option<u64>
+    ensures { result ≡ given_where rejecting count }
+{
+    if rejecting { Some(count) } else { None }
+}
+
+/// Appends the last columns of the counts of a rule.
+fn add_last_columns(
+    text: &mut Vec<u8>,
+    beyond: u64,
+    given_up: Option<u64>,
+) -> Result<(), AllocError>
+    ensures { OnOk result (text.new.items ≡ text.old.items ++ last_columns beyond given_up) }
+{
+    match given_up {
+        None => add_column(text, beyond),
+        Some(count) => {
+            add_column(text, beyond)?;
+            add_column(text, count)
+        }
+    }
+}
+
 /// Appends the line of the counts of a rule.
-fn add_columns(text: &mut Vec<u8>, subject: Subject, count: RuleCount) -> Result<(), AllocError>
-    ensures { OnOk result (text.new.items ≡ text.old.items ++ count_columns subject count) }
+fn add_columns(
+    text: &mut Vec<u8>,
+    subject: Subject,
+    count: RuleCount,
+    given_up: Option<u64>,
+) -> Result<(), AllocError>
+    ensures { OnOk result (text.new.items ≡ text.old.items ++ count_columns subject count given_up) }
 {
     add_column(text, count.matches)?;
     add_column(text, count.bytes)?;
     add_column(text, count.longest)?;
-    add_column(text, count.beyond)?;
+    add_last_columns(text, count.beyond, given_up)?;
     add_subject(text, LineKind::Matched, subject)?;
     add(text, b"\n")
 }
 
-/// Appends the line of a rule that has matched.
-fn add_matched(text: &mut Vec<u8>, subject: Subject, count: RuleCount) -> Result<(), AllocError>
-    ensures { OnOk result (text.new.items ≡ text.old.items ++ matched_line subject count) }
+/// Whether no match of a rule was taken or given up.
+fn never_tried(count: RuleCount, given_up: Option<u64>) -> bool
+    ensures { result ≡ never_tried count given_up }
 {
-    if count.matches == 0 {
+    count.matches == 0 && given_up.unwrap_or(0) == 0
+}
+
+/// Appends the line of a rule that has matched.
+fn add_matched(
+    text: &mut Vec<u8>,
+    subject: Subject,
+    count: RuleCount,
+    given_up: Option<u64>,
+) -> Result<(), AllocError>
+    ensures { OnOk result (text.new.items ≡ text.old.items ++ matched_line subject count given_up) }
+{
+    if never_tried(count, given_up) {
         return add(text, b"");
     }
-    add_columns(text, subject, count)
+    add_columns(text, subject, count, given_up)
 }
 
 /// Appends the line of a rule that has not matched.
-fn add_never(text: &mut Vec<u8>, subject: Subject, count: RuleCount) -> Result<(), AllocError>
-    ensures { OnOk result (text.new.items ≡ text.old.items ++ never_line subject count) }
+fn add_never(
+    text: &mut Vec<u8>,
+    subject: Subject,
+    count: RuleCount,
+    given_up: Option<u64>,
+) -> Result<(), AllocError>
+    ensures { OnOk result (text.new.items ≡ text.old.items ++ never_line subject count given_up) }
 {
-    if count.matches != 0 {
+    if !never_tried(count, given_up) {
         return add(text, b"");
     }
     add_subject(text, LineKind::Never, subject)?;
@@ -114,24 +163,35 @@ pub(crate) fn add_field(text: &mut Vec<u8>, front: &[u8], number: u64) -> Result
     add(text, digits.format(number).as_bytes())
 }
 
-/// Appends the last field of the line of a rule as JSON, and its end.
-fn add_beyond(text: &mut Vec<u8>, beyond: u64) -> Result<(), AllocError>
-    ensures { OnOk result (text.new.items ≡ text.old.items ++ json_beyond beyond) }
+/// Appends the last fields of the line of a rule as JSON.
+fn add_json_last(text: &mut Vec<u8>, beyond: u64, given_up: Option<u64>) -> Result<(), AllocError>
+    ensures { OnOk result (text.new.items ≡ text.old.items ++ json_last beyond given_up) }
 {
-    add_field(text, b",\"beyond\":", beyond)?;
-    add(text, b"}\n")
+    match given_up {
+        None => add_field(text, b",\"beyond\":", beyond),
+        Some(count) => {
+            add_field(text, b",\"beyond\":", beyond)?;
+            add_field(text, b",\"given_up\":", count)
+        }
+    }
 }
 
 /// Appends the line of a rule as JSON.
-fn add_json(text: &mut Vec<u8>, subject: Subject, count: RuleCount) -> Result<(), AllocError>
-    ensures { OnOk result (text.new.items ≡ text.old.items ++ json_line subject count) }
+fn add_json(
+    text: &mut Vec<u8>,
+    subject: Subject,
+    count: RuleCount,
+    given_up: Option<u64>,
+) -> Result<(), AllocError>
+    ensures { OnOk result (text.new.items ≡ text.old.items ++ json_line subject count given_up) }
 {
     add(text, b"{")?;
     add_subject(text, LineKind::Json, subject)?;
     add_field(text, b",\"matches\":", count.matches)?;
     add_field(text, b",\"bytes\":", count.bytes)?;
     add_field(text, b",\"longest\":", count.longest)?;
-    add_beyond(text, count.beyond)
+    add_json_last(text, count.beyond, given_up)?;
+    add(text, b"}\n")
 }
 
 /// Appends the line of a rule, if it has one of this kind.
@@ -140,13 +200,14 @@ fn add_line(
     kind: LineKind,
     subject: Subject,
     count: RuleCount,
+    given_up: Option<u64>,
 ) -> Result<(), AllocError>
-    ensures { OnOk result (text.new.items ≡ text.old.items ++ kind_line kind subject count) }
+    ensures { OnOk result (text.new.items ≡ text.old.items ++ kind_line kind subject count given_up) }
 {
     match kind {
-        LineKind::Matched => add_matched(text, subject, count),
-        LineKind::Never => add_never(text, subject, count),
-        LineKind::Json => add_json(text, subject, count),
+        LineKind::Matched => add_matched(text, subject, count, given_up),
+        LineKind::Never => add_never(text, subject, count, given_up),
+        LineKind::Json => add_json(text, subject, count, given_up),
     }
 }
 
@@ -154,14 +215,18 @@ fn add_line(
 fn add_numbered(
     text: &mut Vec<u8>,
     kind: LineKind,
+    rejecting: bool,
     lines: &[u32],
-    rules: &[RuleCount],
+    counted: &Counted,
 ) -> Result<(), AllocError>
-    requires { length rules.now ≡ length lines.now }
-    ensures { OnOk result (text.new.items ≡ text.old.items ++ numbered_lines kind lines.now rules.now) }
+    requires rules { length counted.now.tally.rules.items ≡ length lines.now }
+    requires given_up { length counted.now.given_up.items ≡ length lines.now }
+    ensures { OnOk result (text.new.items ≡ text.old.items ++ numbered_lines kind rejecting lines.now counted.now) }
 {
     for rule in 0..lines.len() {
-        add_line(text, kind, Subject::Line(lines[rule]), rules[rule])?;
+        let subject = Subject::Line(lines[rule]);
+        let given_up = given_where(rejecting, counted.given_up[rule]);
+        add_line(text, kind, subject, counted.tally.rules[rule], given_up)?;
     }
     Ok(())
 }
@@ -170,14 +235,18 @@ fn add_numbered(
 fn add_rules(
     text: &mut Vec<u8>,
     kind: LineKind,
+    rejecting: bool,
     lines: &[u32],
-    tally: &Tally,
+    counted: &Counted,
 ) -> Result<(), AllocError>
-    requires { length tally.now.rules.items ≡ length lines.now }
-    ensures { OnOk result (text.new.items ≡ text.old.items ++ kind_lines kind lines.now tally.now) }
+    requires rules { length counted.now.tally.rules.items ≡ length lines.now }
+    requires given_up { length counted.now.given_up.items ≡ length lines.now }
+    ensures { OnOk result (text.new.items ≡ text.old.items ++ kind_lines kind rejecting lines.now counted.now) }
 {
-    add_numbered(text, kind, lines, &tally.rules)?;
-    add_line(text, kind, Subject::DefaultRule, tally.default_rule)
+    add_numbered(text, kind, rejecting, lines, counted)?;
+    let given_up = given_where(rejecting, 0);
+    let count = counted.tally.default_rule;
+    add_line(text, kind, Subject::DefaultRule, count, given_up)
 }
 
 /// Appends the line of a condition.
@@ -216,52 +285,74 @@ fn add_conditions(
     Ok(())
 }
 
-/// What stands above the counts of rules, and above those of conditions.
+/// What stands above the counts of rules.
 const RULE_HEADS: &[u8] = b"     matches        bytes      longest       beyond\n";
 
+/// The same, where some rule has REJECT.
+const RULE_HEADS_GIVEN_UP: &[u8] =
+    b"     matches        bytes      longest       beyond     given up\n";
+
+/// What stands above the counts of conditions.
 const TURN_HEAD: &[u8] = b"       turns\n";
+
+/// Appends what stands above the counts of rules.
+fn add_rule_heads(text: &mut Vec<u8>, rejecting: bool) -> Result<(), AllocError>
+    ensures { OnOk result (text.new.items ≡ text.old.items ++ rule_heads rejecting) }
+{
+    if rejecting {
+        add(text, RULE_HEADS_GIVEN_UP)
+    } else {
+        add(text, RULE_HEADS)
+    }
+}
 
 /// Appends all lines, of rules at these lines of the file and of conditions of these names.
 fn add_count_lines(
     text: &mut Vec<u8>,
     form: CountForm,
+    rejecting: bool,
     lines: &[u32],
     names: &[&[u8]],
-    tally: &Tally,
+    counted: &Counted,
 ) -> Result<(), AllocError>
-    requires rules { length tally.now.rules.items ≡ length lines.now }
-    requires conditions { length tally.now.turns.items ≡ length names.now }
+    requires rules { length counted.now.tally.rules.items ≡ length lines.now }
+    requires given_up { length counted.now.given_up.items ≡ length lines.now }
+    requires conditions { length counted.now.tally.turns.items ≡ length names.now }
     ensures { OnOk result (text.new.items
-        ≡ text.old.items ++ count_lines form lines.now (map (λ n. n.now) names.now) tally.now) }
+        ≡ text.old.items ++ count_lines form rejecting lines.now (map (λ n. n.now) names.now) counted.now) }
 {
     match form {
         CountForm::Columns => {
-            add(text, RULE_HEADS)?;
-            add_rules(text, LineKind::Matched, lines, tally)?;
-            add_rules(text, LineKind::Never, lines, tally)?;
+            add_rule_heads(text, rejecting)?;
+            add_rules(text, LineKind::Matched, rejecting, lines, counted)?;
+            add_rules(text, LineKind::Never, rejecting, lines, counted)?;
             add(text, TURN_HEAD)?;
-            add_conditions(text, form, names, &tally.turns)
+            add_conditions(text, form, names, &counted.tally.turns)
         }
         CountForm::Json => {
-            add_rules(text, LineKind::Json, lines, tally)?;
-            add_conditions(text, form, names, &tally.turns)
+            add_rules(text, LineKind::Json, rejecting, lines, counted)?;
+            add_conditions(text, form, names, &counted.tally.turns)
         }
     }
 }
 
-/// The lines of the counts, of rules at these lines of the file and of conditions of these names.
+/// The lines of the counts, of rules at these lines of the file and of conditions of these names, where some rule has REJECT
+/// or none.
 pub(crate) fn count_lines(
     alloc: Global,
     form: CountForm,
+    rejecting: bool,
     lines: &[u32],
     names: &[&[u8]],
-    tally: &Tally,
+    counted: &Counted,
 ) -> Result<Vec<u8>, AllocError>
-    requires rules { length tally.now.rules.items ≡ length lines.now }
-    requires conditions { length tally.now.turns.items ≡ length names.now }
-    ensures { IfOk result (λ text. text.items ≡ count_lines form lines.now (map (λ n. n.now) names.now) tally.now) }
+    requires rules { length counted.now.tally.rules.items ≡ length lines.now }
+    requires given_up { length counted.now.given_up.items ≡ length lines.now }
+    requires conditions { length counted.now.tally.turns.items ≡ length names.now }
+    ensures { IfOk result (λ text. text.items
+        ≡ count_lines form rejecting lines.now (map (λ n. n.now) names.now) counted.now) }
 {
     let mut text = Vec::new(alloc);
-    add_count_lines(&mut text, form, lines, names, tally)?;
+    add_count_lines(&mut text, form, rejecting, lines, names, counted)?;
     Ok(text)
 }

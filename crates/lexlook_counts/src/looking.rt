@@ -7,7 +7,7 @@ ghost use Rattle.lextab_packed.specs.FlatViews.{tables_of};
 ghost use Rattle.lextab_packed.specs.Machines.{table_machine, table_states};
 ghost use Rattle.lexscan.specs.Pulls.{whole_token};
 ghost use Rattle.lexlook_counts.specs.Costs.{IsCost, TurnCost, cost_by};
-ghost use Rattle.lexlook_counts.specs.Looking.{Holds, Looks, looker_machine};
+ghost use Rattle.lexlook_counts.specs.Looking.{Holds, Looks, Starts, looker_machine};
 
 use lex_machine::Machine;
 use lexscan::PulledToken;
@@ -85,6 +85,13 @@ fn drop_front(bytes: &mut Vec<u8>, count: usize)
     bytes.truncate(left);
 }
 
+/// How a turn starts: in which state, and the bytes that are held from there on.
+#[derive(Clone, Copy)]
+pub(crate) struct TurnStart<'a> {
+    pub(crate) first: u32,
+    pub(crate) bytes: &'a [u8],
+}
+
 /// What is needed to tell how far turns look: a machine, and the bytes of the input that the next ones may look at.
 #[derive(Drop)]
 pub(crate) struct Looker {
@@ -124,11 +131,18 @@ impl Looker {
         Some(self.bytes[behind - 1] == b'\n')
     }
 
-    /// How far the next turn looks, which begins in this condition. None where it is not among the bytes held.
-    fn look(&self, condition: u8) -> Option<Look>
-        ensures { IfSome result (λ look. (given : List ℕ) (at : ℕ) → Holds given at self.now → (at ≤ length given)
-            × Looks (looker_machine self.now) ((looker_machine self.now).start condition (at_line_start given at))
-            (drop at given) look) }
+    /// The machine by which it looks.
+    pub(crate) fn machine(&self) -> &Flat
+        ensures { result.now ≡ self.now.machine }
+    {
+        &self.machine
+    }
+
+    /// How the next turn starts, which begins in this condition. None where it is not among the bytes held.
+    pub(crate) fn next_turn(&self, condition: u8) -> Option<TurnStart<'_>>
+        ensures starts { IfSome result (λ turn. (given : List ℕ) (at : ℕ) → Holds given at self.now
+            → Starts (looker_machine self.now) given at condition turn) }
+        ensures known { IfSome result (λ turn. turn.first < table_states (tables_of self.now.machine)) }
     {
         let Some(behind) = self.at.checked_sub(self.base) else {
             return None;
@@ -139,10 +153,22 @@ impl Looker {
         }
         match self.line_start(behind) {
             None => None,
-            Some(line_start) => {
-                let first = start_in(&self.machine, condition, line_start);
-                Some(look_over(&self.machine, first, &self.bytes[behind..]))
-            }
+            Some(line_start) => Some(TurnStart {
+                first: start_in(&self.machine, condition, line_start),
+                bytes: &self.bytes[behind..],
+            }),
+        }
+    }
+
+    /// How far the next turn looks, which begins in this condition. None where it is not among the bytes held.
+    fn look(&self, condition: u8) -> Option<Look>
+        ensures { IfSome result (λ look. (given : List ℕ) (at : ℕ) → Holds given at self.now → (at ≤ length given)
+            × Looks (looker_machine self.now) ((looker_machine self.now).start condition (at_line_start given at))
+            (drop at given) look) }
+    {
+        match self.next_turn(condition) {
+            None => None,
+            Some(turn) => Some(look_over(&self.machine, turn.first, turn.bytes)),
         }
     }
 

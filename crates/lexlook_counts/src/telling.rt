@@ -72,12 +72,13 @@ fn lines_for(
     counted: &Counted,
 ) -> Result<Vec<u8>, AllocError>
     requires rules { length counted.now.tally.rules.items ≡ length (rules_in (spec_of spec.now)) }
+    requires given_up { length counted.now.given_up.items ≡ length (rules_in (spec_of spec.now)) }
     requires conditions { length counted.now.tally.turns.items ≡ length (conditions_in (spec_of spec.now)) }
-    ensures { IfOk result (λ text. text.items ≡ lines_for form (spec_of spec.now) counted.now.tally) }
+    ensures { IfOk result (λ text. text.items ≡ lines_for form (spec_of spec.now) counted.now) }
 {
     let names = names_of(alloc, spec.conditions())?;
     let lines = lines_of(alloc, spec.rules())?;
-    count_lines(alloc, form, &lines, &names, &counted.tally)
+    count_lines(alloc, form, spec.rejects(), &lines, &names, counted)
 }
 
 /// Counts the turns of a scan of a source by a specification, and writes the lines.
@@ -115,7 +116,8 @@ fn tell_of<S: Source, K: Sink>(
 
 /// Scans the source by the specification that a text spells, writing nothing of what its actions write, and then writes to the
 /// sink how often each rule matched, the bytes of its texts in all and the longest, how many bytes behind its texts it looked at,
-/// and in how many turns the scan was in each start condition. It answers the status that the scan ends with, 0 to 63. Where the scan stops at a fault nothing is
+/// and in how many turns the scan was in each start condition. Where some rule has REJECT, it also writes how often each rule was
+/// given up by it. It answers the status that the scan ends with, 0 to 63. Where the scan stops at a fault nothing is
 /// written. A text that spells no specification, or one whose automaton passes the limits, is refused, and then neither the
 /// source nor the sink is touched.
 pub fn tell_counts<S: Source, K: Sink>(

@@ -19,6 +19,9 @@ steps-init g c =
       holds = f.holds;
       looked = λ x k. tt;
       counts = f.counts;
+      given_up = [];
+      gave_up = λ x k. tt;
+      counts_given_up = f.none_given_up;
     }
 
 pub step-requires-clause-told : goal.step-requires-clause-told

@@ -1,4 +1,5 @@
 use Rattle.std.proofs.Common.{◌∙◌, ℕ, List, Ok, Err, ap, arith, length, refl, subst, sym}
+use Rattle.std.specs.List.{concat}
 use Rattle.std.proofs.lemmas.List.{length-map}
 use Rattle.lex_io.specs.Sink.{Appended}
 use Rattle.lexspec.specs.RuleViews.{rule_of}
@@ -7,13 +8,18 @@ use Rattle.lexspec_actions.specs.Views.{condition_of}
 use Rattle.lextab_packed.specs.FlatViews.{tables_of}
 use Rattle.lextab_packed.specs.Machines.{table_machine}
 use Rattle.lexscan_window.specs.declared.error.RunError.TheVariants as runs
-use Rattle.lexlook_counts.proofs.Told.{each_condition, each_rule, late_memory, no_write, recounted, stops_told}
+use Rattle.lexlook_counts.proofs.Told.{each_condition, each_given, each_rule, late_memory, no_write, recounted, stops_told}
 use Rattle.lexlook_counts.proofs.telling.tell_of.Goals as goal
 
 pub lines_for-requires-clause-rules : goal.lines_for-requires-clause-rules
 lines_for-requires-clause-rules g c =
     let h = c.in-Ok.ensures in
     each_rule _ _ h.costs c.in-Ok.counted.tally h.counts ∙ sym (length-map c.rules-rules.result.now rule_of) ∙ ap length c.rules-rules.ensures.rules
+
+pub lines_for-requires-clause-given_up : goal.lines_for-requires-clause-given_up
+lines_for-requires-clause-given_up g c =
+    let h = c.in-Ok.ensures in
+    each_given _ (concat h.given_up) c.in-Ok.counted.given_up.items h.given_up_is ∙ sym (length-map c.rules-rules.result.now rule_of) ∙ ap length c.rules-rules.ensures.rules
 
 pub lines_for-requires-clause-conditions : goal.lines_for-requires-clause-conditions
 lines_for-requires-clause-conditions g c =
@@ -43,7 +49,7 @@ returns-in-Err-lines_for-clause-told g c =
     let conditions = sym (length-map c.conditions-conditions.result.now condition_of) ∙ ap length c.conditions-conditions.ensures.conditions in
     let M = table_machine (tables_of c.args.machines.scans) in
     let N = table_machine (tables_of c.args.machines.looks) in (
-      late_memory g.S.Source.gave g.S.Source.ends g.S.Source.failures M N (length (rules_in S)) (length (conditions_in S)) c.args.source.now c.count_source.new.source c.in-Ok.counted.status c.in-Ok.counted.tally
+      late_memory g.S.Source.gave g.S.Source.ends g.S.Source.failures M N (length (rules_in S)) (length (conditions_in S)) c.args.source.now c.count_source.new.source c.in-Ok.counted.status c.in-Ok.counted.tally c.in-Ok.counted.given_up.items
           (recounted g.S.Source.gave g.S.Source.ends g.S.Source.failures M N _ _ (length (rules_in S)) (length (conditions_in S)) c.args.source.now c.count_source.new.source (Ok c.in-Ok.counted) rules conditions c.in-Ok.ensures),
       refl,
     )
@@ -57,7 +63,7 @@ returns-in-Err-put-clause-told g c =
     let N = table_machine (tables_of c.args.machines.looks) in (
       c.in-Ok.counted.status,
       record {
-        tally = c.in-Ok.counted.tally;
+        counts = c.in-Ok.counted;
         counted = recounted g.S.Source.gave g.S.Source.ends g.S.Source.failures M N _ _ (length (rules_in S)) (length (conditions_in S)) c.args.source.now c.count_source.new.source (Ok c.in-Ok.counted) rules conditions c.in-Ok.ensures;
         written = subst (λ (bytes : List ℕ). Appended {T = ℕ} (λ xs. g.K.Sink.wrote c.args.sink.now xs c.put.new.self) bytes (Err runs.Write)) (c.as_slice.ensures.value ∙ c.in-Ok-lines_for.ensures) c.in-Err-put.ensures.bytes;
       },
@@ -71,7 +77,7 @@ returns-clause-told g c =
     let M = table_machine (tables_of c.args.machines.scans) in
     let N = table_machine (tables_of c.args.machines.looks) in
     record {
-      tally = c.in-Ok.counted.tally;
+      counts = c.in-Ok.counted;
       counted = recounted g.S.Source.gave g.S.Source.ends g.S.Source.failures M N _ _ (length (rules_in S)) (length (conditions_in S)) c.args.source.now c.count_source.new.source (Ok c.in-Ok.counted) rules conditions c.in-Ok.ensures;
       written = subst (λ (bytes : List ℕ). g.K.Sink.wrote c.args.sink.now bytes c.put.new.self) (c.as_slice.ensures.value ∙ c.in-Ok-lines_for.ensures) c.in-Ok-put.ensures.bytes;
     }
