@@ -7,6 +7,9 @@ use Rattle.lex_semantics.specs.Machine.{Machine, rules_of_machine}
 use Rattle.lexscan.specs.Pulls.{whole_token}
 use Rattle.lexscan.specs.Scanners.{pull_finished}
 use Rattle.lexscan.specs.declared.pull.PulledToken.{PulledToken}
+use Rattle.lextab_packed.specs.FlatViews.{tables_of}
+use Rattle.lextab_packed.specs.Machines.{table_machine, table_states}
+use Rattle.lextab_packed.specs.declared.flat.Flat.{Flat}
 use Rattle.lexlook_counts.specs.Costs.{IsCost, cost_by, end_of, tokens_in}
 use Rattle.lexlook_counts.specs.Counting.{HasCounted}
 use Rattle.lexlook_counts.specs.Counts.{IsTallyOf}
@@ -14,19 +17,23 @@ use Rattle.lexlook_counts.specs.Descending.{CountsTurn}
 use Rattle.lexlook_counts.specs.GivenUp.{GivesUp, given_counts}
 use Rattle.lexlook_counts.specs.Looking.{Holds, looker_machine}
 use Rattle.lexlook_counts.specs.Reading.{HasRead}
+use Rattle.lexlook_counts.specs.FarWalks.{AreTrueOf}
 use Rattle.lexlook_counts.specs.declared.counting.Counter.{Counter}
 use Rattle.lexlook_counts.specs.declared.given_up.GivenUp.{GivenUp}
 use Rattle.lexlook_counts.specs.declared.looking.Looker.{Looker}
 use Rattle.lexlook_counts.proofs.Costing.{costs_more, end_more, tokens_more}
 use Rattle.lexlook_counts.proofs.Fed.{goes_on_so}
 use Rattle.lexlook_counts.proofs.Turns.{concat_more, given_more}
+use Rattle.lexlook_counts.proofs.Walked.{marks_more}
 
 -- the bytes that are held, with those that were fed
-pub holds_more : (given more : List ℕ) (at : ℕ) (l m : Looker) → Holds given at l → m.base ≡ l.base → m.at ≡ l.at → m.bytes.items ≡ l.bytes.items ++ more → Holds (given ++ more) at m
-holds_more given more at l m h base here bytes = record {
+pub holds_more : (given more : List ℕ) (at : ℕ) (l m : Looker) → Holds given at l → m.machine ≡ l.machine → m.base ≡ l.base → m.at ≡ l.at → m.memo ≡ l.memo → m.bytes.items ≡ l.bytes.items ++ more → Holds (given ++ more) at m
+holds_more given more at l m h machine base here memo bytes = record {
   inside = (let long = length-append given more in omega (arith, h.inside, base, long));
   bytes = bytes ∙ ap (λ k. k ++ more) h.bytes ∙ sym (drop-append-le l.base given more h.inside) ∙ ap (λ n. drop n (given ++ more)) (sym base);
   here = here ∙ h.here;
+  marks = subst (λ (f : Flat). AreTrueOf (table_machine (tables_of f)) (table_states (tables_of f)) (given ++ more) m.memo) (sym machine)
+      (subst (AreTrueOf (looker_machine l) (table_states (tables_of l.machine)) (given ++ more)) (sym memo) (marks_more (looker_machine l) (table_states (tables_of l.machine)) given more l.memo h.marks));
 }
 
 module _ {A : Type 0} (gave : A → List ℕ → A → Type 0) (ends_of reads_of : A → ℕ) (M N : Machine) (rules conditions : ℕ) (s s' : A) (c : Counter) (h : HasCounted gave ends_of reads_of M N rules conditions s s' c) where

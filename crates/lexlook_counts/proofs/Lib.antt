@@ -5,6 +5,7 @@ pub mod Told
 pub mod Placing
 pub mod Costing
 pub mod Counted
+pub mod Walked
 pub mod Exampled
 pub mod Giving
 pub mod Passing

@@ -1,15 +1,20 @@
--- Worked examples of counts and places: a rule that matched twice, one that never did, the default rule, and what turns
--- look at. (This project's.)
-use Rattle.std.specs.Prelude.{◌≡◌, ◌<◌, List, [], ◌∷◌, length, codes, None}
+-- Worked examples of counts and places: a rule that matched twice, one that never did, the default rule, what turns
+-- look at, and marks of walks. (This project's.)
+use Rattle.std.specs.Prelude.{◌≡◌, ℕ, ◌<◌, ◌==◌, ◌&&◌, if◌then◌else◌, List, [], ◌∷◌, length, codes, None}
+use Rattle.lex_semantics.specs.Machine.{Machine}
 use Rattle.lex_semantics.specs.Rules.{Rules}
+use Rattle.lex_semantics.specs.Spec.{Whole}
 use Rattle.lexscan.specs.declared.token.Token.{Token}
+use Rattle.lexscan_window.specs.declared.memo.Mark.{Mark}
 use Rattle.lexscan_window.specs.declared.matched.MatchedRule.TheVariants.{Numbered, Default}
 use Rattle.lexlook_counts.specs.CountLines.{column, matched_line, never_line, json_line}
 use Rattle.lexlook_counts.specs.Costs.{AreCosts, TurnCost, tokens_in}
 use Rattle.lexlook_counts.specs.Counts.{rule_count, turn_count}
+use Rattle.lexlook_counts.specs.FarWalks.{IsFarWalk, IsTrueOf}
 use Rattle.lexlook_counts.specs.Places.{offset_lines}
 use Rattle.lexlook_counts.specs.declared.lines.Subject.TheVariants.{Line, DefaultRule}
 use Rattle.lexlook_counts.specs.declared.tally.RuleCount.{RuleCount}
+use Rattle.lexlook_counts.specs.declared.walking.FarWalk.{FarWalk}
 
 -- three bytes of the first rule, one of the default rule, and two of the first rule, in two conditions
 abbrev pub three_tokens : List Token
@@ -50,8 +55,38 @@ looking_turns =
     ∷ record { token = record { rule = Numbered 0; start = 3; end = 4; condition = 0 }; beyond = 1 }
     ∷ []
 
+-- a machine of two states that goes on after each letter a
+abbrev pub letters_machine : Machine
+letters_machine = record {
+  conditions = 1;
+  count = 1;
+  start = λ c line_start. 1;
+  next = λ s b. if s == 1 && b == 97 then 1 else 0;
+  accepts = λ s. if s == 1 then 0 ∷ [] else [];
+  goes_on = λ s. s == 1;
+  cut = λ i. Whole;
+  statements = λ i. [];
+  ending = λ c. record { print = []; status = 0 };
+}
+
+-- from its second state on, over so many bytes to the dead one; of these one is walked over and the others are known
+abbrev pub mark_from : ℕ → ℕ → Mark
+mark_from place count = record { place = place; state = 1; count = count; last = 0; before = 1 }
+
+abbrev pub walk_over : ℕ → ℕ → FarWalk
+walk_over count last = record { count = count; state = last; before = 1; seen = 1 }
+
+-- where walks over letters a lead, and marks of them: one is of another place, and one goes on
+pub record WalkExamples : Type 0 where
+  pub marked : IsTrueOf letters_machine 2 (codes "caab") (mark_from 1 3)
+  pub elsewhere : IsTrueOf letters_machine 2 (codes "caab") (mark_from 0 3) → ⊥
+  pub too_near : IsTrueOf letters_machine 2 (codes "caab") (mark_from 1 2) → ⊥
+  pub stopped : IsFarWalk letters_machine 2 1 (codes "aab") (walk_over 3 0)
+  pub ended : IsFarWalk letters_machine 2 1 (codes "aa") (walk_over 2 1)
+  pub not_yet : IsFarWalk letters_machine 2 1 (codes "aab") (walk_over 2 1) → ⊥
+
 -- The counts of the first rule, of the second, which never matched, and of the default rule; the turns in each
--- condition; and lines of these
+-- condition; lines of these; and walks
 pub record CountExamples : Type 0 where
   pub tokens : tokens_in three_costs ≡ three_tokens
   pub looked : AreCosts three_asked (codes "abcde") 0 looking_turns
@@ -70,3 +105,4 @@ pub record CountExamples : Type 0 where
       ≡ codes "0 3 line 7 \"abc\"\n3 1 default rule \"\\\"\"\n4 2 line 7 \"d\\n\"\n"
   pub json : json_line (Line 3) no_matches None
       ≡ codes "{\"line\":3,\"matches\":0,\"bytes\":0,\"longest\":0,\"beyond\":0}\n"
+  pub walks : WalkExamples

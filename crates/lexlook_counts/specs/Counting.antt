@@ -64,3 +64,9 @@ module _ {A : Type 0} (gave : A → List ℕ → A → Type 0) (ends_of reads_of
   abbrev pub CountsSource : Result Counted RunError → Type 0
   CountsSource (Ok counted) = CountsAll counted.status counted.tally counted.given_up.items
   CountsSource (Err e) = CountingStops e
+
+-- So it is for some scan, of which the calls of a source came to this one.
+abbrev pub IsCounting : {A : Type 0} → (A → List ℕ → A → Type 0) → (A → ℕ) → (A → ℕ) → A → Counter → Type 0
+IsCounting gave ends_of reads_of s' c =
+    (M N : Machine) × (rules conditions : ℕ) × (s : _)
+    × HasCounted gave ends_of reads_of M N rules conditions s s' c

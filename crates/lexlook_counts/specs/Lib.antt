@@ -10,3 +10,4 @@ pub mod Looking
 pub mod Places
 pub mod Reading
 pub mod Told
+pub mod FarWalks

@@ -3,7 +3,8 @@ use Rattle.std.specs.Prelude.{◌≡◌, ℕ, ◌≤◌, ◌<◌, true, false, L
 use Rattle.lex_semantics.specs.Machine.{Machine, walk}
 use Rattle.lex_semantics.specs.Text.{at_line_start}
 use Rattle.lextab_packed.specs.FlatViews.{tables_of}
-use Rattle.lextab_packed.specs.Machines.{table_machine}
+use Rattle.lextab_packed.specs.Machines.{table_machine, table_states}
+use Rattle.lexlook_counts.specs.FarWalks.{AreTrueOf}
 use Rattle.lexlook_counts.specs.declared.looking.Look.{Look}
 use Rattle.lexlook_counts.specs.declared.looking.Looker.{Looker}
 use Rattle.lexlook_counts.specs.declared.looking.TurnStart.{TurnStart}
@@ -20,11 +21,17 @@ pub record Looks (M : Machine) (s : ℕ) (w : List ℕ) (l : Look) : Type 0 wher
 abbrev pub looker_machine : Looker → Machine
 looker_machine l = table_machine (tables_of l.machine)
 
--- The bytes of the input from a place on are held, as far as they were given, and the next turn begins here.
+-- The bytes of the input from a place on are held, as far as they were given, and the next turn begins here. What is
+-- known of walks over the input is true.
 pub record Holds (given : List ℕ) (at : ℕ) (l : Looker) : Type 0 where
   pub inside : l.base ≤ length given
   pub bytes : l.bytes.items ≡ drop l.base given
   pub here : l.at ≡ at
+  pub marks : AreTrueOf (looker_machine l) (table_states (tables_of l.machine)) given l.memo
+
+-- they are those of some input
+abbrev pub IsHeld : Looker → Type 0
+IsHeld l = (given : List ℕ) × (at : ℕ) × Holds given at l
 
 -- A turn that begins here in this condition starts in this state, and these are the bytes given from there on.
 pub record Starts (M : Machine) (given : List ℕ) (at condition : ℕ) (t : TurnStart) : Type 0 where

@@ -4,8 +4,7 @@ ghost use Rattle.lex_semantics.specs.Machine.{Machine};
 ghost use Rattle.lexscan.specs.Scanners.{pull_finished};
 ghost use Rattle.lextab_packed.specs.FlatViews.{tables_of};
 ghost use Rattle.lextab_packed.specs.Machines.{table_machine};
-ghost use Rattle.lexlook_counts.specs.Counting.{CountsOn, CountsSource, HasCounted, IsFresh};
-ghost use Rattle.lexlook_counts.specs.Reading.{HasTold};
+ghost use Rattle.lexlook_counts.specs.Counting.{CountsOn, CountsSource, HasCounted, IsCounting, IsFresh};
 
 use crate::given_up::GivenUp;
 use crate::looking::Looker;
@@ -63,7 +62,7 @@ impl Counter {
 
     /// Counts the turn of the next token, or feeds more where the scan asks for it. After the end it answers the status.
     fn step<S: Source>(&mut self, source: &mut S) -> Result<Option<u8>, RunError>
-        requires told { HasTold self.old.reader }
+        requires counted { IsCounting S.gave S.ends S.failures source.old self.old }
         requires ends { pull_finished self.old.reader.scanner ≡ false → S.ends source.old < 2 ^ 64 - 1 }
         requires reads { S.failures source.old < 2 ^ 64 - 1 }
         ensures { (M N : Machine) (rules conditions : ℕ) (s : S)

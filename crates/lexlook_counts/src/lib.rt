@@ -1,6 +1,7 @@
 //! How often the rules of a specification match an input, and where: what is counted, and the lines that tell it. It is for lexlook.
 //!
 //! - `tally`: the counts of the turns so far, `Tally`, and one turn more.
+//! - `walking`: walks over bytes that are held, and marks of where they lead, `FarWalk`.
 //! - `looking`: how far a turn looks, and what is held of the input for that, `Looker`.
 //! - `given_up`: how often the matches of each rule are given up by REJECT, `GivenUp`.
 //! - `reading`: a scan that reads a source, and is asked for its tokens one by one, `TokenReader`.
@@ -18,8 +19,11 @@
 //!   source has ready, however long the input is.
 //! - **How far a turn looks is walked once more**, when its token is told, by a second machine of the same specification: a scanner
 //!   tells tokens alone, and lends its machine to nobody. All that the turn looks at was fed by then. So what is held is what the
-//!   scanner holds itself. A walk goes over each byte that the match asks for, also where the scanner knows by a mark what comes of
-//!   it: where many matches look far ahead, counts take longer than a scan.
+//!   scanner holds itself.
+//! - **Where a walk leads that goes far beyond its text is marked**, in a table as lexscan has one. A mark is of a state at a place. A
+//!   later walk that comes to that state there ends where the mark says. So time is in proportion to the input, also where many
+//!   matches look far ahead. A walk over 64 bytes beyond its text costs less than marks.
+//! - **A mark tells of bytes alone, and not of the end of the input.** So it stays true as more is fed.
 //! - **What REJECT gives up is told only of files that have it**, so the output of all others stays as it was. Only there the states
 //!   of a walk are kept, four bytes for each byte that a turn looks at. Matches are then tried from the longest down, and none behind
 //!   the one that is taken. So it costs what the scan itself costs.
@@ -41,6 +45,7 @@ mod places;
 mod reading;
 mod tally;
 mod telling;
+mod walking;
 
 pub use laws::{examples_of_counts, examples_of_given_up};
 pub use lines::CountForm;

@@ -7,10 +7,13 @@ ghost use Rattle.lextab_packed.specs.FlatViews.{tables_of};
 ghost use Rattle.lextab_packed.specs.Machines.{table_machine, table_states};
 ghost use Rattle.lexscan.specs.Pulls.{whole_token};
 ghost use Rattle.lexlook_counts.specs.Costs.{IsCost, TurnCost, cost_by};
-ghost use Rattle.lexlook_counts.specs.Looking.{Holds, Looks, Starts, looker_machine};
+ghost use Rattle.lexlook_counts.specs.Looking.{Holds, IsHeld, Looks, Starts, looker_machine};
+ghost use Rattle.lexlook_counts.specs.FarWalks.{AreTrueOf, AreTrueFrom};
 
+use crate::walking::{note, walk_on};
 use lex_machine::Machine;
 use lexscan::PulledToken;
+use lexscan_window::Memo;
 use lextab_packed::Flat;
 use std::alloc::Global;
 
@@ -21,38 +24,49 @@ pub(crate) struct Look {
     pub(crate) whole: bool,
 }
 
-/// How far a match looks from a state on, byte by byte.
-fn look_on<M: Machine>(machine: &M, first: u32, bytes: &[u8]) -> Look
+/// So many bytes are looked at behind each text before it is asked what is known of the others, or marked.
+const NEAR: usize = 64;
+
+/// How far a match looks, if it stops among the first bytes.
+fn look_near<M: Machine>(machine: &M, first: u32, bytes: &[u8], near: usize) -> Option<Look>
     requires { first < M.states machine.now }
-    ensures { Looks (M.machine machine.now) first bytes.now result }
+    ensures { IfSome result (Looks (M.machine machine.now) first bytes.now) }
 {
-    let mut state = first;
-    for place in 0..bytes.len() {
-        state = machine.step(state, bytes[place]);
-        if !machine.goes_on(state) {
-            return Look {
-                count: place + 1,
-                whole: false,
-            };
-        }
-    }
-    Look {
-        count: bytes.len(),
-        whole: true,
+    let near = near.min(bytes.len());
+    match machine.way(first, &bytes[..near]) {
+        Some(way) => Some(Look {
+            count: way.count,
+            whole: false,
+        }),
+        None => None,
     }
 }
 
-/// How far a match looks from a state on.
-pub(crate) fn look_over<M: Machine>(machine: &M, first: u32, bytes: &[u8]) -> Look
-    requires { first < M.states machine.now }
-    ensures { Looks (M.machine machine.now) first bytes.now result }
+/// How far a match looks, by what is known of the bytes from this place on. Where it looks at more than the first bytes, it is
+/// marked where its walk leads.
+fn look_far<M: Machine>(
+    machine: &M,
+    memo: &mut Memo,
+    first: u32,
+    place: u64,
+    bytes: &[u8],
+    near: usize,
+) -> Look
+    requires first { first < M.states machine.now }
+    requires marks { AreTrueFrom (M.machine machine.now) (M.states machine.now) place bytes.now memo.old }
+    ensures looks { Looks (M.machine machine.now) first bytes.now result }
+    ensures marks { (given : List ℕ) → place ≤ length given → bytes.now ≡ drop place given
+        → AreTrueOf (M.machine machine.now) (M.states machine.now) given memo.old
+        → AreTrueOf (M.machine machine.now) (M.states machine.now) given memo.new }
 {
-    match machine.way(first, bytes) {
-        Some(way) => Look {
-            count: way.count,
-            whole: false,
-        },
-        None => look_on(machine, first, bytes),
+    let walk = walk_on(machine, memo, first, place, bytes);
+    if near < walk.seen {
+        memo.fit(bytes.len());
+        note(machine, memo, first, place, bytes, walk);
+    }
+    Look {
+        count: walk.count,
+        whole: walk.count == 0 || machine.goes_on(walk.state),
     }
 }
 
@@ -101,6 +115,8 @@ pub(crate) struct Looker {
     base: u64,
     /// Where the next turn begins.
     at: u64,
+    /// What is known of walks over the bytes.
+    memo: Memo,
 }
 
 impl Looker {
@@ -114,6 +130,7 @@ impl Looker {
             bytes: Vec::new(alloc),
             base: 0,
             at: 0,
+            memo: Memo::new(alloc),
         }
     }
 
@@ -160,15 +177,42 @@ impl Looker {
         }
     }
 
-    /// How far the next turn looks, which begins in this condition. None where it is not among the bytes held.
-    fn look(&self, condition: u8) -> Option<Look>
-        ensures { IfSome result (λ look. (given : List ℕ) (at : ℕ) → Holds given at self.now → (at ≤ length given)
-            × Looks (looker_machine self.now) ((looker_machine self.now).start condition (at_line_start given at))
+    /// How far the next turn looks, which begins in this condition and has a text of so many bytes. None where it is not among the
+    /// bytes held.
+    fn look(&mut self, condition: u8, text: usize) -> Option<Look>
+        requires { IsHeld self.old }
+        ensures machine { looker_machine self.new ≡ looker_machine self.old }
+        ensures holds { (given : List ℕ) (at : ℕ) → Holds given at self.old → Holds given at self.new }
+        ensures looks { IfSome result (λ look. (given : List ℕ) (at : ℕ) → Holds given at self.old → (at ≤ length given)
+            × Looks (looker_machine self.old) ((looker_machine self.old).start condition (at_line_start given at))
             (drop at given) look) }
     {
-        match self.next_turn(condition) {
-            None => None,
-            Some(turn) => Some(look_over(&self.machine, turn.first, turn.bytes)),
+        let Some(behind) = self.at.checked_sub(self.base) else {
+            return None;
+        };
+        let behind = behind as usize;
+        if behind > self.bytes.len() {
+            return None;
+        }
+        let Some(line_start) = self.line_start(behind) else {
+            return None;
+        };
+        let first = start_in(&self.machine, condition, line_start);
+        let near = text.saturating_add(NEAR);
+        let ahead = &self.bytes[behind..];
+        match look_near(&self.machine, first, ahead, near) {
+            Some(look) => Some(look),
+            None => Some(look_far(&self.machine, &mut self.memo, first, self.at, ahead, near)),
+        }
+    }
+
+    /// Gives the memory of what is known back where few bytes are held.
+    fn forget(&mut self)
+        ensures machine { looker_machine self.new ≡ looker_machine self.old }
+        ensures holds { (given : List ℕ) (at : ℕ) → Holds given at self.old → Holds given at self.new }
+    {
+        if self.bytes.len() <= NEAR {
+            self.memo.clear();
         }
     }
 
@@ -184,27 +228,33 @@ impl Looker {
         if self.bytes.len() as u64 - done <= done {
             drop_front(&mut self.bytes, done as usize);
             self.base += done;
+            self.forget();
         }
     }
 
     /// How many bytes the next turn looks at behind its text, which begins in this condition and ends here. None where it asks for
     /// more of the input than was fed.
-    fn beyond(&self, condition: u8, end: u64, finished: bool) -> Option<u64>
-        ensures { IfSome result (λ beyond. (given : List ℕ) (at : ℕ) (x : List ℕ) (c : TurnCost) → Holds given at self.now
+    fn beyond(&mut self, condition: u8, end: u64, finished: bool) -> Option<u64>
+        requires { IsHeld self.old }
+        ensures machine { looker_machine self.new ≡ looker_machine self.old }
+        ensures holds { (given : List ℕ) (at : ℕ) → Holds given at self.old → Holds given at self.new }
+        ensures looks { IfSome result (λ beyond. (given : List ℕ) (at : ℕ) (x : List ℕ) (c : TurnCost) → Holds given at self.old
             → Consistent given finished x → c.token.condition ≡ condition → c.token.end ≡ end → c.beyond ≡ beyond
-            → IsCost (rules_of_machine (looker_machine self.now)) x at c) }
+            → IsCost (rules_of_machine (looker_machine self.old)) x at c) }
     {
-        let Some(look) = self.look(condition) else {
+        let text = end.saturating_sub(self.at);
+        let Some(look) = self.look(condition, text as usize) else {
             return None;
         };
         if !is_all_there(look, finished) {
             return None;
         }
-        Some((look.count as u64).saturating_sub(end.saturating_sub(self.at)))
+        Some((look.count as u64).saturating_sub(text))
     }
 
     /// The same of the turn of a token. The next one begins behind its text.
     pub(crate) fn pass(&mut self, token: PulledToken, finished: bool) -> Option<u64>
+        requires { IsHeld self.old }
         ensures machine { looker_machine self.new ≡ looker_machine self.old }
         ensures passed { IfSome result (λ beyond. (given : List ℕ) (at : ℕ) → Holds given at self.old
             → Holds given (whole_token token).end self.new

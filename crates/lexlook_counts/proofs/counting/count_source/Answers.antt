@@ -4,7 +4,7 @@ use Rattle.lextab_packed.specs.FlatViews.{tables_of}
 use Rattle.lextab_packed.specs.Machines.{table_machine}
 use Rattle.lexlook_counts.specs.Costs.{tokens_in}
 use Rattle.lexlook_counts.specs.Counting.{CountsOn}
-use Rattle.lexlook_counts.proofs.Fed.{by_memory, few_ends, fresh, has_told}
+use Rattle.lexlook_counts.proofs.Fed.{by_memory, few_ends, fresh}
 use Rattle.lexlook_counts.proofs.counting.count_source.Goals as goal
 
 pub steps-init : goal.steps-init
@@ -24,10 +24,8 @@ steps-init g c =
       counts_given_up = f.none_given_up;
     }
 
-pub step-requires-clause-told : goal.step-requires-clause-told
-step-requires-clause-told g c =
-    let h = c.steps.invariant in
-    has_told g.S.Source.gave g.S.Source.ends g.S.Source.failures (table_machine (tables_of c.args.machines.scans)) c.args.source.now c.steps.source h.given (tokens_in h.costs) c.steps.scan.reader h.read
+pub step-requires-clause-counted : goal.step-requires-clause-counted
+step-requires-clause-counted g c = (table_machine (tables_of c.args.machines.scans), table_machine (tables_of c.args.machines.looks), c.args.rules, c.args.conditions, c.args.source.now, c.steps.invariant)
 
 pub step-requires-clause-ends : goal.step-requires-clause-ends
 step-requires-clause-ends g c =

@@ -1,6 +1,6 @@
-use Rattle.std.proofs.Common.{arith, codes, inl, inr, refl}
+use Rattle.std.proofs.Common.{arith, codes, inl, inr, refl, sym, true≢false}
 use Rattle.std.specs.Fmt.{digits}
-use Rattle.lexlook_counts.proofs.Exampled.{three_reach}
+use Rattle.lexlook_counts.proofs.Exampled.{one≢zero, over_one, over_two, stopped_none, three_reach}
 use Rattle.lexlook_counts.proofs.laws.examples_of_counts.Goals as goal
 
 pub returns : goal.returns
@@ -25,4 +25,12 @@ returns c = record {
   none = refl;
   placed = refl;
   json = refl;
+  walks = record {
+    marked = record { inside = omega arith; goes = (refl, λ some. refl, over_two); known = omega arith };
+    elsewhere = λ h. true≢false (sym (h.goes.2 1 (omega arith) (omega arith)));
+    too_near = λ h. one≢zero (sym h.goes.0);
+    stopped = record { inside = omega arith; goes = (refl, λ some. refl, over_two); known = omega arith; walked = omega arith; stops = inr (omega arith, refl) };
+    ended = record { inside = omega arith; goes = (refl, λ some. refl, over_one); known = omega arith; walked = omega arith; stops = inl refl };
+    not_yet = λ h. stopped_none h.stops;
+  };
 }
