@@ -15,6 +15,11 @@ use Rattle.lexlook_counts.specs.Counting.{HasCounted}
 use Rattle.lexlook_counts.specs.Counts.{IsTallyOf}
 use Rattle.lexlook_counts.specs.Descending.{CountsTurn}
 use Rattle.lexlook_counts.specs.GivenUp.{GivesUp, given_counts}
+use Rattle.std.proofs.Common.{Option, Some, None}
+use Rattle.std.proofs.lemmas.List.Sums.{fold-append}
+use Rattle.lexscan.specs.declared.token.Token.{Token}
+use Rattle.lexscan_window.specs.declared.matched.MatchedRule.{MatchedRule}
+use Rattle.lexlook_counts.specs.Ends.{last_rule}
 use Rattle.lexlook_counts.specs.Looking.{Holds, looker_machine}
 use Rattle.lexlook_counts.specs.Reading.{HasRead}
 use Rattle.lexlook_counts.specs.FarWalks.{AreTrueOf}
@@ -39,8 +44,8 @@ holds_more given more at l m h machine base here memo bytes = record {
 module _ {A : Type 0} (gave : A → List ℕ → A → Type 0) (ends_of reads_of : A → ℕ) (M N : Machine) (rules conditions : ℕ) (s s' : A) (c : Counter) (h : HasCounted gave ends_of reads_of M N rules conditions s s' c) where
   -- more was fed
   pub counted_more : (s'' : A) (q : Counter) (more : List ℕ) → HasRead gave ends_of reads_of M s s'' (h.given ++ more) (tokens_in h.costs) q.reader → pull_finished c.reader.scanner ≡ false
-      → looker_machine q.looker ≡ looker_machine c.looker → Holds (h.given ++ more) (end_of 0 h.costs) q.looker → q.tally ≡ c.tally → q.given_up ≡ c.given_up → HasCounted gave ends_of reads_of M N rules conditions s s'' q
-  counted_more s'' q more read going machine holds tally gives = record {
+      → looker_machine q.looker ≡ looker_machine c.looker → Holds (h.given ++ more) (end_of 0 h.costs) q.looker → q.tally ≡ c.tally → q.given_up ≡ c.given_up → q.last ≡ c.last → HasCounted gave ends_of reads_of M N rules conditions s s'' q
+  counted_more s'' q more read going machine holds tally gives same = record {
     given = h.given ++ more;
     costs = h.costs;
     read = read;
@@ -51,6 +56,7 @@ module _ {A : Type 0} (gave : A → List ℕ → A → Type 0) (ends_of reads_of
     given_up = h.given_up;
     gave_up = λ x k. h.gave_up x (subst (λ (b : Bool). Consistent h.given b x) (sym going) (goes_on_so h.given more (pull_finished q.reader.scanner) x k));
     counts_given_up = ap (λ (g : GivenUp). g.counts.items) gives ∙ h.counts_given_up;
+    last = same ∙ h.last;
   }
 
   -- a token more was told
@@ -58,8 +64,8 @@ module _ {A : Type 0} (gave : A → List ℕ → A → Type 0) (ends_of reads_of
       → looker_machine q.looker ≡ looker_machine c.looker → Holds h.given (whole_token t).end q.looker
       → ((x : List ℕ) → Consistent h.given (pull_finished q.reader.scanner) x → IsCost (rules_of_machine (looker_machine c.looker)) x (end_of 0 h.costs) (cost_by t beyond))
       → IsTallyOf rules conditions (h.costs ++ cost_by t beyond ∷ []) q.tally
-      → CountsTurn (looker_machine c.looker) h.given (end_of 0 h.costs) t.condition (pull_finished q.reader.scanner) c.given_up.counts.items q.given_up.counts.items → HasCounted gave ends_of reads_of M N rules conditions s s'' q
-  counted_one s'' q t beyond read finished machine holds looks counts turn = record {
+      → CountsTurn (looker_machine c.looker) h.given (end_of 0 h.costs) t.condition (pull_finished q.reader.scanner) c.given_up.counts.items q.given_up.counts.items → q.last ≡ Some t.rule → HasCounted gave ends_of reads_of M N rules conditions s s'' q
+  counted_one s'' q t beyond read finished machine holds looks counts turn rule = record {
     given = h.given;
     costs = h.costs ++ cost_by t beyond ∷ [];
     read = subst (λ ts. HasRead gave ends_of reads_of M s s'' h.given ts q.reader) (sym (tokens_more h.costs (cost_by t beyond))) read;
@@ -72,4 +78,5 @@ module _ {A : Type 0} (gave : A → List ℕ → A → Type 0) (ends_of reads_of
     gave_up = λ x k. given_more (rules_of_machine N) x 0 h.costs (cost_by t beyond) h.given_up turn.rules (h.gave_up x (subst (λ (b : Bool). Consistent h.given b x) finished k))
         (subst (λ (K : Machine). GivesUp (rules_of_machine K) x (end_of 0 h.costs) t.condition turn.rules) h.machine (turn.gives_up x k));
     counts_given_up = turn.counted rules (concat h.given_up) h.counts_given_up ∙ ap (given_counts rules) (sym (concat_more h.given_up turn.rules));
+    last = rule ∙ sym (ap last_rule (tokens_more h.costs (cost_by t beyond)) ∙ fold-append (λ (before : Option MatchedRule) (u : Token). Some u.rule) None (tokens_in h.costs) (whole_token t ∷ []));
   }

@@ -6,6 +6,7 @@ pub mod Placing
 pub mod Costing
 pub mod Counted
 pub mod Walked
+pub mod Endings
 pub mod Exampled
 pub mod Giving
 pub mod Passing

@@ -29,6 +29,11 @@ use Rattle.lexlook_counts.specs.declared.counting.Machines.{Machines}
 use Rattle.lexlook_counts.specs.declared.lines.CountForm.{CountForm}
 use Rattle.lexlook_counts.specs.declared.tally.Tally.{Tally}
 use Rattle.lexscan_window.specs.declared.matched.MatchedRule.TheVariants.{Numbered}
+use Rattle.std.proofs.Common.{Option, sym}
+use Rattle.lex_semantics.specs.Rules.{rules_of}
+use Rattle.lexscan_window.specs.declared.matched.MatchedRule.{MatchedRule}
+use Rattle.lexlook_counts.specs.Ends.{IsEnd, ended_in, exits_by, exits_last}
+use Rattle.lexlook_counts.proofs.Endings.{table_end}
 use Rattle.lexlook_counts.proofs.Spelled.{table_costs, table_given}
 
 -- ---- counts of faults, by the fault
@@ -71,8 +76,8 @@ recounted gave ends_of reads_of M N n m n' m' s s' r e f h =
     subst (λ (k : ℕ). CountsSource gave ends_of reads_of M N n' k s s' r) f (subst (λ (k : ℕ). CountsSource gave ends_of reads_of M N k m s s' r) e h)
 
 -- memory ran out after all turns were counted
-pub late_memory : {A : Type 0} (gave : A → List ℕ → A → Type 0) (ends_of reads_of : A → ℕ) (M N : Machine) (n m : ℕ) (s s' : A) (status : ℕ) (t : Tally) (g : List ℕ) → CountsAll gave ends_of reads_of M N n m s s' status t g → CountingStops gave ends_of reads_of M N n m s s' runs.OutOfMemory
-late_memory gave ends_of reads_of M N n m s s' status t g h = (
+pub late_memory : {A : Type 0} (gave : A → List ℕ → A → Type 0) (ends_of reads_of : A → ℕ) (M N : Machine) (n m : ℕ) (s s' : A) (status : ℕ) (t : Tally) (g : List ℕ) (rule : Option MatchedRule) (condition : ℕ) → CountsAll gave ends_of reads_of M N n m s s' status t g rule condition → CountingStops gave ends_of reads_of M N n m s s' runs.OutOfMemory
+late_memory gave ends_of reads_of M N n m s s' status t g rule condition h = (
   h.given,
   h.at_end,
   record {
@@ -123,6 +128,8 @@ module _ {A B : Type 0} (gave : A → List ℕ → A → Type 0) (ends_of reads_
     gave_up = λ x c. table_given (table_machine (tables_of f.scans)) (table_machine (tables_of f.looks)) S sound made.scans.table made.looks.table x h.counted.costs h.counted.given_up (Status status) c.0 (h.counted.read.all x c) (h.counted.gave_up x c);
     counts = h.counted.counts;
     counts_given_up = h.counted.given_up_is;
+    ended = λ x c. subst (λ (rule : Option MatchedRule). IsEnd (rules_of S) x (ended_in (exits_last (exits_by (rules_of S)) rule) h.counts.condition)) (sym h.counted.last)
+        (table_end (table_machine (tables_of f.scans)) (laws_of (tables_of f.scans)) S sound made.scans.table x (tokens_in h.counted.costs) status h.counts.condition c.0 (h.counted.read.all x c) (h.counted.comes x c));
     written = h.written;
   }
 

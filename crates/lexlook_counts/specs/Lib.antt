@@ -4,6 +4,7 @@ pub mod CountExamples
 pub mod Costs
 pub mod Counting
 pub mod Descending
+pub mod Ends
 pub mod GivenUp
 pub mod GivenUpExamples
 pub mod Looking

@@ -16,6 +16,7 @@ use Rattle.lexscan.specs.declared.token.Token.{Token}
 use Rattle.lexscan_window.specs.Reads.{read_fault_count}
 use Rattle.lexscan_window.specs.declared.error.RunError.{RunError}
 use Rattle.lexscan_window.specs.declared.error.RunError.TheVariants as runs
+use Rattle.lexlook_counts.specs.Ends.{ComesToSo}
 use Rattle.lexlook_counts.specs.declared.reading.Read.{Read}
 use Rattle.lexlook_counts.specs.declared.reading.Read.TheVariants as reads
 use Rattle.lexlook_counts.specs.declared.reading.TokenReader.{TokenReader}
@@ -26,6 +27,10 @@ reader_machine r = table_machine (tables_of (pull_machine r.scanner))
 
 abbrev pub text_read : TokenReader → List ℕ
 text_read r = pull_text r.scanner
+
+-- the condition of the next turn, or of the last one
+abbrev pub condition_read : TokenReader → ℕ
+condition_read r = (pull_state r.scanner).place.condition
 
 -- Nothing was fed.
 pub record IsNew (M : Machine) (r : TokenReader) : Type 0 where
@@ -99,7 +104,8 @@ module _ {A : Type 0} (gave : A → List ℕ → A → Type 0) (ends_of reads_of
     pub stops : StopsBy (given ++ more) at_end e
 
   -- What asking for the next token leaves, and what is kept then of the source: one token more, whose text is that part
-  -- of what the source gave; or more of the source, which is kept; or all tokens; or a fault.
+  -- of what the source gave; or more of the source, which is kept; or all tokens, and the
+  -- condition that the scan has come to; or a fault.
   abbrev pub ReadsOn : List ℕ → List Token → TokenReader → TokenReader → List ℕ → List ℕ → Result Read RunError → Type 0
   ReadsOn given tokens q r kept kept' (Ok (reads.Token t)) =
       HasRead given (tokens ++ whole_token t ∷ []) r × (text_read r ≡ part given t.start (t.start + t.length))
@@ -108,4 +114,5 @@ module _ {A : Type 0} (gave : A → List ℕ → A → Type 0) (ends_of reads_of
       (more : List ℕ) × HasRead (given ++ more) tokens r × (pull_finished q.scanner ≡ false) × (kept' ≡ kept ++ more)
   ReadsOn given tokens q r kept kept' (Ok (reads.Ended status)) =
       HasReadAll given (pull_finished q.scanner) tokens status
+      × ComesToSo (rules_of_machine M) given (pull_finished q.scanner) tokens (condition_read r)
   ReadsOn given tokens q r kept kept' (Err e) = StopsBehind given tokens e

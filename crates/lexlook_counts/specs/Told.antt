@@ -1,6 +1,6 @@
 -- What telling the counts of a scan of a source leaves. (POSIX, lex, Rules in lex: which matches these are; the rest is
 -- this project's.)
-use Rattle.std.specs.Prelude.{◌≡◌, ℕ, ◌+◌, Bool, List, length, map, Result, Ok, Err}
+use Rattle.std.specs.Prelude.{◌≡◌, ℕ, ◌+◌, Bool, List, length, map, Result, Ok, Err, ◌++◌, Option}
 use Rattle.std.specs.List.{concat}
 use Rattle.lex_io.specs.Sink.{Appended}
 use Rattle.lex_semantics.specs.Acting.{Status}
@@ -22,11 +22,12 @@ use Rattle.lexkit.specs.Headline.{IsWithin, Refusal, reading}
 use Rattle.lexkit.specs.declared.errors.ScanError.{ScanError}
 use Rattle.lexkit.specs.declared.errors.ScanError.TheVariants.{Generate, Run, Table}
 use Rattle.lexkit.specs.declared.options.Options.{Options}
-use Rattle.lexlook_counts.specs.CountLines.{count_lines}
+use Rattle.lexlook_counts.specs.CountLines.{count_lines, end_line}
 use Rattle.lexlook_counts.specs.Costs.{CostsSo, TurnCost, tokens_in}
 use Rattle.lexlook_counts.specs.Counting.{CountingStops, CountsAll}
 use Rattle.lexlook_counts.specs.Counts.{IsTallyOf}
 use Rattle.lexlook_counts.specs.GivenUp.{GivenUpSo, given_counts}
+use Rattle.lexlook_counts.specs.Ends.{EndsSo, ended_in, exits_by, exits_last}
 use Rattle.lexlook_counts.specs.Reading.{FaultsSo}
 use Rattle.lexlook_counts.specs.declared.counting.Counted.{Counted}
 use Rattle.lexlook_counts.specs.declared.counting.Machines.{Machines}
@@ -42,9 +43,15 @@ pub record AreMadeFor (limits : Limits) (S : Spec) (m : Machines) : Type 0 where
   pub scans : IsMadeFor limits S m.scans
   pub looks : IsMadeFor limits S m.looks
 
+-- in which condition the end of the input was met, by the last rule and the last condition
+abbrev pub ended_by : Spec → Counted → Option ℕ
+ended_by S c = ended_in (exits_last (exits_by (rules_of S)) c.last) c.condition
+
 -- the lines of the counts of a specification's scan
 abbrev pub lines_for : CountForm → Spec → Counted → List ℕ
-lines_for form S c = count_lines form (rejects S) (lines_of S.rules) (map (λ c. c.name) S.conditions) c
+lines_for form S c =
+    let names = map (λ c. c.name) S.conditions in
+    count_lines form (rejects S) (lines_of S.rules) names c ++ end_line form names (ended_by S c)
 
 -- What the calls of the source from s to s' gave, and what those of the sink from t to t' wrote, where a machine scans
 -- for a specification, and another tells how far its turns look.
@@ -54,7 +61,7 @@ module _ {A B : Type 0} (gave : A → List ℕ → A → Type 0) (ends_of reads_
   pub record LinesTold (status : ℕ) (answer : Result ℕ RunError) : Type 0 where
     pub counts : Counted
     pub counted : CountsAll gave ends_of reads_of M N (length S.rules) (length S.conditions) s s' status counts.tally
-        counts.given_up.items
+        counts.given_up.items counts.last counts.condition
     pub written : Appended (λ xs. wrote t xs t') (lines_for form S counts) answer
 
   -- after another fault nothing was written
@@ -85,6 +92,7 @@ module _ {A B : Type 0} (gave : A → List ℕ → A → Type 0) (ends_of : A �
     pub gave_up : GivenUpSo (rules_of spec) given at_end costs given_up
     pub counts : IsTallyOf (length spec.rules) (length spec.conditions) costs counted.tally
     pub counts_given_up : counted.given_up.items ≡ given_counts (length spec.rules) (concat given_up)
+    pub ended : EndsSo (rules_of spec) given at_end (ended_by spec counted)
     pub written : Appended (λ xs. wrote t xs t') (lines_for form spec counted) answer
 
   -- The scan stopped, and nothing was written. Where the stack of conditions is at fault, it is so in the scan by a

@@ -11,6 +11,7 @@ use crate::looking::Looker;
 use crate::reading::{Read, TokenReader};
 use crate::tally::Tally;
 use lexscan::{RunError, Source};
+use lexscan_window::MatchedRule;
 use lextab_packed::Flat;
 use std::alloc::{AllocError, Global};
 
@@ -28,6 +29,8 @@ struct Counter {
     looker: Looker,
     tally: Tally,
     given_up: GivenUp,
+    /// The rule of the last of these.
+    last: Option<MatchedRule>,
 }
 
 /// The counts of all turns, how often each rule was given up, and the status that the scan ends with.
@@ -35,6 +38,10 @@ struct Counter {
 pub(crate) struct Counted {
     pub(crate) tally: Tally,
     pub(crate) given_up: Vec<u64>,
+    /// The rule of the last turn with a match.
+    pub(crate) last: Option<MatchedRule>,
+    /// The start condition in which the scan ends.
+    pub(crate) condition: u8,
     pub(crate) status: u8,
 }
 
@@ -57,6 +64,7 @@ impl Counter {
             looker: Looker::new(alloc, looks),
             tally,
             given_up,
+            last: None,
         })
     }
 
@@ -85,6 +93,7 @@ impl Counter {
                     None => Err(RunError::OutOfMemory),
                     Some(beyond) => {
                         self.tally.count(token, beyond);
+                        self.last = Some(token.rule);
                         Ok(None)
                     }
                 }
@@ -114,15 +123,19 @@ pub(crate) fn count_source<S: Source>(
         match scan.step(source) {
             Ok(None) => {}
             Ok(Some(status)) => {
+                let condition = scan.reader.condition();
                 let Counter {
                     reader: _reader,
                     looker: _looker,
                     tally,
                     given_up,
+                    last,
                 } = scan;
                 return Ok(Counted {
                     tally,
                     given_up: given_up.counts,
+                    last,
+                    condition,
                     status,
                 });
             }

@@ -6,6 +6,7 @@
 //! - `given_up`: how often the matches of each rule are given up by REJECT, `GivenUp`.
 //! - `reading`: a scan that reads a source, and is asked for its tokens one by one, `TokenReader`.
 //! - `counting`: the same to its end, with the counts of the turns, `count_source`.
+//! - `ending`: in which condition the scan comes to the end of its input.
 //! - `lines`: the lines of the counts, in columns or as JSON.
 //! - `telling`: the whole for a text and a source, `tell_counts`.
 //! - `places`: a line for each token, as they come, `tell_places`.
@@ -37,6 +38,7 @@
 #![tactic(auto)]
 
 mod counting;
+mod ending;
 mod given_up;
 mod laws;
 mod lines;

@@ -1,8 +1,8 @@
 //! The lines in which counts are told.
-ghost use Rattle.std.specs.Prelude.{◌≡◌, ◌++◌, IfOk, OnOk, length, map};
+ghost use Rattle.std.specs.Prelude.{◌≡◌, ◌++◌, [], IfOk, OnOk, length, map, slice_index_or};
 ghost use Rattle.lexlook_counts.specs.CountLines.{column, condition_lines, kind_line, count_lines, count_columns, json_field, json_last, json_line};
 ghost use Rattle.lexlook_counts.specs.CountLines.{counted_subject, kind_lines, last_columns, matched_line, never_line, never_tried, numbered_lines};
-ghost use Rattle.lexlook_counts.specs.CountLines.{rule_heads, turn_line};
+ghost use Rattle.lexlook_counts.specs.CountLines.{end_line, rule_heads, turn_line};
 ghost use Rattle.lexlook_counts.specs.GivenUp.{given_where};
 
 use crate::counting::Counted;
@@ -283,6 +283,45 @@ fn add_conditions(
         add_turns(text, form, names[condition], turns[condition])?;
     }
     Ok(())
+}
+
+/// The name of a condition, if it is one of these.
+fn name_at<'a>(names: &[&'a [u8]], condition: u8) -> &'a [u8]
+    ensures { result.now ≡ slice_index_or (map (λ n. n.now) names.now) condition [] }
+{
+    let condition = usize::from(condition);
+    if condition < names.len() {
+        names[condition]
+    } else {
+        b""
+    }
+}
+
+/// Appends the line of the condition, one of these names, in which the end of the input was met.
+pub(crate) fn add_end(
+    text: &mut Vec<u8>,
+    form: CountForm,
+    names: &[&[u8]],
+    ended: Option<u8>,
+) -> Result<(), AllocError>
+    ensures { OnOk result (text.new.items ≡ text.old.items ++ end_line form (map (λ n. n.now) names.now) ended) }
+{
+    let Some(condition) = ended else {
+        return add(text, b"");
+    };
+    let name = name_at(names, condition);
+    match form {
+        CountForm::Columns => {
+            add(text, b"end: ")?;
+            add(text, name)?;
+            add(text, b"\n")
+        }
+        CountForm::Json => {
+            add(text, b"{\"end\":\"")?;
+            add(text, name)?;
+            add(text, b"\"}\n")
+        }
+    }
 }
 
 /// What stands above the counts of rules.

@@ -7,7 +7,7 @@ ghost use Rattle.lexscan.specs.declared.token.Token.{Token as TokenModel};
 ghost use Rattle.lexscan_window.specs.Reads.{read_fault_count};
 ghost use Rattle.lextab_packed.specs.FlatViews.{tables_of};
 ghost use Rattle.lextab_packed.specs.Machines.{table_machine};
-ghost use Rattle.lexlook_counts.specs.Reading.{Feeds, HasRead, HasTold, IsNew, ReadsOn, reader_machine, text_read};
+ghost use Rattle.lexlook_counts.specs.Reading.{Feeds, HasRead, HasTold, IsNew, ReadsOn, condition_read, reader_machine, text_read};
 
 use lexscan::{PullScanner, Pulled, PulledToken, RunError, Source};
 use lextab_packed::Flat;
@@ -128,6 +128,13 @@ impl TokenReader {
         ensures { result ≡ pull_finished self.now.scanner }
     {
         self.scanner.is_finished()
+    }
+
+    /// The start condition of the next turn; after the end that in which the scan has ended.
+    pub(crate) fn condition(&self) -> u8
+        ensures { result ≡ condition_read self.now }
+    {
+        self.scanner.condition()
     }
 
     /// The text of the token that was read last.

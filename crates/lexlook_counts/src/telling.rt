@@ -12,7 +12,8 @@ ghost use Rattle.lexspec_actions.specs.Views.{condition_of};
 ghost use Rattle.lexlook_counts.specs.Told.{AreMadeFor, IsMadeFor, TellsCounts, TellsOf, lines_for};
 
 use crate::counting::{Counted, Machines, count_source};
-use crate::lines::{CountForm, count_lines};
+use crate::ending::ended_by;
+use crate::lines::{CountForm, add_end, count_lines};
 use lexkit::{
     Flat, GenError, Limits, Options, RunError, ScanError, Sink, Source, least_automaton, lines_of,
     read_text,
@@ -78,7 +79,9 @@ fn lines_for(
 {
     let names = names_of(alloc, spec.conditions())?;
     let lines = lines_of(alloc, spec.rules())?;
-    count_lines(alloc, form, spec.rejects(), &lines, &names, counted)
+    let mut text = count_lines(alloc, form, spec.rejects(), &lines, &names, counted)?;
+    add_end(&mut text, form, &names, ended_by(spec, counted))?;
+    Ok(text)
 }
 
 /// Counts the turns of a scan of a source by a specification, and writes the lines.

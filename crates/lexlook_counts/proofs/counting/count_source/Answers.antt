@@ -1,9 +1,9 @@
-use Rattle.std.proofs.Common.{◌≡◌, ℕ, ◌+◌, [], Ok, Option, arith, false, subst}
+use Rattle.std.proofs.Common.{◌≡◌, ℕ, ◌+◌, [], Ok, Option, arith, false, subst, sym}
 use Rattle.lexscan.specs.Scanners.{pull_finished}
 use Rattle.lextab_packed.specs.FlatViews.{tables_of}
 use Rattle.lextab_packed.specs.Machines.{table_machine}
 use Rattle.lexlook_counts.specs.Costs.{tokens_in}
-use Rattle.lexlook_counts.specs.Counting.{CountsOn}
+use Rattle.lexlook_counts.specs.Counting.{CountsAll, CountsOn}
 use Rattle.lexlook_counts.proofs.Fed.{by_memory, few_ends, fresh}
 use Rattle.lexlook_counts.proofs.counting.count_source.Goals as goal
 
@@ -22,6 +22,7 @@ steps-init g c =
       given_up = [];
       gave_up = λ x k. tt;
       counts_given_up = f.none_given_up;
+      last = f.none_yet;
     }
 
 pub step-requires-clause-counted : goal.step-requires-clause-counted
@@ -39,8 +40,9 @@ pub returns-in-Ok-Some : goal.returns-in-Ok-Some
 returns-in-Ok-Some g c =
     let M = table_machine (tables_of c.args.machines.scans) in
     let N = table_machine (tables_of c.args.machines.looks) in
-    subst (λ (o : Option ℕ). CountsOn g.S.Source.gave g.S.Source.ends g.S.Source.failures M N c.args.rules c.args.conditions c.args.source.now c.step.new.source c.step.new.self (Ok o)) c.in-Ok-Some.field-0-is
-    (c.in-Ok-Some.ensures M N c.args.rules c.args.conditions c.args.source.now c.steps.invariant)
+    let all = subst (λ (o : Option ℕ). CountsOn g.S.Source.gave g.S.Source.ends g.S.Source.failures M N c.args.rules c.args.conditions c.args.source.now c.step.new.source c.step.new.self (Ok o)) c.in-Ok-Some.field-0-is
+        (c.in-Ok-Some.ensures M N c.args.rules c.args.conditions c.args.source.now c.steps.invariant) in
+    subst (λ (n : ℕ). CountsAll g.S.Source.gave g.S.Source.ends g.S.Source.failures M N c.args.rules c.args.conditions c.args.source.now c.step.new.source c.in-Ok-Some.status c.step.new.self.tally c.step.new.self.given_up.counts.items c.step.new.self.last n) (sym c.condition-condition.ensures) all
 
 pub returns-in-Err-step : goal.returns-in-Err-step
 returns-in-Err-step g c = c.in-Err-step.ensures (table_machine (tables_of c.args.machines.scans)) (table_machine (tables_of c.args.machines.looks)) c.args.rules c.args.conditions c.args.source.now c.steps.invariant

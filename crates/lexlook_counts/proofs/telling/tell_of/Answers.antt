@@ -49,7 +49,7 @@ returns-in-Err-lines_for-clause-told g c =
     let conditions = sym (length-map c.conditions-conditions.result.now condition_of) ∙ ap length c.conditions-conditions.ensures.conditions in
     let M = table_machine (tables_of c.args.machines.scans) in
     let N = table_machine (tables_of c.args.machines.looks) in (
-      late_memory g.S.Source.gave g.S.Source.ends g.S.Source.failures M N (length (rules_in S)) (length (conditions_in S)) c.args.source.now c.count_source.new.source c.in-Ok.counted.status c.in-Ok.counted.tally c.in-Ok.counted.given_up.items
+      late_memory g.S.Source.gave g.S.Source.ends g.S.Source.failures M N (length (rules_in S)) (length (conditions_in S)) c.args.source.now c.count_source.new.source c.in-Ok.counted.status c.in-Ok.counted.tally c.in-Ok.counted.given_up.items c.in-Ok.counted.last c.in-Ok.counted.condition
           (recounted g.S.Source.gave g.S.Source.ends g.S.Source.failures M N _ _ (length (rules_in S)) (length (conditions_in S)) c.args.source.now c.count_source.new.source (Ok c.in-Ok.counted) rules conditions c.in-Ok.ensures),
       refl,
     )

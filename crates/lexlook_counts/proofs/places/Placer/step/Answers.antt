@@ -33,7 +33,7 @@ pub returns-in-Ok-Ended : goal.returns-in-Ok-Ended
 returns-in-Ok-Ended g c M s0 t0 h =
     let r = c.read_on.new.self in
     let read = subst (λ (u : Read). ReadsOn g.S.Source.gave g.S.Source.ends g.S.Source.failures M s0 c.read_on.new.source h.given h.tokens c.args.self.now.reader r c.clear.new.self.items c.read_on.new.kept.items (Ok u)) c.in-Ok-Ended.field-0-is (c.in-Ok-Ended.ensures M s0 h.given h.tokens h.read) in
-    record { given = h.given; at_end = pull_finished c.args.self.now.reader.scanner; tokens = h.tokens; read = read; written = h.written; writes = h.writes }
+    record { given = h.given; at_end = pull_finished c.args.self.now.reader.scanner; tokens = h.tokens; read = read.0; written = h.written; writes = h.writes }
 
 pub returns-in-Err : goal.returns-in-Err
 returns-in-Err g c M s0 t0 h =

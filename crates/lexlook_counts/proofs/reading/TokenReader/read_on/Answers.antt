@@ -10,6 +10,7 @@ use Rattle.lextab_packed.specs.Machines.{table_machine}
 use Rattle.lextab_packed.specs.declared.flat.Flat.{Flat}
 use Rattle.lexlook_counts.specs.Reading.{reader_machine}
 use Rattle.lexlook_counts.specs.declared.reading.TokenReader.{TokenReader}
+use Rattle.lexlook_counts.proofs.Endings.{comes_from}
 use Rattle.lexlook_counts.proofs.Fed.{by_feeding, by_memory, by_stack, fed_more, pulled_by, still, stopped_here}
 use Rattle.lexlook_counts.proofs.reading.TokenReader.read_on.Goals as goal
 
@@ -47,12 +48,10 @@ returns-in-Ok-Ended g c M s0 given tokens h =
     let w = c.args.self.now in
     let s = c.next.new.self in
     let after = pulled_by (reader_machine w) M given (pull_finished w.scanner) tokens (pull_state w.scanner) (pull_state s) (pull_waiting w.scanner) (pull_waiting s) (pull_text s) (Ok c.in-Ok-Ended.field-0) (Ok (pulls.Ended c.in-Ok-Ended.status)) h.machine (ap Ok c.in-Ok-Ended.field-0-is) (c.in-Ok-Ended.ensures.pulled given tokens) h.told in
-    record {
-      source = h.source;
-      ends = h.ends;
-      reads = h.reads;
-      all = after.1;
-    }
+    (
+      record { source = h.source; ends = h.ends; reads = h.reads; all = after.1 },
+      comes_from M given (pull_finished w.scanner) tokens (pull_state s) (pull_waiting s) after.0,
+    )
 
 pub returns-in-Err-feed_on : goal.returns-in-Err-feed_on
 returns-in-Err-feed_on g c M s0 given tokens h =
