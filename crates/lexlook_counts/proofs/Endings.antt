@@ -159,9 +159,9 @@ module _ (R : Rules) (x : List ℕ) (E : MatchedRule → Bool) (tells : (rule : 
   token_ends p s u (t, inl turn, is) token status ended =
       let k = token.carries in
       let by = carried_by R (part x p.place.start p.place.at) (drop p.place.at x) k.passed token.taken [] p.place.condition p.place.stack token.outcome
-          (sym (results_are R _ _ k.passed [] p.place.condition p.place.stack) ∙ k.rejected) (sym (results_are R _ _ (k.passed ++ token.taken ∷ []) [] p.place.condition p.place.stack) ∙ k.carried) in
+      (sym (results_are R _ _ k.passed [] p.place.condition p.place.stack) ∙ k.rejected) (sym (results_are R _ _ (k.passed ++ token.taken ∷ []) [] p.place.condition p.place.stack) ∙ k.carried) in
       let end : token.outcome.ended ≡ Some (Status status) =
-          ap (λ (a : Acting). a.ended) (sym (one_outcome R x p.place t token.taken token.outcome turn k)) ∙ sym (ap (λ (w : State). w.ended) turn.leaves) ∙ sym (ap (λ (w : State). w.ended) is) ∙ ended in
+      ap (λ (a : Acting). a.ended) (sym (one_outcome R x p.place t token.taken token.outcome turn k)) ∙ sym (ap (λ (w : State). w.ended) turn.leaves) ∙ sym (ap (λ (w : State). w.ended) is) ∙ ended in
       sym (tells u.rule token.taken.rule token.rule_is) ∙ ends_so (statements_of R token.taken.rule) by.0 token.outcome status by.1 end
 
   token_goes : (p s : State) (u : Token) → NextFrom R x p None s → IsToken R x p.place u → s.ended ≡ None → E u.rule ≡ false
@@ -169,9 +169,9 @@ module _ (R : Rules) (x : List ℕ) (E : MatchedRule → Bool) (tells : (rule : 
   token_goes p s u (t, inl turn, is) token going =
       let k = token.carries in
       let by = carried_by R (part x p.place.start p.place.at) (drop p.place.at x) k.passed token.taken [] p.place.condition p.place.stack token.outcome
-          (sym (results_are R _ _ k.passed [] p.place.condition p.place.stack) ∙ k.rejected) (sym (results_are R _ _ (k.passed ++ token.taken ∷ []) [] p.place.condition p.place.stack) ∙ k.carried) in
+      (sym (results_are R _ _ k.passed [] p.place.condition p.place.stack) ∙ k.rejected) (sym (results_are R _ _ (k.passed ++ token.taken ∷ []) [] p.place.condition p.place.stack) ∙ k.carried) in
       let open_end : token.outcome.ended ≡ None =
-          ap (λ (a : Acting). a.ended) (sym (one_outcome R x p.place t token.taken token.outcome turn k)) ∙ sym (ap (λ (w : State). w.ended) turn.leaves) ∙ sym (ap (λ (w : State). w.ended) is) ∙ going in
+      ap (λ (a : Acting). a.ended) (sym (one_outcome R x p.place t token.taken token.outcome turn k)) ∙ sym (ap (λ (w : State). w.ended) turn.leaves) ∙ sym (ap (λ (w : State). w.ended) is) ∙ going in
       sym (tells u.rule token.taken.rule token.rule_is) ∙ goes_so (statements_of R token.taken.rule) by.0 token.outcome by.1 open_end
 
   -- a turn at the end of the input ends the scan, in the same condition
@@ -323,6 +323,6 @@ table_end M laws S sound table x us status condition text all (n, s, turns, toke
     let Q = rules_of S in
     let alike = table_alike M S sound table in
     let tells : (rule : MatchedRule) (i : ℕ) → IsRule R.count (Some rule) i → exits (statements_of R i) ≡ exits_by Q rule = λ rule i at.
-        (ap exits (same_statements (rejects S) R Q alike i) ∙ by_rule Q rule i (subst (λ (c : ℕ). IsRule c (Some rule) i) table.count at)) in
+    (ap exits (same_statements (rejects S) R Q alike i) ∙ by_rule Q rule i (subst (λ (c : ℕ). IsRule c (Some rule) i) table.count at)) in
     end_to R Q x (same_over M laws S sound table x text) _
     (subst (λ (c : ℕ). IsEnd R x (ended_in (exits_last (exits_by Q) (last_rule us)) c)) is (end_of_scan R x (exits_by Q) tells us status n s all turns tokens))

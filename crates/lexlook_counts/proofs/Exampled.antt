@@ -38,6 +38,7 @@ at_three = candidates_are (E.many_or_two true) 0 true (codes "aaa") _ refl
 pub at_one : Candidates (rules_of (E.many_or_two true)) 0 false (codes "a") (whole 1 0 ∷ whole 1 2 ∷ [])
 unfolding has set_of single
 at_one = candidates_are (E.many_or_two true) 0 false (codes "a") _ refl
+
 -- the machine goes on after each letter a
 pub over_two : (i : ℕ) → 1 ≤ i → i < 3 → letters_machine.goes_on (walk letters_machine 1 (take i (codes "aab"))) ≡ true
 over_two zero some lt = absurd (omega (arith, some))

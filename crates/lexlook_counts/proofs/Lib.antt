@@ -11,3 +11,4 @@ pub mod Exampled
 pub mod Giving
 pub mod Passing
 pub mod Turns
+pub mod Rejecting

@@ -145,17 +145,7 @@ module _ (M : Machine) (states : ℕ) where
       let fits : m.count ≤ length (drop m.place given) = (let i = is.inside in omega (arith, i, length-drop m.place given)) in
       (subst (λ u. Went M m.state u m.count m.last m.before) rest (went_of M m.state (drop m.place given) m.count m.last m.before fits is.goes), is.known)
 
-  -- a walk that ends where it was walked to
-  pub far_walk_here : (first : ℕ) (w : List ℕ) (n last before : ℕ) → Went M first w n last before → last < states → (n ≡ length w) ⊎ ((1 ≤ n) × (M.goes_on last ≡ false)) → IsFarWalk M states first w (record { count = n; state = last; before = before; seen = n })
-  far_walk_here first w n last before h known stops = record {
-    inside = h.inside;
-    goes = over_of M first w n last before h.inside h;
-    known = known;
-    walked = omega arith;
-    stops = stops;
-  }
-
-  -- or where a mark leads
+  -- a walk that ends where a mark says
   pub far_walk_told : (first : ℕ) (w : List ℕ) (place n last before : ℕ) (ms : List Mark) (m : Mark) → AreTrueFrom M states place w ms → Among ms m → m.state ≡ last → m.place ≡ place + n → 1 ≤ m.count → 1 ≤ n → Went M first w n last before → M.goes_on last ≡ true →
       (m.count ≡ length w - n) ⊎ (M.goes_on m.last ≡ false) → IsFarWalk M states first w (record { count = n + m.count; state = m.last; before = m.before; seen = n })
   far_walk_told first w place n last before ms m marks a same at more some h goes stops =

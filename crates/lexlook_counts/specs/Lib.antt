@@ -7,6 +7,7 @@ pub mod Descending
 pub mod Ends
 pub mod GivenUp
 pub mod GivenUpExamples
+pub mod GivenUpLaws
 pub mod Looking
 pub mod Places
 pub mod Reading

@@ -10,7 +10,7 @@
 //! - `lines`: the lines of the counts, in columns or as JSON.
 //! - `telling`: the whole for a text and a source, `tell_counts`.
 //! - `places`: a line for each token, as they come, `tell_places`.
-//! - `laws`: worked examples of counts.
+//! - `laws`: worked examples of counts, and the law that what is given up is what is rejected.
 //!
 //! It promises that the counts are those of all turns of the scan of the source by the specification that the text spells
 //! (`specs/Counts`, `specs/Costs`, `specs/GivenUp`), and each byte of the lines (`specs/CountLines`). How a line looks may be changed with
@@ -49,7 +49,7 @@ mod tally;
 mod telling;
 mod walking;
 
-pub use laws::{examples_of_counts, examples_of_given_up};
+pub use laws::{examples_of_counts, examples_of_given_up, gives_up_rejected};
 pub use lines::CountForm;
 pub use places::tell_places;
 pub use tally::{RuleCount, Tally};

@@ -41,7 +41,7 @@ returns-in-Ok-Some g c =
     let M = table_machine (tables_of c.args.machines.scans) in
     let N = table_machine (tables_of c.args.machines.looks) in
     let all = subst (λ (o : Option ℕ). CountsOn g.S.Source.gave g.S.Source.ends g.S.Source.failures M N c.args.rules c.args.conditions c.args.source.now c.step.new.source c.step.new.self (Ok o)) c.in-Ok-Some.field-0-is
-        (c.in-Ok-Some.ensures M N c.args.rules c.args.conditions c.args.source.now c.steps.invariant) in
+    (c.in-Ok-Some.ensures M N c.args.rules c.args.conditions c.args.source.now c.steps.invariant) in
     subst (λ (n : ℕ). CountsAll g.S.Source.gave g.S.Source.ends g.S.Source.failures M N c.args.rules c.args.conditions c.args.source.now c.step.new.source c.in-Ok-Some.status c.step.new.self.tally c.step.new.self.given_up.counts.items c.step.new.self.last n) (sym c.condition-condition.ensures) all
 
 pub returns-in-Err-step : goal.returns-in-Err-step

@@ -23,9 +23,9 @@ module _ (M : Machine) (s0 : ℕ) (w : List ℕ) (k : ℕ) (low : k < length w) 
   pub state_one : (s t : ℕ) → s ≡ walk M s0 (take k w) → t ≡ M.next s (get_or w k 0) → t ≡ walk M s0 (take (k + 1) w)
   state_one s t was is = is ∙ ap (λ (q : ℕ). M.next q (get_or w k 0)) was ∙ sym (walk-append M s0 (take k w) (get_or w k 0 ∷ [])) ∙ ap (walk M s0) (sym (take_more w k 0 low))
 
-  pub path_one : (s t : ℕ) (path : List ℕ) → s ≡ walk M s0 (take k w) → t ≡ M.next s (get_or w k 0) → path ≡ trail_from M s0 (take k w) → path ++ t ∷ [] ≡ trail_from M s0 (take (k + 1) w)
-  path_one s t path was is e =
-      ap (λ (l : List ℕ). l ++ t ∷ []) e ∙ ap (λ (q : ℕ). trail_from M s0 (take k w) ++ q ∷ []) (is ∙ ap (λ (q : ℕ). M.next q (get_or w k 0)) was) ∙ sym (path_snoc M s0 (get_or w k 0) (take k w)) ∙ ap (trail_from M s0) (sym (take_more w k 0 low))
+  pub path_one : (s t : ℕ) (path next : List ℕ) → s ≡ walk M s0 (take k w) → t ≡ M.next s (get_or w k 0) → path ≡ trail_from M s0 (take k w) → next ≡ path ++ t ∷ [] → next ≡ trail_from M s0 (take (k + 1) w)
+  path_one s t path next was is e more =
+      more ∙ ap (λ (l : List ℕ). l ++ t ∷ []) e ∙ ap (λ (q : ℕ). trail_from M s0 (take k w) ++ q ∷ []) (is ∙ ap (λ (q : ℕ). M.next q (get_or w k 0)) was) ∙ sym (path_snoc M s0 (get_or w k 0) (take k w)) ∙ ap (trail_from M s0) (sym (take_more w k 0 low))
 
 -- how long a path is
 long : (M : Machine) (s0 : ℕ) (w path : List ℕ) (k : ℕ) → k ≤ length w → path ≡ trail_from M s0 (take k w) → length path ≡ k
@@ -58,8 +58,8 @@ returns-then-not-goes_on-clause-path g c =
     let k = c.loop-place.place in
     let w = c.args.bytes.now in
     let h = c.loop-place.invariant in
-    path_stops M c.args.first w k c.loop-place-test.true c.step-state.result c.push.new.self.items (state_one M c.args.first w k c.loop-place-test.true _ _ h.walked c.step-state.ensures.state)
-    (c.in_ok-push.ensures.items ∙ path_one M c.args.first w k c.loop-place-test.true _ _ c.loop-place.path.items h.walked c.step-state.ensures.state h.path) (sym c.goes_on.ensures ∙ c.if-not-goes_on.true)
+    path_stops M c.args.first w k c.loop-place-test.true c.step-state.result c.push.new.self.items (state_one M c.args.first w k c.loop-place-test.true c.loop-place.state c.step-state.result h.walked c.step-state.ensures.state)
+    (path_one M c.args.first w k c.loop-place-test.true c.loop-place.state c.step-state.result c.loop-place.path.items c.push.new.self.items h.walked c.step-state.ensures.state h.path c.in_ok-push.ensures.items) (sym c.goes_on.ensures ∙ c.if-not-goes_on.true)
 
 pub returns-then-not-goes_on-clause-states : goal.returns-then-not-goes_on-clause-states
 returns-then-not-goes_on-clause-states g c =
@@ -73,8 +73,8 @@ loop-place-preserved g c =
     let h = c.loop-place.invariant in
     record {
       known = c.step-state.ensures.known;
-      walked = state_one M c.args.first w k c.loop-place-test.true _ _ h.walked c.step-state.ensures.state;
-      path = c.in_ok-push.ensures.items ∙ path_one M c.args.first w k c.loop-place-test.true _ _ c.loop-place.path.items h.walked c.step-state.ensures.state h.path;
+      walked = state_one M c.args.first w k c.loop-place-test.true c.loop-place.state c.step-state.result h.walked c.step-state.ensures.state;
+      path = path_one M c.args.first w k c.loop-place-test.true c.loop-place.state c.step-state.result c.loop-place.path.items c.push.new.self.items h.walked c.step-state.ensures.state h.path c.in_ok-push.ensures.items;
       all_known = one_below (g.M.Machine.states c.args.machine.now) c.loop-place.path.items c.step-state.result c.push.new.self.items c.in_ok-push.ensures.items h.all_known c.step-state.ensures.known;
     }
 

@@ -1,5 +1,6 @@
 use Rattle.std.proofs.Common.{arith, codes, inl, inr, refl, sym, true≢false}
 use Rattle.std.specs.Fmt.{digits}
+use Rattle.lex_semantics.specs.Run.{first_state}
 use Rattle.lexlook_counts.proofs.Exampled.{one≢zero, over_one, over_two, stopped_none, three_reach}
 use Rattle.lexlook_counts.proofs.laws.examples_of_counts.Goals as goal
 
@@ -32,5 +33,16 @@ returns c = record {
     stopped = record { inside = omega arith; goes = (refl, λ some. refl, over_two); known = omega arith; walked = omega arith; stops = inr (omega arith, refl) };
     ended = record { inside = omega arith; goes = (refl, λ some. refl, over_one); known = omega arith; walked = omega arith; stops = inl refl };
     not_yet = λ h. stopped_none h.stops;
+  };
+  ends = record {
+    exit = refl;
+    others = refl;
+    last = refl;
+    met = refl;
+    exited = refl;
+    empty = (0, first_state, refl, refl, refl, refl);
+    in_columns = refl;
+    as_json = refl;
+    no_end = refl;
   };
 }

@@ -11,16 +11,16 @@ returns c =
     let S = spec_of c.args.spec.now in
     let names : List (List ℕ) = map (λ k. k.name) (conditions_in S) in
     let first : map (λ (n : Bor (List ℕ)). n.now) c.deref-2.result.now ≡ names =
-        ap (map (λ (n : Bor (List ℕ)). n.now)) c.deref-2.ensures.value ∙ c.in_ok-names.ensures ∙ ap (map (λ k. k.name)) c.conditions.ensures.conditions in
+    ap (map (λ (n : Bor (List ℕ)). n.now)) c.deref-2.ensures.value ∙ c.in_ok-names.ensures ∙ ap (map (λ k. k.name)) c.conditions.ensures.conditions in
     let second : map (λ (n : Bor (List ℕ)). n.now) c.deref-3.result.now ≡ names =
-        ap (map (λ (n : Bor (List ℕ)). n.now)) c.deref-3.ensures.value ∙ c.in_ok-names.ensures ∙ ap (map (λ k. k.name)) c.conditions.ensures.conditions in
+    ap (map (λ (n : Bor (List ℕ)). n.now)) c.deref-3.ensures.value ∙ c.in_ok-names.ensures ∙ ap (map (λ k. k.name)) c.conditions.ensures.conditions in
     let lines : c.deref.result.now ≡ lines_of (rules_in S) = c.deref.ensures.value ∙ c.in_ok-lines.ensures ∙ ap lines_of c.rules.ensures.rules in
     let told = c.args.counted.now in
     let text : c.in_ok-text.text.items ≡ count_lines c.args.form (rejects S) (lines_of (rules_in S)) names told =
-        c.in_ok-text.ensures
-        ∙ ap (λ (b : Bool). count_lines c.args.form b c.deref.result.now (map (λ (n : Bor (List ℕ)). n.now) c.deref-2.result.now) told) c.rejects.ensures
-        ∙ ap (λ (l : List ℕ). count_lines c.args.form (rejects S) l (map (λ (n : Bor (List ℕ)). n.now) c.deref-2.result.now) told) lines
-        ∙ ap (λ (n : List (List ℕ)). count_lines c.args.form (rejects S) (lines_of (rules_in S)) n told) first in
+    c.in_ok-text.ensures
+    ∙ ap (λ (b : Bool). count_lines c.args.form b c.deref.result.now (map (λ (n : Bor (List ℕ)). n.now) c.deref-2.result.now) told) c.rejects.ensures
+    ∙ ap (λ (l : List ℕ). count_lines c.args.form (rejects S) l (map (λ (n : Bor (List ℕ)). n.now) c.deref-2.result.now) told) lines
+    ∙ ap (λ (n : List (List ℕ)). count_lines c.args.form (rejects S) (lines_of (rules_in S)) n told) first in
     c.in_ok-add_end.ensures
     ∙ ap (λ l. l ++ end_line c.args.form (map (λ (n : Bor (List ℕ)). n.now) c.deref-3.result.now) c.ended_by.result) text
     ∙ ap (λ (n : List (List ℕ)). count_lines c.args.form (rejects S) (lines_of (rules_in S)) names told ++ end_line c.args.form n c.ended_by.result) second

@@ -47,8 +47,7 @@ pub returns-in-Ok-Ended : goal.returns-in-Ok-Ended
 returns-in-Ok-Ended g c M s0 given tokens h =
     let w = c.args.self.now in
     let s = c.next.new.self in
-    let after = pulled_by (reader_machine w) M given (pull_finished w.scanner) tokens (pull_state w.scanner) (pull_state s) (pull_waiting w.scanner) (pull_waiting s) (pull_text s) (Ok c.in-Ok-Ended.field-0) (Ok (pulls.Ended c.in-Ok-Ended.status)) h.machine (ap Ok c.in-Ok-Ended.field-0-is) (c.in-Ok-Ended.ensures.pulled given tokens) h.told in
-    (
+    let after = pulled_by (reader_machine w) M given (pull_finished w.scanner) tokens (pull_state w.scanner) (pull_state s) (pull_waiting w.scanner) (pull_waiting s) (pull_text s) (Ok c.in-Ok-Ended.field-0) (Ok (pulls.Ended c.in-Ok-Ended.status)) h.machine (ap Ok c.in-Ok-Ended.field-0-is) (c.in-Ok-Ended.ensures.pulled given tokens) h.told in (
       record { source = h.source; ends = h.ends; reads = h.reads; all = after.1 },
       comes_from M given (pull_finished w.scanner) tokens (pull_state s) (pull_waiting s) after.0,
     )
