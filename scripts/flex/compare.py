@@ -133,4 +133,5 @@ def main(lex, count=100, seed=1):
     return min(different, 1)
 
 
-sys.exit(main(*sys.argv[1:]))
+if __name__ == "__main__":
+    sys.exit(main(*sys.argv[1:]))

@@ -2,6 +2,7 @@
 //!
 //! - `main`: which subcommand the command line asks for (`run`), and for each one where it reads and writes.
 //! - `reading`: the files that are read, of which those that are compared or cut may be table files.
+//! - `progress`: how much of the input is read, on standard error.
 //! - `failure`: what ends the program before its work is done, and the line that tells it.
 //!
 //! What is asked for is read by lex_command. What is written and answered is that of lexlook_calls, lexlook_check,
@@ -19,9 +20,11 @@
 ghost use Rattle.std.specs.Prelude.{◌≡◌, ◌≤◌, ◌<◌, ◌-◌, ◌^◌, length, OnOk};
 
 mod failure;
+mod progress;
 mod reading;
 
 use crate::failure::{LookFailure, report};
+use crate::progress::{Progress, Watched};
 use crate::reading::{ReadFile, read_file, read_files, read_spec_file, source_files};
 use lex_command::{
     About, ArgsError, Look, PatternFlags, Subcommand, read_look_args, write_help, write_version,
@@ -190,6 +193,25 @@ fn show_trace(
 }
 
 /// Scans standard input, and writes to standard output how often rules match it. Nothing is written before the end.
+fn count_input(
+    rt: &HostRuntime,
+    text: &[u8],
+    form: CountForm,
+    options: Options,
+    progress: Option<Progress>,
+) -> Result<ExitCode, Failure>
+    requires few_positions { options.limits.positions ≤ MAX_POSITIONS }
+    requires few_states { options.limits.states ≤ MAX_STATES }
+{
+    let reader = Watched::new(rt, progress, rt.reader());
+    let mut source = FromBytes::new(ByteReader::new(rt.alloc(), reader)?);
+    let mut sink = ToBytes::new(ByteWriter::new(rt.alloc(), io::writer(rt))?);
+    let status = tell_counts(rt.alloc(), text, options, form, &mut source, &mut sink)?;
+    sink.flush()?;
+    Ok(ExitCode::from(status))
+}
+
+/// The same, with its progress.
 fn show_counts(
     rt: &HostRuntime,
     text: &[u8],
@@ -204,11 +226,13 @@ fn show_counts(
     } else {
         CountForm::Columns
     };
-    let mut source = FromBytes::new(ByteReader::new(rt.alloc(), rt.reader())?);
-    let mut sink = ToBytes::new(ByteWriter::new(rt.alloc(), io::writer(rt))?);
-    let status = tell_counts(rt.alloc(), text, options, form, &mut source, &mut sink)?;
-    sink.flush()?;
-    Ok(ExitCode::from(status))
+    let progress = Progress::of_input(rt);
+    let counted = count_input(rt, text, form, options, progress);
+    // After a fault of the scan it may still be shown.
+    if let (Err(_), Some(progress)) = (&counted, progress) {
+        progress.clear(rt);
+    }
+    counted
 }
 
 /// The bytes of standard input, all of them.

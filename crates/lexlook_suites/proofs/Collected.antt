@@ -17,6 +17,8 @@ use Rattle.lexlook_suites.specs.Gathers.{Adds, Faults, HasAllEdges, HasEdge, Has
 use Rattle.lexlook_suites.specs.Inputs.{AreInputs, AreMarksOf, GoesOverEdge, GoesOverAll, IsInputOf}
 use Rattle.lexlook_suites.specs.Marking.{Adds as AddsMarks, AreNone}
 use Rattle.lexlook_suites.specs.Texts.{LeadsOver}
+use Rattle.lexlook_suites.specs.Orders.{byte_at}
+use Rattle.lexlook_suites.proofs.Ordered.{rank_of}
 use Rattle.lexlook_suites.specs.Trees.{IsStep, IsTree, state_at}
 use Rattle.lexlook_suites.specs.Turns.{TurnBegins, TurnComesTo, TurnGoesBy}
 use Rattle.lexlook_suites.specs.declared.gathering.Gathered.{Gathered}
@@ -157,16 +159,18 @@ module _ (R : Rules) (p : Parts) (g h : Gathered) (adds : Adds R p g h) where
   edge_stays s b known (inr stops) = inr stops
 
   pub edges_stay : (s n : ℕ) → s < states p → HasEdges R p g s n → HasEdges R p h s n
-  edges_stay s n known has = λ b low live. edge_stays s b known (has b low live)
+  edges_stay s n known has = λ r low live. edge_stays s (byte_at r) known (has r low live)
 
   pub all_edges_stay : (a : ℕ) (steps : List Step) (k : ℕ) → ((j : ℕ) → j < length steps → IsStep p a steps j) → HasAllEdges R p g steps k → HasAllEdges R p h steps k
   all_edges_stay a steps k each has = λ j le low. edges_stay (state_at steps j) 256 (each j low).known (has j le low)
 
   -- a byte more
-  pub edges_more : (s n : ℕ) → s < states p → HasEdges R p g s n → (next p s n ≢ 0 → HasEdge R p h s n) → HasEdges R p h s (n + 1)
-  edges_more s n known has here = λ b low live. elim (cases_eq b n) [
-    | inl same ↦ subst (HasEdge R p h s) (sym same) (here (subst (λ (c : ℕ). next p s c ≢ 0) same live))
-    | inr other ↦ edge_stays s b known (has b (omega (arith, low, other)) live)
+  pub edges_more : (s n b : ℕ) → s < states p → b ≡ byte_at n → HasEdges R p g s n → (next p s b ≢ 0 → HasEdge R p h s b) → HasEdges R p h s (n + 1)
+  edges_more s n b known is has here = λ r low live. elim (cases_eq r n) [
+    | inl same ↦
+        (let at : byte_at r ≡ b = ap byte_at same ∙ sym is in
+        subst (HasEdge R p h s) (sym at) (here (subst (λ (c : ℕ). next p s c ≢ 0) at live)))
+    | inr other ↦ edge_stays s (byte_at r) known (has r (omega (arith, low, other)) live)
   ]
 
   -- a step more, from the last one on
@@ -209,8 +213,9 @@ module _ (R : Rules) (p : Parts) (g : Gathered) (steps : List Step) (places : Li
       let s_live : s ≢ 0 = λ e. on_live (ap (λ (q : ℕ). next p q b) e ∙ dead b) in
       let at = comes_there p (start p 0 true) steps places tree dead v text (λ e. s_live (sym from ∙ e)) in
       let here : state_at steps at.0 ≡ s = at.2 ∙ from in
-      let edge = has at.0 (omega arith) at.1 b small (λ e. on_live (ap (λ (q : ℕ). next p q b) (sym here) ∙ e)) in
-      told s t b on (subst (λ (q : ℕ). q < states p) here (tree.each at.0 at.1).known) (subst (λ (q : ℕ). HasEdge R p g q b) here edge)
+      let r = rank_of b small in
+      let edge = has at.0 (omega arith) at.1 r.0 r.1 (λ e. on_live (ap (next p s) (sym r.2) ∙ ap (λ (q : ℕ). next p q (byte_at r.0)) (sym here) ∙ e)) in
+      told s t b on (subst (λ (q : ℕ). q < states p) here (tree.each at.0 at.1).known) (subst (HasEdge R p g s) r.2 (subst (λ (q : ℕ). HasEdge R p g q (byte_at r.0)) here edge))
 
 -- what is told by other rules, or of other faults
 pub inputs_by : (R Q : Rules) (is : List Input) → ((i : Input) → IsInputOf R i → IsInputOf Q i) → AreInputs R is → AreInputs Q is

@@ -5,6 +5,7 @@ pub mod Over
 pub mod Members
 pub mod Covered
 pub mod Lined
+pub mod Ordered
 pub mod Treed
 pub mod Collected
 pub mod Suited

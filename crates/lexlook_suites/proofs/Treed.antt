@@ -8,6 +8,8 @@ use Rattle.lexauto_dfa.specs.Parts.{after, next, states}
 use Rattle.lexauto_dfa.specs.declared.dfa.Parts.{Parts}
 use Rattle.lexauto_reports.specs.Searching.{place_of, unfound}
 use Rattle.lexauto_reports.proofs.Searched.{none_is, one_fewer, some_is}
+use Rattle.lexlook_suites.specs.Orders.{byte_at}
+use Rattle.lexlook_suites.proofs.Ordered.{rank_of}
 use Rattle.lexlook_suites.specs.Trees.{HasPlace, IsPast, IsStep, IsTree, state_at, step_at}
 use Rattle.lexlook_suites.specs.declared.trees.Step.{Step}
 
@@ -89,22 +91,22 @@ module _ (p : Parts) (a : ℕ) where
 -- ---- a step more
 
 module _ (p : Parts) (a : ℕ) (steps : List Step) (places : List (Option ℕ)) (k : ℕ) (tree : IsTree p a steps places k) (place : k < length steps) where
-  pub past_dead : (b s : ℕ) → IsPast p steps places k b → s ≡ next p (state_at steps k) b → s ≡ 0 → IsPast p steps places k (b + 1)
+  pub past_dead : (b s : ℕ) → IsPast p steps places k b → s ≡ next p (state_at steps k) (byte_at b) → s ≡ 0 → IsPast p steps places k (b + 1)
   past_dead b s past is dead = λ c low live. elim (cases_eq c b) [
-    | inl same ↦ absurd (live (ap (λ (d : ℕ). next p (state_at steps k) d) same ∙ sym is ∙ dead))
+    | inl same ↦ absurd (live (ap (λ (d : ℕ). next p (state_at steps k) (byte_at d)) same ∙ sym is ∙ dead))
     | inr other ↦ past c (omega (arith, low, other)) live
   ]
 
-  pub past_found : (b s j : ℕ) → IsPast p steps places k b → s ≡ next p (state_at steps k) b → place_of places s ≡ Some j → IsPast p steps places k (b + 1)
+  pub past_found : (b s j : ℕ) → IsPast p steps places k b → s ≡ next p (state_at steps k) (byte_at b) → place_of places s ≡ Some j → IsPast p steps places k (b + 1)
   past_found b s j past is at = λ c low live. elim (cases_eq c b) [
-    | inl same ↦ (j, ap (λ (d : ℕ). place_of places (next p (state_at steps k) d)) same ∙ ap (place_of places) (sym is) ∙ at)
+    | inl same ↦ (j, ap (λ (d : ℕ). place_of places (next p (state_at steps k) (byte_at d))) same ∙ ap (place_of places) (sym is) ∙ at)
     | inr other ↦ past c (omega (arith, low, other)) live
   ]
 
-  module _ (b s : ℕ) (more : List Step) (marked : List (Option ℕ)) (is : s ≡ next p (state_at steps k) b) (small : b < 256) (known : s < states p) (live : s ≢ 0) (none : place_of places s ≡ None)
-      (marks : marked ≡ set places s (Some (length steps))) (pushed : more ≡ steps ++ record { state = s; from = k; byte = b } ∷ []) where
+  module _ (b s : ℕ) (more : List Step) (marked : List (Option ℕ)) (is : s ≡ next p (state_at steps k) (byte_at b)) (small : byte_at b < 256) (known : s < states p) (live : s ≢ 0) (none : place_of places s ≡ None)
+      (marks : marked ≡ set places s (Some (length steps))) (pushed : more ≡ steps ++ record { state = s; from = k; byte = byte_at b } ∷ []) where
     new_step : Step
-    new_step = record { state = s; from = k; byte = b }
+    new_step = record { state = s; from = k; byte = byte_at b }
 
     room : s < length places
     room = let all = tree.all in omega (arith, known, all)
@@ -125,7 +127,7 @@ module _ (p : Parts) (a : ℕ) (steps : List Step) (places : List (Option ℕ)) 
     unfolding new_step
     old_step j low = ap (λ (l : List Step). step_at l j) pushed ∙ get_or_append_left steps (new_step ∷ []) _ j low
 
-    last_step : step_at more (length steps) ≡ record { state = s; from = k; byte = b }
+    last_step : step_at more (length steps) ≡ record { state = s; from = k; byte = byte_at b }
     unfolding new_step
     last_step = ap (λ (l : List Step). step_at l (length steps)) pushed ∙ get_or_push steps new_step _ (length steps) refl
 
@@ -151,7 +153,7 @@ module _ (p : Parts) (a : ℕ) (steps : List Step) (places : List (Option ℕ)) 
 
     added_step : (j : ℕ) → j ≡ length steps → IsStep p a more j
     added_step j at =
-        let e : step_at more j ≡ record { state = s; from = k; byte = b } = ap (step_at more) at ∙ last_step in
+        let e : step_at more j ≡ record { state = s; from = k; byte = byte_at b } = ap (step_at more) at ∙ last_step in
         record {
           known = subst (λ (t : Step). t.state < states p) (sym e) known;
           live = subst (λ (t : Step). t.state ≢ 0) (sym e) live;
@@ -160,7 +162,7 @@ module _ (p : Parts) (a : ℕ) (steps : List Step) (places : List (Option ℕ)) 
           low = subst (λ (t : Step). t.byte < 256) (sym e) small;
           leads = λ some.
               subst (λ (t : Step). next p (state_at more t.from) t.byte ≡ t.state) (sym e)
-              (subst (λ (t : Step). next p t.state b ≡ s) (sym (old_step k place)) (sym is));
+              (subst (λ (t : Step). next p t.state (byte_at b) ≡ s) (sym (old_step k place)) (sym is));
         }
 
     pub tree_more : IsTree p a more marked k
@@ -183,16 +185,16 @@ module _ (p : Parts) (a : ℕ) (steps : List Step) (places : List (Option ℕ)) 
       starts = λ some. still a (tree.starts some);
       past = λ j low c small_c some. (
           let same : state_at more j ≡ state_at steps j = ap (λ (t : Step). t.state) (old_step j (omega (arith, low, place))) in
-          subst (λ (q : ℕ). HasPlace marked (next p q c)) (sym same) (still _ (tree.past j low c small_c (λ dead. some (ap (λ (q : ℕ). next p q c) same ∙ dead)))));
+          subst (λ (q : ℕ). HasPlace marked (next p q (byte_at c))) (sym same) (still _ (tree.past j low c small_c (λ dead. some (ap (λ (q : ℕ). next p q (byte_at c)) same ∙ dead)))));
     }
 
     pub past_more : IsPast p steps places k b → IsPast p more marked k (b + 1)
     past_more past = λ c low some. (
         let same : state_at more k ≡ state_at steps k = ap (λ (t : Step). t.state) (old_step k place) in
-        subst (λ (q : ℕ). HasPlace marked (next p q c)) (sym same)
+        subst (λ (q : ℕ). HasPlace marked (next p q (byte_at c))) (sym same)
         (elim (cases_eq c b) [
-          | inl at ↦ (length steps, ap (λ (d : ℕ). place_of marked (next p (state_at steps k) d)) at ∙ ap (place_of marked) (sym is) ∙ here)
-          | inr other ↦ still _ (past c (omega (arith, low, other)) (λ dead. some (ap (λ (q : ℕ). next p q c) same ∙ dead)))
+          | inl at ↦ (length steps, ap (λ (d : ℕ). place_of marked (next p (state_at steps k) (byte_at d))) at ∙ ap (place_of marked) (sym is) ∙ here)
+          | inr other ↦ still _ (past c (omega (arith, low, other)) (λ dead. some (ap (λ (q : ℕ). next p q (byte_at c)) same ∙ dead)))
         ]))
 
 -- a place more is done with
@@ -221,8 +223,9 @@ module _ (p : Parts) (a : ℕ) (steps : List Step) (places : List (Option ℕ)) 
   leads_on (b ∷ w) x text has live =
       let at = tree.placed x has.0 has.1 in
       let on : next p (state_at steps has.0) b ≢ 0 = λ e. live (ap (λ (s : ℕ). after p s w) (ap (λ (s : ℕ). next p s b) (sym at.1) ∙ e) ∙ stays_dead w) in
-      let there = tree.past has.0 at.0 b text.0 on in
-      leads_on w (next p x b) text.1 (subst (λ (s : ℕ). HasPlace places (next p s b)) at.1 there) live
+      let r = rank_of b text.0 in
+      let there = tree.past has.0 at.0 r.0 r.1 (λ e. on (ap (next p (state_at steps has.0)) (sym r.2) ∙ e)) in
+      leads_on w (next p x b) text.1 (subst (λ (s : ℕ). HasPlace places (next p s b)) at.1 (subst (λ (c : ℕ). HasPlace places (next p (state_at steps has.0) c)) r.2 there)) live
 
   pub comes_there : (w : List ℕ) → IsText w → after p a w ≢ 0 → (j : ℕ) × (j < length steps) × (state_at steps j ≡ after p a w)
   comes_there w text live =

@@ -13,6 +13,7 @@ use Rattle.lexscan.specs.declared.token.Token.{Token}
 use Rattle.lexscan_window.specs.declared.error.RunError.TheVariants as runs
 use Rattle.lexlook_suites.specs.Edges.{goes_to, marked_by}
 use Rattle.lexlook_suites.specs.Inputs.{AreInputs, AreMarksOf, IsInputOf}
+use Rattle.lexlook_suites.specs.Orders.{byte_at}
 use Rattle.lexlook_suites.specs.Texts.{LeadsOver}
 use Rattle.lexlook_suites.specs.Trees.{state_at}
 use Rattle.lexlook_suites.specs.Walks.{GoesBy}
@@ -58,9 +59,9 @@ abbrev pub HasEdge : Rules → Parts → Gathered → ℕ → ℕ → Type 0
 HasEdge R p g s b = (goes_to (marked_by g.marks s) (next p s) (next p s b) ≡ true)
     ⊎ ((v : List ℕ) × LeadsOver p s (next p s b) 0 true v × Faults R v)
 
--- the same of the first n bytes by which a state goes on
+-- the same of the first n bytes in their order by which a state goes on
 abbrev pub HasEdges : Rules → Parts → Gathered → ℕ → ℕ → Type 0
-HasEdges R p g s n = (b : ℕ) → b < n → next p s b ≢ 0 → HasEdge R p g s b
+HasEdges R p g s n = (r : ℕ) → r < n → next p s (byte_at r) ≢ 0 → HasEdge R p g s (byte_at r)
 
 -- and of all states from the step at a place on
 abbrev pub HasAllEdges : Rules → Parts → Gathered → List Step → ℕ → Type 0

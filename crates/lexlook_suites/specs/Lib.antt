@@ -9,6 +9,7 @@ pub mod CoverLines
 pub mod Covers
 pub mod Told
 pub mod CoverExamples
+pub mod Orders
 pub mod Trees
 pub mod Inputs
 pub mod Gathers

@@ -3,6 +3,7 @@ use Rattle.std.specs.Prelude.{◌≡◌, ◌≢◌, ℕ, ◌<◌, ◌≤◌, Lis
 use Rattle.lexauto_dfa.specs.Parts.{next, states}
 use Rattle.lexauto_dfa.specs.declared.dfa.Parts.{Parts}
 use Rattle.lexauto_reports.specs.Searching.{place_of}
+use Rattle.lexlook_suites.specs.Orders.{byte_at}
 use Rattle.lexlook_suites.specs.declared.trees.Step.{Step}
 
 abbrev pub step_at : List Step → ℕ → Step
@@ -24,10 +25,10 @@ pub record IsStep (p : Parts) (a : ℕ) (steps : List Step) (j : ℕ) : Type 0 w
 abbrev pub HasPlace : List (Option ℕ) → ℕ → Type 0
 HasPlace places x = (j : ℕ) × (place_of places x ≡ Some j)
 
--- where the first n bytes lead from the step at a place has a place
+-- where the first n bytes in their order lead from the step at a place has a place
 abbrev pub IsPast : Parts → List Step → List (Option ℕ) → ℕ → ℕ → Type 0
-IsPast p steps places j n = (b : ℕ) → b < n → next p (state_at steps j) b ≢ 0
-    → HasPlace places (next p (state_at steps j) b)
+IsPast p steps places j n = (r : ℕ) → r < n → next p (state_at steps j) (byte_at r) ≢ 0
+    → HasPlace places (next p (state_at steps j) (byte_at r))
 
 -- the steps so far, where the first k are done with
 pub record IsTree (p : Parts) (a : ℕ) (steps : List Step) (places : List (Option ℕ)) (k : ℕ) : Type 0 where

@@ -11,6 +11,7 @@ ghost use Rattle.lexlook_suites.specs.Turns.{TurnComesTo, TurnGoesBy};
 use crate::edges::{is_walked, rule_at};
 use crate::inputs::{Input, scan_text};
 use crate::marks::Marks;
+use crate::orders::byte_at;
 use crate::trees::Tree;
 use crate::ways::Way;
 use lexauto_dfa::Dfa;
@@ -201,8 +202,8 @@ impl Gathered {
         ensures edges { OnOk result (IsFirst (lists_of dfa.now) way.now.text.items tree.now.start
             → HasEdges (rules_by machine.now) (lists_of dfa.now) self.new (state_at tree.now.steps.items place) 256) }
     {
-        for byte in 0..256u32 {
-            self.add_over(alloc, dfa, machine, tree, way, place, byte as u8)?;
+        for rank in 0..256u32 {
+            self.add_over(alloc, dfa, machine, tree, way, place, byte_at(rank))?;
         }
         Ok(())
     }

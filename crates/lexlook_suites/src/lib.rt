@@ -9,6 +9,7 @@
 //! - `lines`: the lines that tell these.
 //! - `covering`: what is told of an automaton with marks, and all its lines.
 //! - `telling`: the whole for a text and an input, `tell_cover`.
+//! - `orders`: in which order the bytes are tried of which an input is made.
 //! - `trees`: a search breadth first from one start, and the ways that it found, `Tree`.
 //! - `ways`: texts after which a scan is in a condition, `Way`, and how more of them are found.
 //! - `inputs`: the scan of a text, `Input`: what it writes, its status and its tokens.
@@ -41,6 +42,7 @@ mod inputs;
 mod laws;
 mod lines;
 mod marks;
+mod orders;
 mod shares;
 mod suite;
 mod suite_lines;

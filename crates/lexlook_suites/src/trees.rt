@@ -6,6 +6,7 @@ ghost use Rattle.lexauto_dfa.specs.Parts.{after};
 ghost use Rattle.lexauto_reports.specs.Searching.{place_of, unfound};
 ghost use Rattle.lexlook_suites.specs.Trees.{IsPast, IsStep, IsTree, state_at};
 
+use crate::orders::byte_at;
 use lexauto_dfa::Dfa;
 use std::alloc::{AllocError, Global};
 
@@ -63,20 +64,22 @@ impl Tree {
         })
     }
 
-    /// Adds the step by a byte from the step at a place, if it comes to a state that has no place yet.
-    fn add(&mut self, dfa: &Dfa, place: usize, byte: u8) -> Result<(), AllocError>
+    /// Adds the step by a byte, which comes as this one, from the step at a place, if it comes to a state that has no place yet.
+    fn add(&mut self, dfa: &Dfa, place: usize, rank: u32) -> Result<(), AllocError>
         requires place { place < length self.old.steps.items }
+        requires rank { rank < 256 }
         requires tree { IsTree (lists_of dfa.now) self.old.start self.old.steps.items self.old.places.items place }
-        requires past { IsPast (lists_of dfa.now) self.old.steps.items self.old.places.items place byte }
+        requires past { IsPast (lists_of dfa.now) self.old.steps.items self.old.places.items place rank }
         ensures start { self.new.start ≡ self.old.start }
         ensures tree { OnOk result
             (IsTree (lists_of dfa.now) self.new.start self.new.steps.items self.new.places.items place) }
         ensures past { OnOk result
-            (IsPast (lists_of dfa.now) self.new.steps.items self.new.places.items place (byte + 1)) }
+            (IsPast (lists_of dfa.now) self.new.steps.items self.new.places.items place (rank + 1)) }
         ensures more { OnOk result (length self.old.steps.items ≤ length self.new.steps.items) }
         ensures fewer { OnOk result (length self.new.steps.items + unfound self.new.places.items
             ≡ length self.old.steps.items + unfound self.old.places.items) }
     {
+        let byte = byte_at(rank);
         let state = dfa.next(self.steps[place].state, byte);
         if state == 0 {
             return Ok(());
@@ -104,8 +107,8 @@ impl Tree {
         ensures fewer { OnOk result (length self.new.steps.items + unfound self.new.places.items
             ≡ length self.old.steps.items + unfound self.old.places.items) }
     {
-        for byte in 0..256u32 {
-            self.add(dfa, place, byte as u8)?;
+        for rank in 0..256u32 {
+            self.add(dfa, place, rank)?;
         }
         Ok(())
     }

@@ -4,6 +4,6 @@ use Rattle.lexlook_suites.proofs.trees.Tree.expand.Goals as goal
 
 pub returns-clause-tree : goal.returns-clause-tree
 returns-clause-tree c =
-    let end = c.loop-byte-test.false in
-    let most = c.loop-byte.auto.byte-end in
-    tree_past c.args.dfa.now.parts c.loop-byte.self.start c.loop-byte.self.steps.items c.loop-byte.self.places.items c.args.place c.loop-byte.byte c.loop-byte.invariant.tree c.loop-byte.invariant.past (omega (arith, end, most))
+    let end = c.loop-rank-test.false in
+    let most = c.loop-rank.auto.rank-end in
+    tree_past c.args.dfa.now.parts c.loop-rank.self.start c.loop-rank.self.steps.items c.loop-rank.self.places.items c.args.place c.loop-rank.rank c.loop-rank.invariant.tree c.loop-rank.invariant.past (omega (arith, end, most))
