@@ -16,6 +16,7 @@ A misreading is a file crates/CRATE/misreadings/NAME.edit of the crate that has 
     crate: the crate whose examples must refuse it, where that is another one, above
     function: the function whose contract has these examples, or a law
     passes: why no example refuses it, where that is known
+    whole: why the crates are read with all their functions, where that is needed
     file: .. old: .. new: ..    as a wrong body has them, one or more; 'each:' in place of 'old:' is changed wherever it stands
 
 Lemmas may have to be changed with the definition that they speak of: so a file may be one of proofs/ too.
@@ -56,7 +57,7 @@ import slimming
 
 ROOT = Path(__file__).resolve().parents[2]
 PAGE = ROOT / "docs/PROVED.md"
-HEAD = re.compile(r"(?m)^(crate|function|passes): (.*)$")
+HEAD = re.compile(r"(?m)^(crate|function|passes|whole): (.*)$")
 # What the prover says of functions, and of places.
 SAID = re.compile(r"(?m)^fn (\S+): (proved|not proved|no proof|could not tell)")
 TOLD = re.compile(r"(?m)^(?:note: )?(?:\./)?(\S+\.(?:antt|rt)):(\d+):\d+: error: (.*)$")
@@ -75,13 +76,15 @@ def beside(name):
 
 
 class Misreading(NamedTuple):
-    """A changed definition: its crate and name, the crate and the function of the examples, why it passes if that is known, and its pairs."""
+    """A changed definition: its crate and name, the crate and the function of the examples, why it passes if that is known, why the crates
+    are read whole if they are, and its pairs."""
 
     crate: str
     name: str
     above: str
     function: str
     passes: str
+    whole: str
     pairs: tuple
 
     def __str__(self):
@@ -113,7 +116,7 @@ def read(path):
             old = None
     if "function" not in said or not pairs:
         raise BadMisreading("it has no line 'function:', or no 'old:' and 'new:'")
-    return Misreading(crate, path.stem, said.get("crate", crate), said["function"], said.get("passes", ""), tuple(pairs))
+    return Misreading(crate, path.stem, said.get("crate", crate), said["function"], said.get("passes", ""), said.get("whole", ""), tuple(pairs))
 
 
 def changed_texts(folder, pairs):
@@ -200,10 +203,10 @@ class Pair:
         words += ["--antt-project", f"{kit}/rattle/logic/antt-project.json", "--logic-built", f"{kit}/logic_built"]
         return [*words, "--links", f"{made.name}=", "--jobs", "1", *(["--only", only] if only else [])]
 
-    def check(self, pairs, function):
+    def check(self, pairs, function, whole=False):
         """Checks the function over the changed definition; or, where none is named, all of the definition's crate."""
         texts = changed_texts(self.folder, pairs)
-        room, made = self.copies(function), self.high if function else self.low
+        room, made = self.copies(None if whole else function), self.high if function else self.low
         for file, text in texts.items():
             (room / self.low.name / file).write_text(text)
         words = [*self.rtlib.guarded(), self.rtlib.RATTLE, "check", *self.words(room, made, function), "--incremental", f"{room}/kept-{made.name}"]
@@ -284,7 +287,7 @@ def judge(checked, it):
 def tried(pair, it, quick):
     """What a misreading comes to."""
     try:
-        told = judge(pair.check(it.pairs, it.function), it)
+        told = judge(pair.check(it.pairs, it.function, bool(it.whole)), it)
         if told or quick:
             return told or ("passes", it.passes or "the examples are proved")
         whole = pair.check(it.pairs, None)
@@ -412,7 +415,7 @@ def itself(rtlib, crates):
     with tempfile.TemporaryDirectory(prefix="misreadings-") as room:
         pair = Pair(rtlib, crates, "lexre_bytes", "lexre", room)
         for name, want, old, new in ITSELF:
-            it = Misreading("lexre_bytes", name, "lexre", "laws::examples_of_patterns", "", (("specs/Lexical.antt", old, new),))
+            it = Misreading("lexre_bytes", name, "lexre", "laws::examples_of_patterns", "", "", (("specs/Lexical.antt", old, new),))
             word, why = judge(pair.check(it.pairs, it.function), it) or ("passes", "the examples are proved")
             failed += word != want
             print(f"{word:10} {name}: {why}{'' if word == want else f'; wanted: {want}'}", flush=True)

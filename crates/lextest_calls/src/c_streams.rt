@@ -41,7 +41,7 @@ fn tells(alloc: Global, stream: &mut TokenStream, row: Row, lines: bool) -> bool
     };
     let mut token = NO_TOKEN;
     let mut status = 99;
-    let answer = next_token(alloc, stream, &mut token, &mut status);
+    let answer = next_token(stream, &mut token, &mut status);
     answer == Answer::Done && token == wanted && status == 0 && shows(alloc, stream, text)
 }
 
@@ -67,7 +67,7 @@ fn answers(alloc: Global, stream: &mut TokenStream, wanted: Answer, ended: u8) -
     for _ in 0..2u32 {
         let mut token = NO_TOKEN;
         let mut status = 99;
-        let answer = next_token(alloc, stream, &mut token, &mut status);
+        let answer = next_token(stream, &mut token, &mut status);
         so = so && answer == wanted && token == NO_TOKEN && status == ended;
         so = so && (wanted == Answer::Closed || shows(alloc, stream, ""));
     }

@@ -323,12 +323,7 @@ pub extern "C" fn lex_end_stream(alloc: Global, stream: &mut TokenStream) -> i32
 
 /// Tells the next token of a stream.
 #[unsafe(no_mangle)]
-pub extern "C" fn lex_next(
-    alloc: Global,
-    stream: &mut TokenStream,
-    token: &mut NextToken,
-    status: &mut u8,
-) -> i32
+pub extern "C" fn lex_next(stream: &mut TokenStream, token: &mut NextToken, status: &mut u8) -> i32
     ensures { (answer : Answer) × (result ≡ number_of answer)
         × ((file : List ℕ) (lines told : Bool) (fed : List ℕ) (tokens : List TokenModel) (text : List ℕ)
         → Streams file lines told fed tokens text stream.old
@@ -337,7 +332,7 @@ pub extern "C" fn lex_next(
         × (stream_in stream.old ≡ None → (answer ≡ answers.Closed) × (stream_in stream.new ≡ None)
         × (token.new ≡ token.old) × (status.new ≡ 0)) }
 {
-    next_token(alloc, stream, token, status).number()
+    next_token(stream, token, status).number()
 }
 
 /// Hands out the text of the token that was told last.

@@ -9,6 +9,7 @@ mod HeldRules
 mod HeldStream
 mod Lining
 mod Heading
+mod AheadComputed
 mod Flowing
 mod Opened
 mod Piecing

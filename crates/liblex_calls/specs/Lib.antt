@@ -14,11 +14,13 @@ pub mod Ends
 pub mod Backlogs
 pub mod Stages
 pub mod Owned
+pub mod Lent
 pub mod Rules
 pub mod Progress
 pub mod Handles
 pub mod Loading
 pub mod Ahead
+pub mod AheadExamples
 pub mod Told
 pub mod Streams
 pub mod Pieces

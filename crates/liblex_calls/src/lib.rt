@@ -16,6 +16,7 @@
 //!   `by_pieces` has its calls.
 //! - `lines`: the line and the column of a token.
 //! - `ahead`: tokens that a scan tells ahead of those that it hands on. `texts`: the bytes that their texts are part of.
+//!   `examples`: worked examples of both.
 //! - `token_scan`: a scan that is asked for its tokens one by one. `stream` is the struct that C holds of one, with
 //!   `stream_holder`, the owning pointer in it. `streaming` has its calls.
 //!
@@ -28,6 +29,7 @@
 //!   buffer is too small, the count says how large it has to be, and the call is made again.
 //! - **A scan by pieces is what the caller holds, with a pointer in it that owns the scan.** An open scan and a closed one are
 //!   told apart by a flag and not by the pointer. So a closed scan may be closed again, and feeding it has an answer.
+//! - **`next_token` is lent the scan where it lies**, and does not take it and put it back: most calls only hand on a token.
 //! - **A loaded table is a handle of its owner, given to one call at a time.** All handles and scans that share a table own it
 //!   together (`Arc`), so none outlives it. To read through a `&` to a struct with a pointer would take a law of its own.
 //! - **Output that does not fit the caller's buffer is kept and handed out first**; only then is the end or the fault
@@ -54,6 +56,7 @@ mod backlog;
 mod brief;
 mod buffers;
 mod by_pieces;
+mod examples;
 mod flags;
 mod gathering;
 mod generating;
@@ -81,6 +84,7 @@ mod token_scan;
 
 pub use answer::Answer;
 pub use by_pieces::{close_scan, feed_into, finish_into, open_loaded, open_scan};
+pub use examples::examples_of_ahead;
 pub use flags::{counts_lines, options_of};
 pub use generating::{TextFault, generate_into};
 pub use handle::Scan;

@@ -38,6 +38,14 @@ impl TokenStream {
         }
     }
 
+    /// Whether it is open.
+    #[inline(always)]
+    pub(crate) fn is_open(&self) -> bool
+        ensures { result ≡ is_some self.now.place.value }
+    {
+        self.is_open
+    }
+
     /// One that holds an open scan.
     fn holding(scan: Box<TokenScan>) -> TokenStream
         ensures { result.place.value ≡ Some scan.value }

@@ -22,6 +22,19 @@ impl Model for StreamHolder {
 }
 
 impl StreamHolder {
+    ghost use Rattle.std.specs.Borrow.{sem};
+    ghost use Rattle.liblex_calls.specs.Lent.{LendsScan};
+
+    /// The scan that is held, where it lies.
+    #[inline(always)]
+    pub(crate) fn scan(&mut self) -> &mut TokenScan
+        requires { (v : TokenScan) × (self.old.value ≡ Some v) }
+        ensures* lent { sem 𝓛 (LendsScan self.entry result) }
+        ensures value { self.old.value ≡ Some result.now }
+    {
+        unsafe { &mut *(self.at as *mut TokenScan) }
+    }
+
     /// One that holds nothing.
     pub(crate) fn empty() -> StreamHolder
         ensures { result.value ≡ None }

@@ -96,12 +96,7 @@ pub fn end_stream(alloc: Global, stream: &mut TokenStream) -> Answer
 /// Tells the next token in `token`; or that the next match asks for more than was fed, which never comes once the end was
 /// told; or that the scan has ended, with its status, 0 to 63, in `status`; or a fault. After the end and a fault the same
 /// is told again.
-pub fn next_token(
-    alloc: Global,
-    stream: &mut TokenStream,
-    token: &mut NextToken,
-    status: &mut u8,
-) -> Answer
+pub fn next_token(stream: &mut TokenStream, token: &mut NextToken, status: &mut u8) -> Answer
     ensures told { (file : List ℕ) (lines told : Bool) (fed : List ℕ) (tokens : List TokenModel) (text : List ℕ)
         → Streams file lines told fed tokens text stream.old
         → TellsNext file lines told fed tokens stream.new token.old token.new status.new result }
@@ -109,13 +104,11 @@ pub fn next_token(
     ensures closed { stream_in stream.old ≡ None → (result ≡ Answer.Closed) × (stream_in stream.new ≡ None)
         × (token.new ≡ token.old) × (status.new ≡ 0) }
 {
-    *status = 0;
-    let Some(mut held) = take(alloc, stream) else {
+    if !stream.is_open() {
+        *status = 0;
         return Answer::Closed;
-    };
-    let answer = held.next(token, status);
-    put(stream, held);
-    answer
+    }
+    stream.place.scan().next(token, status)
 }
 
 /// Hands out into the buffer the text of the token that was told last, as often as it is asked for, until the next one is;

@@ -157,7 +157,48 @@ impl TokenScan {
 
     /// Tells the next token, or that it asks for more than was fed, or the end with its status, or a fault. After the end
     /// and a fault the same is told again.
+    #[inline(always)]
     pub(crate) fn next(&mut self, token: &mut NextToken, status: &mut u8) -> Answer
+        ensures told { (file : List ℕ) (lines told : Bool) (fed : List ℕ) (tokens : List TokenModel) (text : List ℕ)
+            → Told file lines told fed tokens text self.old
+            → NextTells file lines told fed tokens self.new token.old token.new status.new result }
+        ensures again { TellsAgain self.old self.new result }
+    {
+        if self.hand_next(token) {
+            *status = 0;
+            return Answer::Done;
+        }
+        self.find_next(token, status)
+    }
+
+    /// Hands on the next token, where it was told ahead and no lines are counted: that is the way of most tokens. Else nothing is
+    /// done.
+    #[inline(always)]
+    fn hand_next(&mut self, token: &mut NextToken) -> bool
+        ensures told { (file : List ℕ) (lines told : Bool) (fed : List ℕ) (tokens : List TokenModel) (text : List ℕ)
+            → result ≡ true → Told file lines told fed tokens text self.old
+            → NextTells file lines told fed tokens self.new token.old token.new 0 Answer.Done }
+        ensures going { result ≡ true → self.old.stage ≡ Stage.Going }
+        ensures same { result ≡ false → (self.new ≡ self.old) × (token.new ≡ token.old) }
+    {
+        if self.lines.are_counted() {
+            return false;
+        }
+        let Stage::Going = self.stage else {
+            return false;
+        };
+        match self.ahead.next() {
+            Some(found) => {
+                self.hand_on(found, token);
+                true
+            }
+            None => false,
+        }
+    }
+
+    /// What `next` does of each other token.
+    #[inline(never)]
+    fn find_next(&mut self, token: &mut NextToken, status: &mut u8) -> Answer
         ensures told { (file : List ℕ) (lines told : Bool) (fed : List ℕ) (tokens : List TokenModel) (text : List ℕ)
             → Told file lines told fed tokens text self.old
             → NextTells file lines told fed tokens self.new token.old token.new status.new result }
@@ -181,7 +222,10 @@ impl TokenScan {
         };
         // Most tokens were told ahead.
         match self.ahead.next() {
-            Some(found) => self.hand_on(found, token),
+            Some(found) => {
+                self.hand_on(found, token);
+                Answer::Done
+            }
             None => self.pull_several(token),
         }
     }
@@ -202,7 +246,10 @@ impl TokenScan {
         }
         self.ahead.tell(&mut self.scanner);
         match self.ahead.next() {
-            Some(found) => self.hand_on(found, token),
+            Some(found) => {
+                self.hand_on(found, token);
+                Answer::Done
+            }
             None => {
                 self.turns = TURNS;
                 self.pull_one(token)
@@ -222,7 +269,8 @@ impl TokenScan {
         match self.scanner.next() {
             Ok(Pulled::Token(found)) => {
                 self.ahead.last = found.start;
-                self.hand_on(found, token)
+                self.hand_on(found, token);
+                Answer::Done
             }
             Ok(Pulled::More) => Answer::More,
             Ok(Pulled::Ended(status)) => {
@@ -238,14 +286,13 @@ impl TokenScan {
 
     /// Tells a token, with where it stands.
     #[inline(always)]
-    fn hand_on(&mut self, found: PulledToken, token: &mut NextToken) -> Answer
+    fn hand_on(&mut self, found: PulledToken, token: &mut NextToken)
         ensures { (file : List ℕ) (lines told : Bool) (fed : List ℕ) (tokens : List TokenModel)
             → HandedOn file lines told fed tokens found self.old
-            → NextTells file lines told fed tokens self.new token.old token.new (status_in self.new.stage) result }
+            → NextTells file lines told fed tokens self.new token.old token.new (status_in self.new.stage) Answer.Done }
     {
         let spot = spot_of(&mut self.lines, found.start, &self.ahead, &self.scanner);
         *token = shown(found, spot);
-        Answer::Done
     }
 
     /// Hands out the text of the token that was told last, and after each other answer nothing.
