@@ -1,5 +1,5 @@
 -- In which condition a scan ends, by its tokens.
-use Rattle.std.proofs.Common.{◌≡◌, ◌∙◌, ℕ, zero, suc, ◌+◌, ◌-◌, ◌<◌, ◌≤◌, ◌⊎◌, inl, inr, Bool, true, false, cond, List, [], ◌∷◌, ◌++◌, length, drop, Option, Some, None, refl, sym, ap, subst, arith, append_assoc, append-nil, true≢false}
+use Rattle.std.proofs.Common.{◌≡◌, ◌∙◌, ℕ, zero, suc, ◌+◌, ◌-◌, ◌≤◌, inl, inr, Bool, true, false, cond, List, [], ◌∷◌, ◌++◌, length, drop, Option, Some, None, refl, sym, ap, subst, arith, append_assoc, append-nil}
 use Rattle.std.specs.Prelude.{nat_lt, take, if◌then◌else◌}
 use Rattle.std.proofs.lemmas.Bool.{cases_eq, cases_lt, cond-true, cond-false, lt-ltb, le-ltb}
 use Rattle.std.proofs.lemmas.List.{length_push}
@@ -8,7 +8,7 @@ use Rattle.lex_semantics.specs.Acting.{Acting, Ending, Status, StackFault}
 use Rattle.lex_semantics.specs.ActionResults.{ActionResult, Done, Again, Over, act_result, has_room, popped, settle, perform_results}
 use Rattle.lex_semantics.specs.Candidates.{Candidate}
 use Rattle.lex_semantics.specs.Rules.{Rules, rules_of, statements_of}
-use Rattle.lex_semantics.specs.Run.{EndTurn, MatchTurn, NextFrom, Place, State, Turns}
+use Rattle.lex_semantics.specs.Run.{MatchTurn, NextFrom, Place, State, Turns}
 use Rattle.lex_semantics.specs.Spec.{Spec, rejects, Statement, Echo, Print, Begin, More, Less, Reject, End, Push, Pop}
 use Rattle.lex_semantics.specs.Text.{BeginsWith, IsText, part}
 use Rattle.lex_semantics.proofs.Once.{one_candidates, one_state, some_inj, stays}
@@ -30,11 +30,11 @@ use Rattle.lexscan.specs.declared.token.Token.{Token}
 use Rattle.lexscan_matching.specs.Descends.{IsRule}
 use Rattle.lexscan_window.specs.declared.matched.MatchedRule.{MatchedRule}
 use Rattle.lexscan_window.specs.declared.matched.MatchedRule.TheVariants.{Numbered, Default}
-use Rattle.lexlook_counts.specs.Ends.{ComesTo, ComesToSo, EndsIn, IsEnd, ended_in, exits, exits_by, exits_last, last_rule}
+use Rattle.lexlook_counts.specs.Ends.{ComesTo, ComesToSo, EndsIn, IsEndOf, ended_in, has_exit, exits_by, exits_last, last_rule}
 
 -- ---- what an action leaves
 
-done_open : (ss : List Statement) (a b : Acting) → act_result ss a ≡ Done b → exits ss ≡ false
+done_open : (ss : List Statement) (a b : Acting) → act_result ss a ≡ Done b → has_exit ss ≡ false
 done_open [] a b e = refl
 done_open (Echo ∷ ss) a b e = done_open ss _ b e
 done_open (Print s ∷ ss) a b e = done_open ss _ b e
@@ -45,16 +45,16 @@ done_open (Reject ∷ ss) a b e = absurd cc
 done_open (End s ∷ ss) a b e = absurd cc
 done_open (Push d ∷ ss) a b e = from (λ a. done_open ss a b) (has_room a.stack) e
   where
-    from : ((a : Acting) → act_result ss a ≡ Done b → exits ss ≡ false) → (room : Bool) → (if room then act_result ss (record a { condition = d; stack = a.condition ∷ a.stack }) else Over a StackFault) ≡ Done b → exits ss ≡ false
+    from : ((a : Acting) → act_result ss a ≡ Done b → has_exit ss ≡ false) → (room : Bool) → (if room then act_result ss (record a { condition = d; stack = a.condition ∷ a.stack }) else Over a StackFault) ≡ Done b → has_exit ss ≡ false
     from ih true e = ih _ e
     from ih false e = absurd cc
 done_open (Pop ∷ ss) a b e = from (λ a. done_open ss a b) a.stack e
   where
-    from : ((a : Acting) → act_result ss a ≡ Done b → exits ss ≡ false) → (cs : List ℕ) → popped cs a (λ c ds. act_result ss (record a { condition = c; stack = ds })) ≡ Done b → exits ss ≡ false
+    from : ((a : Acting) → act_result ss a ≡ Done b → has_exit ss ≡ false) → (cs : List ℕ) → popped cs a (λ c ds. act_result ss (record a { condition = c; stack = ds })) ≡ Done b → has_exit ss ≡ false
     from ih [] e = absurd cc
     from ih (c ∷ cs) e = ih _ e
 
-over_exits : (ss : List Statement) (a b : Acting) (s : ℕ) → act_result ss a ≡ Over b (Status s) → exits ss ≡ true
+over_exits : (ss : List Statement) (a b : Acting) (s : ℕ) → act_result ss a ≡ Over b (Status s) → has_exit ss ≡ true
 over_exits [] a b s e = absurd cc
 over_exits (Echo ∷ ss) a b s e = over_exits ss _ b s e
 over_exits (Print t ∷ ss) a b s e = over_exits ss _ b s e
@@ -65,12 +65,12 @@ over_exits (Reject ∷ ss) a b s e = absurd cc
 over_exits (End t ∷ ss) a b s e = refl
 over_exits (Push d ∷ ss) a b s e = from (λ a. over_exits ss a b s) (has_room a.stack) e
   where
-    from : ((a : Acting) → act_result ss a ≡ Over b (Status s) → exits ss ≡ true) → (room : Bool) → (if room then act_result ss (record a { condition = d; stack = a.condition ∷ a.stack }) else Over a StackFault) ≡ Over b (Status s) → exits ss ≡ true
+    from : ((a : Acting) → act_result ss a ≡ Over b (Status s) → has_exit ss ≡ true) → (room : Bool) → (if room then act_result ss (record a { condition = d; stack = a.condition ∷ a.stack }) else Over a StackFault) ≡ Over b (Status s) → has_exit ss ≡ true
     from ih true e = ih _ e
     from ih false e = absurd cc
 over_exits (Pop ∷ ss) a b s e = from (λ a. over_exits ss a b s) a.stack e
   where
-    from : ((a : Acting) → act_result ss a ≡ Over b (Status s) → exits ss ≡ true) → (cs : List ℕ) → popped cs a (λ c ds. act_result ss (record a { condition = c; stack = ds })) ≡ Over b (Status s) → exits ss ≡ true
+    from : ((a : Acting) → act_result ss a ≡ Over b (Status s) → has_exit ss ≡ true) → (cs : List ℕ) → popped cs a (λ c ds. act_result ss (record a { condition = c; stack = ds })) ≡ Over b (Status s) → has_exit ss ≡ true
     from ih [] e = absurd cc
     from ih (c ∷ cs) e = ih _ e
 
@@ -80,21 +80,21 @@ no_next a = None
 some_none : {A : Type 0} (a : A) → Some a ≡ None → ⊥
 some_none a e = cc
 
-ends_so : (ss : List Statement) (a o : Acting) (s : ℕ) → settle (act_result ss a) no_next ≡ Some o → o.ended ≡ Some (Status s) → exits ss ≡ true
+ends_so : (ss : List Statement) (a o : Acting) (s : ℕ) → settle (act_result ss a) no_next ≡ Some o → o.ended ≡ Some (Status s) → has_exit ss ≡ true
 unfolding no_next
 ends_so ss a o s is ended = from (act_result ss a) refl is
   where
-    from : (w : ActionResult) → act_result ss a ≡ w → settle w no_next ≡ Some o → exits ss ≡ true
+    from : (w : ActionResult) → act_result ss a ≡ w → settle w no_next ≡ Some o → has_exit ss ≡ true
     from (Done b) at e = absurd (some_none (Status s) (sym ended ∙ sym (ap (λ (z : Acting). z.ended) (some_inj _ o e))))
     from (Again b) at e = absurd cc
     from (Over b (Status t)) at e = over_exits ss a b t at
     from (Over b StackFault) at e = absurd (let f : Some StackFault ≡ Some (Status s) = ap (λ (z : Acting). z.ended) (some_inj _ o e) ∙ ended in cc)
 
-goes_so : (ss : List Statement) (a o : Acting) → settle (act_result ss a) no_next ≡ Some o → o.ended ≡ None → exits ss ≡ false
+goes_so : (ss : List Statement) (a o : Acting) → settle (act_result ss a) no_next ≡ Some o → o.ended ≡ None → has_exit ss ≡ false
 unfolding no_next
 goes_so ss a o is going = from (act_result ss a) refl is
   where
-    from : (w : ActionResult) → act_result ss a ≡ w → settle w no_next ≡ Some o → exits ss ≡ false
+    from : (w : ActionResult) → act_result ss a ≡ w → settle w no_next ≡ Some o → has_exit ss ≡ false
     from (Done b) at e = done_open ss a b at
     from (Again b) at e = absurd cc
     from (Over b d) at e = absurd (some_none d (ap (λ (z : Acting). z.ended) (some_inj _ o e) ∙ going))
@@ -140,11 +140,11 @@ one_outcome R x p s m o turn k =
     let same : turn.matches ≡ (k.passed ++ m ∷ []) ++ k.left = all ∙ sym (append_assoc k.passed (m ∷ []) k.left) in
     some_inj turn.outcome o (sym turn.performed ∙ results_are R kept y turn.matches [] p.condition p.stack ∙ ap (λ l. perform_results R kept y l [] p.condition p.stack) same ∙ whole)
 
-pub by_rule : (R : Rules) (rule : MatchedRule) (i : ℕ) → IsRule R.count (Some rule) i → exits (statements_of R i) ≡ exits_by R rule
-by_rule R (Numbered n) i is = ap exits (cond-true (nat_lt i R.count) (R.statements i) (Echo ∷ []) (lt-ltb i R.count is.1)) ∙ ap (λ (j : ℕ). exits (R.statements j)) (sym is.0)
-by_rule R Default i is = ap exits (cond-false (nat_lt i R.count) (R.statements i) (Echo ∷ []) (le-ltb i R.count (omega (arith, is))))
+pub by_rule : (R : Rules) (rule : MatchedRule) (i : ℕ) → IsRule R.count (Some rule) i → has_exit (statements_of R i) ≡ exits_by R rule
+by_rule R (Numbered n) i is = ap has_exit (cond-true (nat_lt i R.count) (R.statements i) (Echo ∷ []) (lt-ltb i R.count is.1)) ∙ ap (λ (j : ℕ). has_exit (R.statements j)) (sym is.0)
+by_rule R Default i is = ap has_exit (cond-false (nat_lt i R.count) (R.statements i) (Echo ∷ []) (le-ltb i R.count (omega (arith, is))))
 
-module _ (R : Rules) (x : List ℕ) (E : MatchedRule → Bool) (tells : (rule : MatchedRule) (i : ℕ) → IsRule R.count (Some rule) i → exits (statements_of R i) ≡ E rule) where
+module _ (R : Rules) (x : List ℕ) (E : MatchedRule → Bool) (tells : (rule : MatchedRule) (i : ℕ) → IsRule R.count (Some rule) i → has_exit (statements_of R i) ≡ E rule) where
   -- ---- one turn
 
   next_of : (n : ℕ) (p s : State) → Turns R x n p → p.ended ≡ None → Turns R x (suc n) s → NextFrom R x p None s
@@ -259,12 +259,12 @@ module _ (R : Rules) (x : List ℕ) (E : MatchedRule → Bool) (tells : (rule : 
         ap (λ (w : State). w.place.condition) same ∙ end.0)
   ]
 
-  pub end_of_scan : (us : List Token) (status : ℕ) (n : ℕ) (s : State) → Tokenised R x us (Status status) → Turns R x n s → TokensOf R x n us → IsEnd R x (ended_in (exits_last E (last_rule us)) s.place.condition)
+  pub end_of_scan : (us : List Token) (status : ℕ) (n : ℕ) (s : State) → Tokenised R x us (Status status) → Turns R x n s → TokensOf R x n us → IsEndOf R x (ended_in (exits_last E (last_rule us)) s.place.condition)
   end_of_scan us status n s h more told = from h.turns h.last h.reached h.ends h.tokens
     where
-      by_end : (k : ℕ) (p last : State) → Turns R x k p → p.ended ≡ None → TokensOf R x k us → Turns R x (suc k) last → p.place.at ≡ length x → IsEnd R x (ended_in (exits_last E (last_rule us)) s.place.condition)
+      by_end : (k : ℕ) (p last : State) → Turns R x k p → p.ended ≡ None → TokensOf R x k us → Turns R x (suc k) last → p.place.at ≡ length x → IsEndOf R x (ended_in (exits_last E (last_rule us)) s.place.condition)
       by_end k p last turns going tokens after at =
-          subst (λ (b : Bool). IsEnd R x (ended_in b s.place.condition)) (sym (goes_on k us p tokens turns going)) (k, p, turns, going, at, sym (there us k n p s last turns going tokens after at more told))
+          subst (λ (b : Bool). IsEndOf R x (ended_in b s.place.condition)) (sym (goes_on k us p tokens turns going)) (k, p, turns, going, at, sym (there us k n p s last turns going tokens after at more told))
 
       by_exit : (k : ℕ) (p last : State) (u : Token) → Turns R x k p → p.ended ≡ None → IsToken R x p.place u → Turns R x (suc k) last → last.ended ≡ Some (Status status) → (c : ℕ) → EndsIn R x c → ⊥
       by_exit k p last u turns going token after ended c (m, t, reached, pending, at, is) = elim (cases_lt m (suc k)) [
@@ -282,11 +282,11 @@ module _ (R : Rules) (x : List ℕ) (E : MatchedRule → Bool) (tells : (rule : 
         | inr high ↦ not_before (suc k) m last t (Status status) high after ended reached pending
       ]
 
-      from : (m : ℕ) (last : State) → Turns R x m last → last.ended ≡ Some (Status status) → TokensOf R x m us → IsEnd R x (ended_in (exits_last E (last_rule us)) s.place.condition)
+      from : (m : ℕ) (last : State) → Turns R x m last → last.ended ≡ Some (Status status) → TokensOf R x m us → IsEndOf R x (ended_in (exits_last E (last_rule us)) s.place.condition)
       from zero last turns ended tokens = absurd (some_none (Status status) (sym ended ∙ ap (λ (w : State). w.ended) turns))
       from (suc k) last turns ended (p, ts, before, going, tokens, inr (at, is)) = by_end k p last before going (subst (TokensOf R x k) (sym is) tokens) turns at
       from (suc k) last turns ended (p, ts, before, going, tokens, inl (u, token, is)) =
-          subst (λ (b : Bool). IsEnd R x (ended_in b s.place.condition)) (sym (last_is us ts u is ∙ token_ends p last u (next_of k p last before going turns) token status ended))
+          subst (λ (b : Bool). IsEndOf R x (ended_in b s.place.condition)) (sym (last_is us ts u is ∙ token_ends p last u (next_of k p last before going turns) token status ended))
           (by_exit k p last u before going token turns ended)
 
 -- ---- the condition that the scan has come to
@@ -312,17 +312,17 @@ comes_from M fed told tokens s waiting h x k =
 
 -- ---- by a table for a specification
 
-end_to : (R Q : Rules) (x : List ℕ) → SameOver R Q x → (o : Option ℕ) → IsEnd R x o → IsEnd Q x o
+end_to : (R Q : Rules) (x : List ℕ) → SameOver R Q x → (o : Option ℕ) → IsEndOf R x o → IsEndOf Q x o
 end_to R Q x same (Some c) (n, s, turns, going, at, is) = (n, s, (same.turns n s).0 turns, going, at, is)
 end_to R Q x same None none = λ c (n, s, turns, going, at, is). none c (n, s, (same.turns n s).1 turns, going, at, is)
 
 pub table_end : (M : Machine) (laws : MachineLaws M) (S : Spec) → IsSound S → TableFor M S → (x : List ℕ) (us : List Token) (status condition : ℕ) → IsText x → Tokenised (rules_of_machine M) x us (Status status) → ComesTo (rules_of_machine M) x us condition
-    → IsEnd (rules_of S) x (ended_in (exits_last (exits_by (rules_of S)) (last_rule us)) condition)
+    → IsEndOf (rules_of S) x (ended_in (exits_last (exits_by (rules_of S)) (last_rule us)) condition)
 table_end M laws S sound table x us status condition text all (n, s, turns, tokens, is) =
     let R = rules_of_machine M in
     let Q = rules_of S in
     let alike = table_alike M S sound table in
-    let tells : (rule : MatchedRule) (i : ℕ) → IsRule R.count (Some rule) i → exits (statements_of R i) ≡ exits_by Q rule = λ rule i at.
-    (ap exits (same_statements (rejects S) R Q alike i) ∙ by_rule Q rule i (subst (λ (c : ℕ). IsRule c (Some rule) i) table.count at)) in
+    let tells : (rule : MatchedRule) (i : ℕ) → IsRule R.count (Some rule) i → has_exit (statements_of R i) ≡ exits_by Q rule = λ rule i at.
+    (ap has_exit (same_statements (rejects S) R Q alike i) ∙ by_rule Q rule i (subst (λ (c : ℕ). IsRule c (Some rule) i) table.count at)) in
     end_to R Q x (same_over M laws S sound table x text) _
-    (subst (λ (c : ℕ). IsEnd R x (ended_in (exits_last (exits_by Q) (last_rule us)) c)) is (end_of_scan R x (exits_by Q) tells us status n s all turns tokens))
+    (subst (λ (c : ℕ). IsEndOf R x (ended_in (exits_last (exits_by Q) (last_rule us)) c)) is (end_of_scan R x (exits_by Q) tells us status n s all turns tokens))

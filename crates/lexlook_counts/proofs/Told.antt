@@ -32,7 +32,7 @@ use Rattle.lexscan_window.specs.declared.matched.MatchedRule.TheVariants.{Number
 use Rattle.std.proofs.Common.{Option, sym}
 use Rattle.lex_semantics.specs.Rules.{rules_of}
 use Rattle.lexscan_window.specs.declared.matched.MatchedRule.{MatchedRule}
-use Rattle.lexlook_counts.specs.Ends.{IsEnd, ended_in, exits_by, exits_last}
+use Rattle.lexlook_counts.specs.Ends.{IsEndOf, ended_in, exits_by, exits_last}
 use Rattle.lexlook_counts.proofs.Endings.{table_end}
 use Rattle.lexlook_counts.proofs.Spelled.{table_costs, table_given}
 
@@ -128,7 +128,7 @@ module _ {A B : Type 0} (gave : A → List ℕ → A → Type 0) (ends_of reads_
     gave_up = λ x c. table_given (table_machine (tables_of f.scans)) (table_machine (tables_of f.looks)) S sound made.scans.table made.looks.table x h.counted.costs h.counted.given_up (Status status) c.0 (h.counted.read.all x c) (h.counted.gave_up x c);
     counts = h.counted.counts;
     counts_given_up = h.counted.given_up_is;
-    ended = λ x c. subst (λ (rule : Option MatchedRule). IsEnd (rules_of S) x (ended_in (exits_last (exits_by (rules_of S)) rule) h.counts.condition)) (sym h.counted.last)
+    ended = λ x c. subst (λ (rule : Option MatchedRule). IsEndOf (rules_of S) x (ended_in (exits_last (exits_by (rules_of S)) rule) h.counts.condition)) (sym h.counted.last)
         (table_end (table_machine (tables_of f.scans)) (laws_of (tables_of f.scans)) S sound made.scans.table x (tokens_in h.counted.costs) status h.counts.condition c.0 (h.counted.read.all x c) (h.counted.comes x c));
     written = h.written;
   }

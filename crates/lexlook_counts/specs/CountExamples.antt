@@ -1,16 +1,16 @@
 -- Worked examples of counts and places: a rule that matched twice, one that never did, the default rule, what turns
 -- look at, and marks of walks. (This project's.)
-use Rattle.std.specs.Prelude.{◌≡◌, ℕ, ◌<◌, ◌==◌, ◌&&◌, if◌then◌else◌, List, [], ◌∷◌, length, codes, Option, Some, None, true, false}
+use Rattle.std.specs.Prelude.{◌≡◌, ℕ, ◌<◌, ◌==◌, ◌&&◌, if◌then◌else◌, List, [], ◌∷◌, length, codes, Some, None, true, false}
 use Rattle.lex_semantics.specs.Machine.{Machine}
 use Rattle.lex_semantics.specs.Rules.{Rules}
 use Rattle.lex_semantics.specs.Spec.{Begin, Echo, End, Whole}
 use Rattle.lexscan.specs.declared.token.Token.{Token}
 use Rattle.lexscan_window.specs.declared.memo.Mark.{Mark}
 use Rattle.lexscan_window.specs.declared.matched.MatchedRule.TheVariants.{Numbered, Default}
-use Rattle.lexlook_counts.specs.CountLines.{column, end_line, matched_line, never_line, json_line}
+use Rattle.lexlook_counts.specs.CountLines.{column, ended_line, matched_line, never_line, json_line}
 use Rattle.lexlook_counts.specs.Costs.{AreCosts, TurnCost, tokens_in}
 use Rattle.lexlook_counts.specs.Counts.{rule_count, turn_count}
-use Rattle.lexlook_counts.specs.Ends.{EndsIn, ended_in, exits, last_rule}
+use Rattle.lexlook_counts.specs.Ends.{EndsIn, ended_in, has_exit, last_rule}
 use Rattle.lexlook_counts.specs.FarWalks.{IsFarWalk, IsTrueOf}
 use Rattle.lexlook_counts.specs.Places.{offset_lines}
 use Rattle.lexlook_counts.specs.declared.lines.CountForm.TheVariants as forms
@@ -87,18 +87,18 @@ pub record WalkExamples : Type 0 where
   pub ended : IsFarWalk letters_machine 2 1 (codes "aa") (walk_over 2 1)
   pub not_yet : IsFarWalk letters_machine 2 1 (codes "aab") (walk_over 2 1) → ⊥
 
--- An action with exit ends the scan, and one without goes on. Where the last one goes on, the scan comes to the end of its
--- input: of an empty one in INITIAL, and in no other condition.
+-- An action with exit ends the scan, and one without goes on. Where the last one goes on, the scan comes to the end of
+-- its input: of an empty one in INITIAL.
 pub record EndExamples : Type 0 where
-  pub exit : exits (Echo ∷ End 0 ∷ []) ≡ true
-  pub others : exits (Echo ∷ Begin 1 ∷ []) ≡ false
+  pub exit : has_exit (Echo ∷ End 0 ∷ []) ≡ true
+  pub others : has_exit (Echo ∷ Begin 1 ∷ []) ≡ false
   pub last : last_rule three_tokens ≡ Some (Numbered 0)
   pub met : ended_in false 2 ≡ Some 2
   pub exited : ended_in true 2 ≡ None
   pub empty : EndsIn three_asked [] 0
-  pub in_columns : end_line forms.Columns (codes "INITIAL" ∷ codes "C" ∷ []) (Some 1) ≡ codes "end: C\n"
-  pub as_json : end_line forms.Json (codes "INITIAL" ∷ codes "C" ∷ []) (Some 0) ≡ codes "{\"end\":\"INITIAL\"}\n"
-  pub no_end : end_line forms.Columns (codes "INITIAL" ∷ []) None ≡ []
+  pub in_columns : ended_line forms.Columns (codes "INITIAL" ∷ codes "C" ∷ []) (Some 1) ≡ codes "end: C\n"
+  pub as_json : ended_line forms.Json (codes "INITIAL" ∷ codes "C" ∷ []) (Some 0) ≡ codes "{\"end\":\"INITIAL\"}\n"
+  pub no_end : ended_line forms.Columns (codes "INITIAL" ∷ []) None ≡ []
 
 -- The counts of the first rule, of the second, which never matched, and of the default rule; the turns in each
 -- condition; lines of these; walks; and ends

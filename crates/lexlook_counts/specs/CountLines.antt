@@ -96,10 +96,10 @@ condition_lines form names turns =
     flat_map (λ c. turn_line form (slice_index_or names c []) (slice_index turns c)) (range_with_len 0 (length names))
 
 -- the line of the condition in which the end of the input was met
-abbrev pub end_line : CountForm → List (List ℕ) → Option ℕ → List ℕ
-end_line form names None = []
-end_line forms.Columns names (Some c) = concat (codes "end: " ∷ slice_index_or names c [] ∷ codes "\n" ∷ [])
-end_line forms.Json names (Some c) = concat (codes "{\"end\":\"" ∷ slice_index_or names c [] ∷ codes "\"}\n" ∷ [])
+abbrev pub ended_line : CountForm → List (List ℕ) → Option ℕ → List ℕ
+ended_line form names None = []
+ended_line forms.Columns names (Some c) = concat (codes "end: " ∷ slice_index_or names c [] ∷ codes "\n" ∷ [])
+ended_line forms.Json names (Some c) = concat (codes "{\"end\":\"" ∷ slice_index_or names c [] ∷ codes "\"}\n" ∷ [])
 
 -- what stands above the columns of rules
 abbrev pub rule_heads : Bool → List ℕ

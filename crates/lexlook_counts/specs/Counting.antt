@@ -42,8 +42,8 @@ module _ {A : Type 0} (gave : A → List ℕ → A → Type 0) (ends_of reads_of
     pub counts_given_up : c.given_up.counts.items ≡ given_counts rules (concat given_up)
     pub last : c.last ≡ last_rule (tokens_in costs)
 
-  -- All turns over each input that goes on as what the source gave are counted, and its scan ends with this status, and in
-  -- this condition. That is the rule of the last one.
+  -- All turns over each input that goes on as what the source gave are counted, and its scan ends with this status, and
+  -- in this condition. That is the rule of the last one.
   pub record CountsAll (status : ℕ) (t : Tally) (counts_given_up : List ℕ) (rule : Option MatchedRule)
       (condition : ℕ) : Type 0 where
     pub given : List ℕ
@@ -70,7 +70,8 @@ module _ {A : Type 0} (gave : A → List ℕ → A → Type 0) (ends_of reads_of
 
   -- what all steps leave
   abbrev pub CountsSource : Result Counted RunError → Type 0
-  CountsSource (Ok counted) = CountsAll counted.status counted.tally counted.given_up.items counted.last counted.condition
+  CountsSource (Ok counted) =
+      CountsAll counted.status counted.tally counted.given_up.items counted.last counted.condition
   CountsSource (Err e) = CountingStops e
 
 -- So it is for some scan, of which the calls of a source came to this one.

@@ -22,7 +22,7 @@ use Rattle.lexkit.specs.Headline.{IsWithin, Refusal, reading}
 use Rattle.lexkit.specs.declared.errors.ScanError.{ScanError}
 use Rattle.lexkit.specs.declared.errors.ScanError.TheVariants.{Generate, Run, Table}
 use Rattle.lexkit.specs.declared.options.Options.{Options}
-use Rattle.lexlook_counts.specs.CountLines.{count_lines, end_line}
+use Rattle.lexlook_counts.specs.CountLines.{count_lines, ended_line}
 use Rattle.lexlook_counts.specs.Costs.{CostsSo, TurnCost, tokens_in}
 use Rattle.lexlook_counts.specs.Counting.{CountingStops, CountsAll}
 use Rattle.lexlook_counts.specs.Counts.{IsTallyOf}
@@ -51,7 +51,7 @@ ended_by S c = ended_in (exits_last (exits_by (rules_of S)) c.last) c.condition
 abbrev pub lines_for : CountForm → Spec → Counted → List ℕ
 lines_for form S c =
     let names = map (λ c. c.name) S.conditions in
-    count_lines form (rejects S) (lines_of S.rules) names c ++ end_line form names (ended_by S c)
+    count_lines form (rejects S) (lines_of S.rules) names c ++ ended_line form names (ended_by S c)
 
 -- What the calls of the source from s to s' gave, and what those of the sink from t to t' wrote, where a machine scans
 -- for a specification, and another tells how far its turns look.

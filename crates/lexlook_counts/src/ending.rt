@@ -3,7 +3,7 @@ ghost use Rattle.std.specs.Prelude.{◌≡◌, map};
 ghost use Rattle.lex_machine.specs.Views.{statement_of};
 ghost use Rattle.lex_semantics.specs.Rules.{rules_of};
 ghost use Rattle.lexspec.specs.Views.{spec_of};
-ghost use Rattle.lexlook_counts.specs.Ends.{exits, exits_by, is_exit};
+ghost use Rattle.lexlook_counts.specs.Ends.{has_exit, exits_by, is_exit};
 ghost use Rattle.lexlook_counts.specs.Told.{ended_by};
 
 use crate::counting::Counted;
@@ -19,8 +19,8 @@ fn is_exit(statement: &Statement) -> bool
 }
 
 /// Whether one of the statements does.
-fn exits(statements: &[Statement]) -> bool
-    ensures { result ≡ exits (map statement_of statements.now) }
+fn has_exit(statements: &[Statement]) -> bool
+    ensures { result ≡ has_exit (map statement_of statements.now) }
 {
     for statement in statements {
         if is_exit(statement) {
@@ -38,7 +38,7 @@ fn exits_by(spec: &Spec, rule: MatchedRule) -> bool
         return false;
     };
     match spec.rules().get(number as usize) {
-        Some(rule) => exits(&rule.statements),
+        Some(rule) => has_exit(&rule.statements),
         None => false,
     }
 }

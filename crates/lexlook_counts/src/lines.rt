@@ -2,7 +2,7 @@
 ghost use Rattle.std.specs.Prelude.{◌≡◌, ◌++◌, [], IfOk, OnOk, length, map, slice_index_or};
 ghost use Rattle.lexlook_counts.specs.CountLines.{column, condition_lines, kind_line, count_lines, count_columns, json_field, json_last, json_line};
 ghost use Rattle.lexlook_counts.specs.CountLines.{counted_subject, kind_lines, last_columns, matched_line, never_line, never_tried, numbered_lines};
-ghost use Rattle.lexlook_counts.specs.CountLines.{end_line, rule_heads, turn_line};
+ghost use Rattle.lexlook_counts.specs.CountLines.{ended_line, rule_heads, turn_line};
 ghost use Rattle.lexlook_counts.specs.GivenUp.{given_where};
 
 use crate::counting::Counted;
@@ -304,7 +304,7 @@ pub(crate) fn add_end(
     names: &[&[u8]],
     ended: Option<u8>,
 ) -> Result<(), AllocError>
-    ensures { OnOk result (text.new.items ≡ text.old.items ++ end_line form (map (λ n. n.now) names.now) ended) }
+    ensures { OnOk result (text.new.items ≡ text.old.items ++ ended_line form (map (λ n. n.now) names.now) ended) }
 {
     let Some(condition) = ended else {
         return add(text, b"");

@@ -17,7 +17,7 @@ use Rattle.liblex_calls.specs.Rules.{rules_machine}
 use Rattle.liblex_calls.specs.Files.{IsMachineOf}
 use Rattle.liblex_calls.specs.Stages.{fault_of, answer_at, status_in}
 use Rattle.liblex_calls.specs.Lines.{Counted}
-use Rattle.liblex_calls.specs.Ahead.{HoldsFed, HandsOn, IsAhead, text_shown, tokens_ahead}
+use Rattle.liblex_calls.specs.Ahead.{HoldsFed, HandsToken, IsAhead, text_shown, tokens_ahead}
 use Rattle.liblex_calls.specs.Told.{token_machine, TokensStand, Told, HandedOn, FeedTells, NextTells}
 use Rattle.liblex_calls.specs.declared.ahead.Ahead.{Ahead}
 use Rattle.liblex_calls.specs.declared.lines.Lines.{Lines}
@@ -134,7 +134,7 @@ pub going_stands : (M : Machine) (stage : Stage) (told : Bool) (fed : List ℕ) 
 going_stands M stage told fed tokens text s waiting a is h = subst (λ (g : Stage). TokensStand M g told fed tokens text s waiting a) (sym is) h
 
 -- a token that was told ahead is handed on
-pub kept_handed : (file : List ℕ) (lines told : Bool) (fed : List ℕ) (tokens : List Token) (text : List ℕ) (p q : TokenScan) (t : PulledToken) → p.stage ≡ stages.Going → Told file lines told fed tokens text p → HandsOn p.ahead q.ahead (Some t) → q.scanner ≡ p.scanner → q.stage ≡ p.stage → q.lines ≡ p.lines →
+pub kept_handed : (file : List ℕ) (lines told : Bool) (fed : List ℕ) (tokens : List Token) (text : List ℕ) (p q : TokenScan) (t : PulledToken) → p.stage ≡ stages.Going → Told file lines told fed tokens text p → HandsToken p.ahead q.ahead (Some t) → q.scanner ≡ p.scanner → q.stage ≡ p.stage → q.lines ≡ p.lines →
     HandedOn file lines told fed tokens t q
 kept_handed file lines told fed tokens text p q t going T on scanner stage same =
     let h = stands_at file lines told fed tokens text p stages.Going going T in

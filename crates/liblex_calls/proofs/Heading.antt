@@ -20,7 +20,7 @@ use Rattle.lexscan.specs.Series.{token_from, drawn_out}
 use Rattle.lexscan.specs.Tokens.{TokensOf}
 use Rattle.lexscan.proofs.Pushing.{begins_less}
 use Rattle.lexscan.proofs.Refusing.{just_these}
-use Rattle.liblex_calls.specs.Ahead.{HoldsFed, held_text, tokens_ahead, text_shown, HandsOn, IsAhead}
+use Rattle.liblex_calls.specs.Ahead.{HoldsFed, held_text, tokens_ahead, text_shown, HandsToken, IsAhead}
 use Rattle.liblex_calls.specs.Lines.{Follows, last_start, last_end}
 use Rattle.liblex_calls.specs.declared.ahead.Ahead.{Ahead}
 use Rattle.liblex_calls.specs.declared.texts.Texts.{Texts}
@@ -153,7 +153,7 @@ turn_ahead M fed told tokens s t waiting left a b u none given last texts h more
     }
 
 -- One that was told ahead was handed on.
-module _ (M : Machine) (fed : List ℕ) (told : Bool) (tokens : List Token) (s : State) (waiting : List ℕ) (a b : Ahead) (t : PulledToken) (h : IsAhead M fed told tokens s waiting a) (on : HandsOn a b (Some t)) where
+module _ (M : Machine) (fed : List ℕ) (told : Bool) (tokens : List Token) (s : State) (waiting : List ℕ) (a b : Ahead) (t : PulledToken) (h : IsAhead M fed told tokens s waiting a) (on : HandsToken a b (Some t)) where
   abbrev whole : Token
   whole = whole_token t
 
@@ -203,7 +203,7 @@ module _ {P : Type 0} {of_machine : Trait.Ghosts P} where
   pub shows_told : (p : PullScanner P of_machine) (a : Ahead) → a.given ≡ 0 → text_shown p a ≡ pull_text p
   shows_told p a is = ap (λ n. if nat_eq n 0 then pull_text p else held_text a.texts a.last (a.start - a.last)) is
 
-  pub shows_handed : (fed : List ℕ) (p : PullScanner P of_machine) (a b : Ahead) (t : PulledToken) → HoldsFed fed a.texts → a.texts.before ≤ t.start → HandsOn a b (Some t) → text_shown p b ≡ part fed t.start (t.start + t.length)
+  pub shows_handed : (fed : List ℕ) (p : PullScanner P of_machine) (a b : Ahead) (t : PulledToken) → HoldsFed fed a.texts → a.texts.before ≤ t.start → HandsToken a b (Some t) → text_shown p b ≡ part fed t.start (t.start + t.length)
   shows_handed fed p a b t held low on =
       let some = on.4 in
       let no : nat_eq b.given 0 ≡ false = grind (arith, nat_tests, some) in

@@ -35,9 +35,9 @@ module _ {M : Type 0} {of_machine : Trait.Ghosts M} where
   text_shown s a = if a.given == 0 then pull_text s else held_text a.texts a.last (a.start - a.last)
 
 -- The first of them was handed on, or there was none.
-abbrev pub HandsOn : Ahead → Ahead → Option PulledToken → Type 0
-HandsOn old new None = (new ≡ old) × (tokens_ahead old ≡ [])
-HandsOn old new (Some t) =
+abbrev pub HandsToken : Ahead → Ahead → Option PulledToken → Type 0
+HandsToken old new None = (new ≡ old) × (tokens_ahead old ≡ [])
+HandsToken old new (Some t) =
     (tokens_ahead old ≡ whole_token t ∷ tokens_ahead new) × (t.start ≡ old.start) × (new.start ≡ t.start + t.length)
     × (new.last ≡ t.start) × (1 ≤ new.given) × (new.texts ≡ old.texts)
 

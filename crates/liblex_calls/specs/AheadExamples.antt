@@ -9,7 +9,7 @@ use Rattle.lexscan.specs.declared.series.BriefToken.{BriefToken}
 use Rattle.lexscan.specs.declared.token.Token.{Token}
 use Rattle.lexscan.specs.Pulls.{TokensTold}
 use Rattle.lexscan.specs.Tokens.{TokensOf}
-use Rattle.liblex_calls.specs.Ahead.{HoldsFed, held_text, tokens_ahead, HandsOn, IsAhead}
+use Rattle.liblex_calls.specs.Ahead.{HoldsFed, held_text, tokens_ahead, HandsToken, IsAhead}
 use Rattle.liblex_calls.specs.declared.ahead.Ahead.{Ahead}
 use Rattle.liblex_calls.specs.declared.texts.Texts.{Texts}
 
@@ -20,7 +20,8 @@ KeepsBytes t before bytes = (t.before ≡ before) × (t.bytes.items ≡ bytes)
 -- What was told in one go, how many of it were handed on, where the next one begins, and where the last one handed on
 -- does.
 abbrev pub StandsAhead : Ahead → List BriefToken → ℕ → ℕ → ℕ → Type 0
-StandsAhead a tokens given start last = (a.tokens.items ≡ tokens) × (a.given ≡ given) × (a.start ≡ start) × (a.last ≡ last)
+StandsAhead a tokens given start last =
+    (a.tokens.items ≡ tokens) × (a.given ≡ given) × (a.start ≡ start) × (a.last ≡ last)
 
 -- three tokens of 2, 3 and 1 bytes, in few bytes each, and with their places, where the first begins at 4
 abbrev pub three : List BriefToken
@@ -54,10 +55,12 @@ pub record HandedNext : Type 0 where
   pub left : (a : Ahead) → StandsAhead a three 1 6 4 → tokens_ahead a ≡ second ∷ third ∷ []
   pub all_left : (a : Ahead) → StandsAhead a three 0 4 0 → tokens_ahead a ≡ first ∷ second ∷ third ∷ []
   pub none_left : (a : Ahead) → StandsAhead a three 3 10 9 → tokens_ahead a ≡ []
-  pub on : (a b : Ahead) → StandsAhead a three 1 6 4 → StandsAhead b three 2 9 6 → b.texts ≡ a.texts → HandsOn a b (Some handed)
-  pub twice : (a b : Ahead) → StandsAhead a three 1 6 4 → StandsAhead b three 1 6 4 → HandsOn a b (Some handed) → ⊥
-  pub left_out : (a b : Ahead) → StandsAhead a three 1 6 4 → StandsAhead b three 3 10 9 → HandsOn a b (Some handed) → ⊥
-  pub not_none : (a b : Ahead) → StandsAhead a three 1 6 4 → HandsOn a b None → ⊥
+  pub on : (a b : Ahead) → StandsAhead a three 1 6 4 → StandsAhead b three 2 9 6 → b.texts ≡ a.texts
+      → HandsToken a b (Some handed)
+  pub twice : (a b : Ahead) → StandsAhead a three 1 6 4 → StandsAhead b three 1 6 4 → HandsToken a b (Some handed) → ⊥
+  pub left_out : (a b : Ahead) → StandsAhead a three 1 6 4 → StandsAhead b three 3 10 9
+      → HandsToken a b (Some handed) → ⊥
+  pub not_none : (a b : Ahead) → StandsAhead a three 1 6 4 → HandsToken a b None → ⊥
 
 -- The first was handed on, and the others were told ahead of it. All three are those of the scan, and the first is that
 -- of its first turns. The bytes are kept from it on.

@@ -27,7 +27,7 @@ pub struct Ahead {
 
 impl Ahead {
     ghost use Rattle.lexscan.specs.Scanners.{pull_machine, pull_state, pull_waiting, pull_finished};
-    ghost use Rattle.liblex_calls.specs.Ahead.{tokens_ahead, text_shown, HandsOn, IsAhead, HoldsFed};
+    ghost use Rattle.liblex_calls.specs.Ahead.{tokens_ahead, text_shown, HandsToken, IsAhead, HoldsFed};
 
     /// None so far.
     pub(crate) fn new(alloc: Global) -> Ahead
@@ -49,7 +49,7 @@ impl Ahead {
     /// Hands on the next of them.
     #[inline(always)]
     pub(crate) fn next(&mut self) -> Option<PulledToken>
-        ensures { HandsOn self.old self.new result }
+        ensures { HandsToken self.old self.new result }
     {
         if self.tokens.len() <= self.given {
             return None;

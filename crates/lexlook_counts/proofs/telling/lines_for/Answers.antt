@@ -3,7 +3,7 @@ use Rattle.std.specs.Borrow.{Bor}
 use Rattle.lex_semantics.specs.Spec.{rejects}
 use Rattle.lexspec.specs.Views.{conditions_in, rules_in, spec_of}
 use Rattle.lexkit.specs.Generated.{lines_of}
-use Rattle.lexlook_counts.specs.CountLines.{count_lines, end_line}
+use Rattle.lexlook_counts.specs.CountLines.{count_lines, ended_line}
 use Rattle.lexlook_counts.proofs.telling.lines_for.Goals as goal
 
 pub returns : goal.returns
@@ -22,6 +22,6 @@ returns c =
     ∙ ap (λ (l : List ℕ). count_lines c.args.form (rejects S) l (map (λ (n : Bor (List ℕ)). n.now) c.deref-2.result.now) told) lines
     ∙ ap (λ (n : List (List ℕ)). count_lines c.args.form (rejects S) (lines_of (rules_in S)) n told) first in
     c.in_ok-add_end.ensures
-    ∙ ap (λ l. l ++ end_line c.args.form (map (λ (n : Bor (List ℕ)). n.now) c.deref-3.result.now) c.ended_by.result) text
-    ∙ ap (λ (n : List (List ℕ)). count_lines c.args.form (rejects S) (lines_of (rules_in S)) names told ++ end_line c.args.form n c.ended_by.result) second
-    ∙ ap (λ (o : Option ℕ). count_lines c.args.form (rejects S) (lines_of (rules_in S)) names told ++ end_line c.args.form names o) c.ended_by.ensures
+    ∙ ap (λ l. l ++ ended_line c.args.form (map (λ (n : Bor (List ℕ)). n.now) c.deref-3.result.now) c.ended_by.result) text
+    ∙ ap (λ (n : List (List ℕ)). count_lines c.args.form (rejects S) (lines_of (rules_in S)) names told ++ ended_line c.args.form n c.ended_by.result) second
+    ∙ ap (λ (o : Option ℕ). count_lines c.args.form (rejects S) (lines_of (rules_in S)) names told ++ ended_line c.args.form names o) c.ended_by.ensures
