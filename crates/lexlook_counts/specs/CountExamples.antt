@@ -7,7 +7,7 @@ use Rattle.lex_semantics.specs.Spec.{Begin, Echo, End, Whole}
 use Rattle.lexscan.specs.declared.token.Token.{Token}
 use Rattle.lexscan_window.specs.declared.memo.Mark.{Mark}
 use Rattle.lexscan_window.specs.declared.matched.MatchedRule.TheVariants.{Numbered, Default}
-use Rattle.lexlook_counts.specs.CountLines.{column, ended_line, matched_line, never_line, json_line}
+use Rattle.lexlook_counts.specs.CountLines.{all_given_up, column, ended_line, together, matched_line, never_line, json_line}
 use Rattle.lexlook_counts.specs.Costs.{AreCosts, TurnCost, tokens_in}
 use Rattle.lexlook_counts.specs.Counts.{rule_count, turn_count}
 use Rattle.lexlook_counts.specs.Ends.{EndsIn, ended_in, has_exit, last_rule}
@@ -88,8 +88,8 @@ pub record WalkExamples : Type 0 where
   pub not_yet : IsFarWalk letters_machine 2 1 (codes "aab") (walk_over 2 1) → ⊥
 
 -- An action with exit ends the scan, and one without goes on. Where the last one goes on, the scan comes to the end of
--- its input: of an empty one in INITIAL.
-pub record EndExamples : Type 0 where
+-- its input: of an empty one in INITIAL. The counts of two rules are told together.
+pub record WholeExamples : Type 0 where
   pub exit : has_exit (Echo ∷ End 0 ∷ []) ≡ true
   pub others : has_exit (Echo ∷ Begin 1 ∷ []) ≡ false
   pub last : last_rule three_tokens ≡ Some (Numbered 0)
@@ -98,10 +98,13 @@ pub record EndExamples : Type 0 where
   pub empty : EndsIn three_asked [] 0
   pub in_columns : ended_line forms.Columns (codes "INITIAL" ∷ codes "C" ∷ []) (Some 1) ≡ codes "end: C\n"
   pub as_json : ended_line forms.Json (codes "INITIAL" ∷ codes "C" ∷ []) (Some 0) ≡ codes "{\"end\":\"INITIAL\"}\n"
+  pub two_rules : together (rule_count three_costs (Numbered 0)) (rule_count three_costs Default)
+      ≡ record { matches = 3; bytes = 6; longest = 3; beyond = 3 }
+  pub given_up : all_given_up (2 ∷ 0 ∷ 3 ∷ []) ≡ 5
   pub no_end : ended_line forms.Columns (codes "INITIAL" ∷ []) None ≡ []
 
 -- The counts of the first rule, of the second, which never matched, and of the default rule; the turns in each
--- condition; lines of these; walks; and ends
+-- condition; lines of these; walks; and what is told of the whole
 pub record CountExamples : Type 0 where
   pub tokens : tokens_in three_costs ≡ three_tokens
   pub looked : AreCosts three_asked (codes "abcde") 0 looking_turns
@@ -121,4 +124,4 @@ pub record CountExamples : Type 0 where
   pub json : json_line (Line 3) no_matches None
       ≡ codes "{\"line\":3,\"matches\":0,\"bytes\":0,\"longest\":0,\"beyond\":0}\n"
   pub walks : WalkExamples
-  pub ends : EndExamples
+  pub whole : WholeExamples

@@ -1,6 +1,7 @@
 -- The lines in which counts are told: in columns, or as JSON. (This project's; JSON: RFC 8259.)
-use Rattle.std.specs.Prelude.{ℕ, ◌-◌, ◌==◌, ◌&&◌, Bool, if◌then◌else◌, List, [], ◌∷◌, ◌++◌, length, take, codes, decimal, flat_map, slice_index, slice_index_or, Option, Some, None, unwrap_or}
+use Rattle.std.specs.Prelude.{ℕ, ◌+◌, ◌-◌, max, fold, ◌==◌, ◌&&◌, Bool, if◌then◌else◌, List, [], ◌∷◌, ◌++◌, length, take, codes, decimal, flat_map, slice_index, slice_index_or, Option, Some, None, unwrap_or}
 use Rattle.std.specs.List.{concat, range_with_len}
+use Rattle.lexlook_counts.specs.Counts.{capped}
 use Rattle.lexlook_counts.specs.GivenUp.{given_where}
 use Rattle.lexlook_counts.specs.declared.counting.Counted.{Counted}
 use Rattle.lexlook_counts.specs.declared.lines.CountForm.{CountForm}
@@ -8,19 +9,22 @@ use Rattle.lexlook_counts.specs.declared.lines.CountForm.TheVariants as forms
 use Rattle.lexlook_counts.specs.declared.lines.LineKind.{LineKind}
 use Rattle.lexlook_counts.specs.declared.lines.LineKind.TheVariants as kinds
 use Rattle.lexlook_counts.specs.declared.lines.Subject.{Subject}
-use Rattle.lexlook_counts.specs.declared.lines.Subject.TheVariants.{Line, DefaultRule}
+use Rattle.lexlook_counts.specs.declared.lines.Subject.TheVariants.{AllRules, DefaultRule, Line}
 use Rattle.lexlook_counts.specs.declared.tally.RuleCount.{RuleCount}
+use Rattle.lexlook_counts.specs.declared.tally.Tally.{Tally}
 
 -- a number at the right of a column of 12 places, and a blank
 abbrev pub column : ℕ → List ℕ
 column n = concat (take (12 - length (decimal n)) (codes "            ") ∷ decimal n ∷ codes " " ∷ [])
 
--- of which rule a line is: the one at this line of the file, or the default rule
+-- of which rule a line is: the one at this line of the file, the default rule, or all of them
 abbrev pub counted_subject : LineKind → Subject → List ℕ
 counted_subject kinds.Json (Line line) = codes "\"line\":" ++ decimal line
 counted_subject kinds.Json DefaultRule = codes "\"rule\":\"default\""
+counted_subject kinds.Json AllRules = codes "\"rule\":\"all\""
 counted_subject kind (Line line) = codes "line " ++ decimal line
 counted_subject kind DefaultRule = codes "default rule"
+counted_subject kind AllRules = codes "all"
 
 -- how many bytes were looked at behind texts, and how often the rule was given up, where some rule has REJECT
 abbrev pub last_columns : ℕ → Option ℕ → List ℕ
@@ -73,8 +77,32 @@ kind_line kinds.Json s c given_up = json_line s c given_up
 abbrev pub count_at : List RuleCount → ℕ → RuleCount
 count_at counts i = slice_index_or counts i (record { matches = 0; bytes = 0; longest = 0; beyond = 0 })
 
--- the lines of one kind: of the rules at these lines of the file, in their order, and then of the default rule, which
--- is never given up
+-- the counts of two rules together, each up to the greatest number
+abbrev pub together : RuleCount → RuleCount → RuleCount
+together a b = record {
+  matches = capped (a.matches + b.matches);
+  bytes = capped (a.bytes + b.bytes);
+  longest = max a.longest b.longest;
+  beyond = capped (a.beyond + b.beyond);
+}
+
+-- the counts of all rules together, and how often they were given up in all
+abbrev pub all_counts : Tally → RuleCount
+all_counts t = fold together t.default_rule t.rules.items
+
+abbrev pub all_given_up : List ℕ → ℕ
+all_given_up counts = fold (λ a n. capped (a + n)) 0 counts
+
+-- The line of all rules stands where the lines of those are that have matched, and among those of JSON.
+abbrev pub all_line : LineKind → Bool → Counted → List ℕ
+all_line kinds.Matched rejecting c =
+    count_columns AllRules (all_counts c.tally) (given_where rejecting (all_given_up c.given_up.items))
+all_line kinds.Never rejecting c = []
+all_line kinds.Json rejecting c =
+    json_line AllRules (all_counts c.tally) (given_where rejecting (all_given_up c.given_up.items))
+
+-- the lines of one kind: of the rules at these lines of the file, in their order, then of the default rule, which is
+-- never given up, and of all
 abbrev pub numbered_lines : LineKind → Bool → List ℕ → Counted → List ℕ
 numbered_lines kind rejecting lines c =
     flat_map (λ i. kind_line kind (Line (slice_index lines i)) (count_at c.tally.rules.items i)
@@ -83,7 +111,7 @@ numbered_lines kind rejecting lines c =
 abbrev pub kind_lines : LineKind → Bool → List ℕ → Counted → List ℕ
 kind_lines kind rejecting lines c =
     numbered_lines kind rejecting lines c
-    ++ kind_line kind DefaultRule c.tally.default_rule (given_where rejecting 0)
+    ++ kind_line kind DefaultRule c.tally.default_rule (given_where rejecting 0) ++ all_line kind rejecting c
 
 -- the line of a condition
 abbrev pub turn_line : CountForm → List ℕ → ℕ → List ℕ

@@ -2,7 +2,7 @@
 ghost use Rattle.std.specs.Prelude.{◌≡◌, ◌++◌, [], IfOk, OnOk, length, map, slice_index_or};
 ghost use Rattle.lexlook_counts.specs.CountLines.{column, condition_lines, kind_line, count_lines, count_columns, json_field, json_last, json_line};
 ghost use Rattle.lexlook_counts.specs.CountLines.{counted_subject, kind_lines, last_columns, matched_line, never_line, never_tried, numbered_lines};
-ghost use Rattle.lexlook_counts.specs.CountLines.{ended_line, rule_heads, turn_line};
+ghost use Rattle.lexlook_counts.specs.CountLines.{all_given_up, all_line, ended_line, rule_heads, turn_line};
 ghost use Rattle.lexlook_counts.specs.GivenUp.{given_where};
 
 use crate::counting::Counted;
@@ -31,12 +31,13 @@ pub(crate) enum LineKind {
     Json,
 }
 
-/// Of which rule a line is.
+/// Of which rule a line is, or whether it is of all.
 #[derive(Clone, Copy)]
 pub(crate) enum Subject {
     /// The one at this line of the file.
     Line(u32),
     DefaultRule,
+    AllRules,
 }
 
 /// As many blanks as a column is wide.
@@ -67,11 +68,13 @@ pub(crate) fn add_subject(
             add_number(text, line)
         }
         (LineKind::Json, Subject::DefaultRule) => add(text, b"\"rule\":\"default\""),
+        (LineKind::Json, Subject::AllRules) => add(text, b"\"rule\":\"all\""),
         (_, Subject::Line(line)) => {
             add(text, b"line ")?;
             add_number(text, line)
         }
         (_, Subject::DefaultRule) => add(text, b"default rule"),
+        (_, Subject::AllRules) => add(text, b"all"),
     }
 }
 
@@ -231,7 +234,35 @@ fn add_numbered(
     Ok(())
 }
 
-/// Appends the lines of this kind of all rules, and of the default rule.
+/// How often all rules were given up.
+fn all_given_up(counts: &[u64]) -> u64
+    ensures { result ≡ all_given_up counts.now }
+{
+    let mut all = 0u64;
+    for count in counts {
+        all = all.saturating_add(*count);
+    }
+    all
+}
+
+/// Appends the line of all rules, if there is one of this kind.
+fn add_all(
+    text: &mut Vec<u8>,
+    kind: LineKind,
+    rejecting: bool,
+    counted: &Counted,
+) -> Result<(), AllocError>
+    ensures { OnOk result (text.new.items ≡ text.old.items ++ all_line kind rejecting counted.now) }
+{
+    let given_up = given_where(rejecting, all_given_up(&counted.given_up));
+    match kind {
+        LineKind::Matched => add_columns(text, Subject::AllRules, counted.tally.all(), given_up),
+        LineKind::Never => add(text, b""),
+        LineKind::Json => add_json(text, Subject::AllRules, counted.tally.all(), given_up),
+    }
+}
+
+/// Appends the lines of this kind of all rules, of the default rule, and of all together.
 fn add_rules(
     text: &mut Vec<u8>,
     kind: LineKind,
@@ -246,7 +277,8 @@ fn add_rules(
     add_numbered(text, kind, rejecting, lines, counted)?;
     let given_up = given_where(rejecting, 0);
     let count = counted.tally.default_rule;
-    add_line(text, kind, Subject::DefaultRule, count, given_up)
+    add_line(text, kind, Subject::DefaultRule, count, given_up)?;
+    add_all(text, kind, rejecting, counted)
 }
 
 /// Appends the line of a condition.

@@ -3,6 +3,7 @@ ghost use Rattle.std.specs.Prelude.{◌≡◌, ◌+◌, ◌-◌, ◌∷◌, [], 
 ghost use Rattle.lexscan_window.specs.declared.matched.MatchedRule.{MatchedRule as RuleModel};
 ghost use Rattle.lexscan_window.specs.declared.matched.MatchedRule.TheVariants.{Numbered};
 ghost use Rattle.lexlook_counts.specs.Costs.{TurnCost, cost_by};
+ghost use Rattle.lexlook_counts.specs.CountLines.{all_counts, together};
 ghost use Rattle.lexlook_counts.specs.Counts.{IsTallyOf, rule_count, rule_counts, same_rule, turn_counts};
 
 use lexscan::{MatchedRule, PulledToken};
@@ -38,6 +39,18 @@ impl RuleCount {
             bytes: self.bytes.saturating_add(length),
             longest: self.longest.max(length),
             beyond: self.beyond.saturating_add(beyond),
+        }
+    }
+
+    /// The counts of two rules together, each up to the greatest number.
+    fn together(self, other: RuleCount) -> RuleCount
+        ensures { result ≡ together self other }
+    {
+        RuleCount {
+            matches: self.matches.saturating_add(other.matches),
+            bytes: self.bytes.saturating_add(other.bytes),
+            longest: self.longest.max(other.longest),
+            beyond: self.beyond.saturating_add(other.beyond),
         }
     }
 }
@@ -82,6 +95,17 @@ impl Tally {
             default_rule: NONE,
             turns: vec![in alloc; 0; conditions]?,
         })
+    }
+
+    /// The counts of all rules together.
+    pub(crate) fn all(&self) -> RuleCount
+        ensures { result ≡ all_counts self.now }
+    {
+        let mut all = self.default_rule;
+        for count in &self.rules {
+            all = all.together(*count);
+        }
+        all
     }
 
     /// Counts one turn more, of this token, which looks at so many bytes behind its text.

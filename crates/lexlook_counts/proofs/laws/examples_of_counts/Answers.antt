@@ -34,7 +34,7 @@ returns c = record {
     ended = record { inside = omega arith; goes = (refl, λ some. refl, over_one); known = omega arith; walked = omega arith; stops = inl refl };
     not_yet = λ h. stopped_none h.stops;
   };
-  ends = record {
+  whole = record {
     exit = refl;
     others = refl;
     last = refl;
@@ -43,6 +43,8 @@ returns c = record {
     empty = (0, first_state, refl, refl, refl, refl);
     in_columns = refl;
     as_json = refl;
+    two_rules = refl;
+    given_up = refl;
     no_end = refl;
   };
 }
