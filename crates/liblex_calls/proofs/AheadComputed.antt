@@ -17,28 +17,31 @@ kept = record {
   text = λ t k. λ i. take 2 (drop (3 - k.0 i) (k.1 i));
 }
 
--- the tokens ahead, by where the next one begins
-module _ (a : Ahead) where
-  second_on : StandsAhead a three 1 6 4 → tokens_ahead a ≡ second ∷ third ∷ []
-  second_on k = λ i. drawn_out (k.2 i) (drop (k.1 i) (k.0 i))
-
-  third_on : StandsAhead a three 2 9 6 → tokens_ahead a ≡ third ∷ []
-  third_on k = λ i. drawn_out (k.2 i) (drop (k.1 i) (k.0 i))
-
 pub next : HandedNext
 next = record {
-  left = second_on;
+  left = λ a k. λ i. drawn_out (k.2 i) (drop (k.1 i) (k.0 i));
   all_left = λ a k. λ i. drawn_out (k.2 i) (drop (k.1 i) (k.0 i));
   none_left = λ a k. λ i. drawn_out (k.2 i) (drop (k.1 i) (k.0 i));
-  on = λ a b k m texts. (second_on a k ∙ ap (λ (l : List Token). second ∷ l) (sym (third_on b m)), sym k.2, m.2, m.3, (let given = m.1 in omega (arith, given)), texts);
+  on = λ a b k m texts. (
+    (
+        let before : tokens_ahead a ≡ second ∷ third ∷ [] = λ i. drawn_out (k.2 i) (drop (k.1 i) (k.0 i)) in
+        let after : tokens_ahead b ≡ third ∷ [] = λ i. drawn_out (m.2 i) (drop (m.1 i) (m.0 i)) in
+        before ∙ ap (λ (l : List Token). second ∷ l) (sym after)
+        ),
+    sym k.2,
+    m.2,
+    m.3,
+    (let given = m.1 in omega (arith, given)),
+    texts,
+  );
   twice = λ a b k m h. (let here : b.start ≡ 9 = h.2 in let there = m.2 in omega (arith, here, there));
   left_out = λ a b k m h. (let here : b.start ≡ 9 = h.2 in let there = m.2 in omega (arith, here, there));
-  not_none = λ a b k h. (let size : 2 ≡ 0 = ap length (sym (second_on a k) ∙ h.1) in omega (arith, size));
+  not_none = λ a b k h. (let before : tokens_ahead a ≡ second ∷ third ∷ [] = λ i. drawn_out (k.2 i) (drop (k.1 i) (k.0 i)) in let size : 2 ≡ 0 = ap length (sym before ∙ h.1) in omega (arith, size));
 }
 
 pub told : ToldAhead
 told = record {
-  all = λ M fed waiting told s a k h. subst (λ (l : List Token). TokensTold M fed told l s waiting) (ap (λ (l : List Token). first ∷ l) (second_on a k)) h.all;
+  all = λ M fed waiting told s a k h. (let before : tokens_ahead a ≡ second ∷ third ∷ [] = λ i. drawn_out (k.2 i) (drop (k.1 i) (k.0 i)) in subst (λ (l : List Token). TokensTold M fed told l s waiting) (ap (λ (l : List Token). first ∷ l) before) h.all);
   handed_on = λ M fed waiting told s a x h c. h.handed x c;
   begins = λ M fed waiting told s a h. h.last_is;
   kept = λ M fed waiting told s a far h. (let low = h.low in let last : a.last ≡ 4 = h.last_is in omega (arith, far, low, last));
