@@ -1,4 +1,5 @@
 pub mod Walked
+pub mod Passing
 pub mod Edged
 pub mod Turned
 pub mod Over

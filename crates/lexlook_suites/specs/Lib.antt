@@ -1,5 +1,6 @@
 pub mod Shown
 pub mod Walks
+pub mod Passed
 pub mod Marking
 pub mod Edges
 pub mod Shares

@@ -112,7 +112,7 @@ impl Gathered {
     }
 
     /// Keeps an input, and marks what its turns go through.
-    fn keep(&mut self, dfa: &Dfa, input: Input) -> Result<(), AllocError>
+    fn keep(&mut self, alloc: Global, dfa: &Dfa, input: Input) -> Result<(), AllocError>
         requires { IsSized (states_of dfa.now) self.old.marks }
         ensures inputs { OnOk result (self.new.inputs.items ≡ self.old.inputs.items ++ input ∷ []) }
         ensures marks { AddsMarks (states_of dfa.now) self.old.marks self.new.marks
@@ -120,7 +120,7 @@ impl Gathered {
             (TurnGoesBy (lists_of dfa.now) input.text.items 0 input.tokens.items) }
     {
         self.marks
-            .turns(dfa, input.text.as_slice(), input.tokens.as_slice());
+            .turns(alloc, dfa, input.text.as_slice(), input.tokens.as_slice());
         self.inputs.push(input)?;
         Ok(())
     }
@@ -145,7 +145,7 @@ impl Gathered {
             return Ok(());
         };
         if is_kept(input.tokens.as_slice(), at, condition) {
-            self.keep(dfa, input)?;
+            self.keep(alloc, dfa, input)?;
             return Ok(());
         }
         Ok(())

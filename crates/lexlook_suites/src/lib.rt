@@ -26,6 +26,9 @@
 //!
 //! - **The input is held, and walked a second time.** A scan tells its tokens and not what it looked at. So the scan needs no change,
 //!   and what is marked is defined by the automaton alone.
+//! - **A walk ends where it is known that the rest is marked.** From which states at which places it is, stands in a table as that of
+//!   lexscan's marks. So time is in proportion to the input, also where each match looks at all of the rest. A walk over 64 bytes beyond
+//!   its text costs less than that.
 //! - **Marks are of bytes, and edges are made of them at the end.** So a walk asks for nothing but the next state.
 //! - **An edge is one of the picture**, from a state to a state. Which bytes alone were seen is not told.
 //! - **A text over an edge is a first word that leads to its state, with the first byte of the edge behind it.** The words are those of
