@@ -24,7 +24,7 @@ const NO_TOKEN: NextToken = NextToken {
 fn shows(alloc: Global, stream: &mut TokenStream, text: &str) -> bool {
     let mut buffer = [0u8; 16];
     let mut count = 99;
-    let answer = text_into(alloc, stream, &mut buffer, &mut count);
+    let answer = text_into(stream, &mut buffer, &mut count);
     answer == Answer::Done && buffer.get(..count) == Some(text.as_bytes())
 }
 
@@ -258,7 +258,7 @@ fn refused_streams(rt: HostRuntime) -> Result<(), Fail> {
 fn is_closed(alloc: Global, stream: &mut TokenStream) -> bool {
     let mut buffer = [7u8; 1];
     let mut count = 99;
-    let answer = text_into(alloc, stream, &mut buffer, &mut count);
+    let answer = text_into(stream, &mut buffer, &mut count);
     (answer, count, buffer[0]) == (Answer::Closed, 0, 7)
         && feed_stream(alloc, stream, b"a") == Answer::Closed
         && end_stream(alloc, stream) == Answer::Closed
@@ -288,11 +288,11 @@ fn hands_out_parts(alloc: Global, stream: &mut TokenStream) -> bool {
     let mut buffer = [7u8; 4];
     let mut count = 99;
     let few = match buffer.get_mut(..2) {
-        Some(part) => text_into(alloc, stream, part, &mut count),
+        Some(part) => text_into(stream, part, &mut count),
         None => Answer::Closed,
     };
     let so = few == Answer::TooSmall && count == 3 && buffer == *b"ab\x07\x07";
-    let all = text_into(alloc, stream, &mut buffer, &mut count);
+    let all = text_into(stream, &mut buffer, &mut count);
     so && all == Answer::Done && count == 3 && buffer == *b"abc\x07"
 }
 

@@ -337,12 +337,7 @@ pub extern "C" fn lex_next(stream: &mut TokenStream, token: &mut NextToken, stat
 
 /// Hands out the text of the token that was told last.
 #[unsafe(no_mangle)]
-pub extern "C" fn lex_text(
-    alloc: Global,
-    stream: &mut TokenStream,
-    buffer: &mut [u8],
-    count: &mut usize,
-) -> i32
+pub extern "C" fn lex_text(stream: &mut TokenStream, buffer: &mut [u8], count: &mut usize) -> i32
     ensures { (answer : Answer) × (result ≡ number_of answer)
         × ((file : List ℕ) (lines told : Bool) (fed : List ℕ) (tokens : List TokenModel) (text : List ℕ)
         → Streams file lines told fed tokens text stream.old
@@ -350,7 +345,7 @@ pub extern "C" fn lex_text(
         × (stream_in stream.old ≡ None → (answer ≡ answers.Closed) × (stream_in stream.new ≡ None)
         × NothingOut buffer.old buffer.new count.new) }
 {
-    text_into(alloc, stream, buffer, count).number()
+    text_into(stream, buffer, count).number()
 }
 
 /// Closes a stream of tokens.

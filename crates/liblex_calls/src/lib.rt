@@ -29,7 +29,8 @@
 //!   buffer is too small, the count says how large it has to be, and the call is made again.
 //! - **A scan by pieces is what the caller holds, with a pointer in it that owns the scan.** An open scan and a closed one are
 //!   told apart by a flag and not by the pointer. So a closed scan may be closed again, and feeding it has an answer.
-//! - **`next_token` is lent the scan where it lies**, and does not take it and put it back: most calls only hand on a token.
+//! - **`next_token` and `text_into` are lent the scan where it lies**, and do not take it and put it back: they are called for
+//!   each token.
 //! - **A loaded table is a handle of its owner, given to one call at a time.** All handles and scans that share a table own it
 //!   together (`Arc`), so none outlives it. To read through a `&` to a struct with a pointer would take a law of its own.
 //! - **Output that does not fit the caller's buffer is kept and handed out first**; only then is the end or the fault

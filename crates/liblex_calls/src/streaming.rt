@@ -113,25 +113,18 @@ pub fn next_token(stream: &mut TokenStream, token: &mut NextToken, status: &mut 
 
 /// Hands out into the buffer the text of the token that was told last, as often as it is asked for, until the next one is;
 /// and nothing after each other answer. How long it is is told in `count`, also where the buffer is too small.
-pub fn text_into(
-    alloc: Global,
-    stream: &mut TokenStream,
-    buffer: &mut [u8],
-    count: &mut usize,
-) -> Answer
+pub fn text_into(stream: &mut TokenStream, buffer: &mut [u8], count: &mut usize) -> Answer
     ensures handed { (file : List ℕ) (lines told : Bool) (fed : List ℕ) (tokens : List TokenModel) (text : List ℕ)
         → Streams file lines told fed tokens text stream.old
         → HandsText text stream.old stream.new buffer.old buffer.new count.new result }
     ensures closed { stream_in stream.old ≡ None → (result ≡ Answer.Closed) × (stream_in stream.new ≡ None)
         × NothingOut buffer.old buffer.new count.new }
 {
-    *count = 0;
-    let Some(held) = take(alloc, stream) else {
+    if !stream.is_open() {
+        *count = 0;
         return Answer::Closed;
-    };
-    let answer = held.hand_text(buffer, count);
-    put(stream, held);
-    answer
+    }
+    stream.place.scan().hand_text(buffer, count)
 }
 
 /// Closes a stream, and gives its memory back. One that is closed stays so.
