@@ -9,7 +9,7 @@ LEXLOOK is the program, as crates/lexlook/out/lexlook. For each specification, o
 scanner, and scans each input of the suite. What it writes and its status must be those of the suite. With --rows the specifications are those of
 the rows of scans of crates/lextest_product/data/, as far as flex takes them and writes what the row says; with --random they are those of
 compare.py, which have what both take. Where an action prints the text by %s, inputs with a byte NUL are left out: printf of C ends the text
-there. A line is printed for each specification of a file, and for each input on which flex does otherwise; the status is 1 where there is one. It
+there. So are those at which flex's scanner stops with an internal error, as where a yyless passes the text, or does not end. A line is printed for each specification of a file, and for each input on which flex does otherwise; the status is 1 where there is one. It
 wants flex 2.6.4 and a C compiler, and is no part of the gate."""
 import glob
 import os
@@ -68,12 +68,12 @@ def scanner_of(spec, folder):
 
 
 def scanned(scanner, text):
-    """What a scanner writes, and its status; none where it does not end."""
+    """What a scanner writes, and its status; none where it stops with an internal error or does not end."""
     try:
         ran = subprocess.run([scanner], input=text, capture_output=True, timeout=10)
     except subprocess.TimeoutExpired:
         return None
-    return ran.stdout, ran.returncode
+    return None if b"fatal flex scanner internal error" in ran.stderr else (ran.stdout, ran.returncode)
 
 
 def suite_of(lexlook, spec):
@@ -93,7 +93,9 @@ def compared(suite, scanner, spec, name):
             left_out += 1
             continue
         theirs = scanned(scanner, text)
-        if theirs != (output, status):
+        if theirs is None:
+            left_out += 1
+        elif theirs != (output, status):
             print(f"{name}: {text!r}: {theirs!r}, not {output!r} {status}")
             wrong += 1
     return Compared(wrong, left_out)
@@ -140,7 +142,7 @@ def go_over(lexlook, scans):
             found = compared(suite, scanner, spec, repr(text.decode("latin-1")))
             taken, inputs, faults = taken + 1, inputs + len(suite.inputs), faults + found.wrong
             missed, left_out = missed + suite.missed, left_out + found.left_out
-    print(f"{taken} specifications, {inputs} inputs, {missed} edges not walked, {left_out} with a byte NUL left out, {faults} otherwise than flex's")
+    print(f"{taken} specifications, {inputs} inputs, {missed} edges not walked, {left_out} left out, {faults} otherwise than flex's")
     return faults
 
 
@@ -155,7 +157,7 @@ def files_over(lexlook, specs):
                 continue
             found = compared(suite, scanner, spec, name)
         print(
-            f"{name}: {len(suite.inputs)} inputs, {suite.missed} edges not walked, {found.left_out} with a byte NUL left out, "
+            f"{name}: {len(suite.inputs)} inputs, {suite.missed} edges not walked, {found.left_out} left out, "
             f"{found.wrong} otherwise than flex's"
         )
         faults += found.wrong
