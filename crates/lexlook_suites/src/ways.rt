@@ -58,12 +58,12 @@ impl Way {
     }
 }
 
-/// The condition of the next match after these statements, where they only write and set it.
+/// The condition of the next match after these statements, where they only write, set it, and keep the text for the next one.
 fn condition_after(statements: &[Statement], condition: u8) -> Option<u8> {
     let mut next = condition;
     for statement in statements {
         match statement {
-            Statement::Echo | Statement::Print(_) => {}
+            Statement::Echo | Statement::Print(_) | Statement::More => {}
             Statement::Begin(other) | Statement::Push(other) => next = *other,
             _ => return None,
         }
@@ -71,7 +71,7 @@ fn condition_after(statements: &[Statement], condition: u8) -> Option<u8> {
     Some(next)
 }
 
-/// The condition after a match that leads to a state, where the action of its rule only writes and sets it.
+/// The condition after a match that leads to a state, where the action of its rule does no more.
 fn condition_at(dfa: &Dfa, rules: &[Rule], state: u32, condition: u8) -> Option<u8>
     requires { state < states_of dfa.now }
 {
