@@ -44,13 +44,15 @@ FAMILIES = {
     "context_found": ('a/a*b { printf("C"); }\n' + ONE, "a", "", "b"),
     "context_every2": ('a/(aa)*b { printf("C"); }\n' + ONE, "a", "", "b"),
     "less_found": ('a+ { yyless(1); printf("L"); }\n', "a"),
-    # matches that are tried one after another
+    # a match that is given up
     "reject": ('a+ { REJECT; }\n' + ONE, "a"),
+    # the same after something was done: matches that are tried one after another
+    "reject_set": ('%x A\n%%\n<INITIAL,A>a+ { BEGIN(A); REJECT; }\n<INITIAL,A>' + ONE, "a"),
 }
 assert math.lcm(*range(2, 7)) == 60 and math.lcm(*range(2, 9)) == 840
 
 if __name__ == "__main__":
     folder, name, size = Path(sys.argv[1]), sys.argv[2], int(sys.argv[3])
     rules, *shape = FAMILIES[name]
-    (folder / f"{name}.l").write_text("%%\n" + rules)
+    (folder / f"{name}.l").write_text(rules if "%%" in rules else "%%\n" + rules)
     (folder / f"{name}.input").write_text(text(size, *shape))

@@ -118,7 +118,7 @@ heading() {
 }
 
 heading
-for name in letters line comments statements string context less more every2 context_found context_every2 less_found; do
+for name in letters line comments statements string context less more every2 context_found context_every2 less_found reject; do
     family "$name" "$size" judged
 done
 family every7 $((size / 4)) judged
@@ -127,7 +127,7 @@ family every2to6 $((size / 16)) judged
 family every2to8 $((size / 16)) judged
 echo
 heading
-family reject 4096 shown
+family reject_set 4096 shown
 echo
 "$here/inputs.py" "$folder" string 1000
 "$lex" -w -o "$folder/lex.tab" "$folder/string.l"

@@ -3,6 +3,7 @@ ghost use Rattle.std.specs.Prelude.{◌≡◌, map};
 ghost use Rattle.lex_semantics.specs.Spec.{is_reject, has_reject};
 ghost use Rattle.lex_semantics.specs.Legal.{is_yyless, is_yymore, ends_action};
 ghost use Rattle.lex_machine.specs.Literals.{literal_bytes};
+ghost use Rattle.lex_machine.specs.Quiets.{only_rejects};
 ghost use Rattle.lex_machine.specs.Views.{statement_of};
 
 /// A statement of an action in normal form. (POSIX and flex, Actions in lex.)
@@ -78,6 +79,13 @@ pub fn has_reject(statements: &[Statement]) -> bool
         }
     }
     false
+}
+
+/// Whether an action of these statements does nothing but REJECT.
+pub fn only_rejects(statements: &[Statement]) -> bool
+    ensures { result ≡ only_rejects (map statement_of statements.now) }
+{
+    matches!(statements.first(), Some(Statement::Reject))
 }
 
 /// What is done at the end of the input: bytes that are written, and the scan's status, 0 to 63.

@@ -6,6 +6,7 @@
 //! - `glance`: what a machine may tell of a match at once: `Way`, a walk up to where it stops, and `Gist`, what the
 //!   first rule there does.
 //! - `copying`: copies of actions, for a table that is to own them.
+//! - `laws`: a machine in which rules that do nothing but REJECT fit no text makes the same turns.
 //!
 //! It promises lexscan the laws of machines (`laws` and `below` of the trait), whatever the machine is. So a scan is
 //! proved once for tables, for plain automata and for machines of tests, and lexscan and lexauto know nothing of each
@@ -27,10 +28,12 @@ mod action;
 mod copying;
 mod cut;
 mod glance;
+mod laws;
 mod machine;
 
-pub use action::{EndAction, Statement, has_reject};
+pub use action::{EndAction, Statement, has_reject, only_rejects};
 pub use copying::{copy_end, copy_statements};
 pub use cut::Cut;
 pub use glance::{Gist, Way, are_simple};
+pub use laws::{examples_of_quiet, quiet_scan};
 pub use machine::Machine;

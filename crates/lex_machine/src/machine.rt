@@ -3,6 +3,7 @@ ghost use Rattle.std.specs.Prelude.{◌≡◌, ℕ, ◌<◌, map, true, false, I
 ghost use Rattle.lex_semantics.specs.Machine.{Machine as MachineModel};
 ghost use Rattle.lex_machine.specs.Views.{statement_of, end_action_of, cut_of};
 ghost use Rattle.lex_machine.specs.Glances.{Leads, Gists};
+ghost use Rattle.lex_machine.specs.Quiets.{NoneFits};
 ghost use Rattle.lex_semantics.specs.MachineLaws.{MachineLaws, StaysBelow, NoReject, SomeReject};
 
 use crate::action::{EndAction, Statement};
@@ -49,6 +50,14 @@ pub trait Machine {
     fn accepts(&self, state: u32) -> &[u32]
         requires { state < states self.now }
         ensures { result.now ≡ (machine self.now).accepts state };
+
+    /// Whether it is known that no text that leads to the state fits a rule there.
+    fn fits_none(&self, state: u32) -> bool
+        requires { state < states self.now }
+        ensures { result ≡ true → NoneFits (machine self.now) state }
+    {
+        self.accepts(state).is_empty()
+    }
 
     /// How much of a match of the rule is the text, and what is done.
     fn rule(&self, rule: u32) -> (Cut, &[Statement])

@@ -1,5 +1,5 @@
 -- A scan by the file of made tables is a scan by their specification.
-use Rattle.std.proofs.Common.{◌≡◌, ℕ, ◌<◌, Bool, true, false, List, length, Result, Ok, Err, refl, sym, ◌∙◌, arith}
+use Rattle.std.proofs.Common.{◌≡◌, ℕ, ◌<◌, Bool, true, false, List, length, Result, refl, sym, ◌∙◌, arith}
 use Rattle.std.proofs.lemmas.List.{ext_get_or}
 use Rattle.lex_semantics.specs.Text.{flag}
 use Rattle.lex_semantics.specs.Spec.{Spec}
@@ -8,7 +8,6 @@ use Rattle.lex_semantics.specs.Rules.{rules_of}
 use Rattle.lex_semantics.specs.Machine.{Machine, rules_of_machine}
 use Rattle.lex_semantics.specs.MachineLaws.{MachineLaws}
 use Rattle.lex_semantics.specs.TableFor.{TableFor}
-use Rattle.lex_semantics.specs.Acting.{Status}
 use Rattle.lexscan_window.specs.declared.error.RunError.{RunError}
 use Rattle.lextab_packed.specs.Table.{Table}
 use Rattle.lextab_packed.specs.Steps.{machine_of_table}
@@ -34,5 +33,4 @@ same_machine t u xs ys e h = rw (e, h) refl
 
 pub ran : (M : Machine) → MachineLaws M → (S : Spec) → IsSound S → TableFor M S → (given out : List ℕ) (at_end : Bool) (answer : Result ℕ RunError)
     → Ran (rules_of_machine M) given out at_end max_reads answer → Ran (rules_of S) given out at_end max_reads answer
-ran M laws S sound table given out at_end (Ok status) h = Same.ran_to M laws S sound table given out at_end (Status status) h
-ran M laws S sound table given out at_end (Err e) h = Same.ran_into M laws S sound table given out at_end max_reads e h
+ran M laws S sound table given out at_end answer h = Same.ran_to (rules_of_machine M) (rules_of S) (Same.same_scan M laws S sound table) given out at_end max_reads answer h

@@ -5,7 +5,7 @@
 //! - `options`: how a specification is read, and how large its automaton may be.
 //! - `counting` and `stats`: the counts of `-v`, with the length of the table file.
 //! - `making`: what is made of a text: `generate`, `generate_tables`, and their steps `read_text` and `least_automaton`.
-//! - `scan`: `scan_spec`, `scan_by`, `scan_made` and `scan_table`.
+//! - `scan`: `scan_spec`, `scan_by`, `scan_made` and `scan_table`, by `run_table`.
 //! - `laws`: one canonical file, and a scan by a file is a scan by its specification.
 //! - `failure` and `faults`: what ended a program, its line on standard error and its status.
 //! - `program`: the words of a command line, the files that both programs read, and how a failure is reported.
@@ -65,5 +65,5 @@ pub use options::Options;
 pub use program::{
     MAX_TABLE_BYTES, SPEC_READ_BYTES, command_words, read_more, read_spec_file, report_failure,
 };
-pub use scan::{MAX_READS, scan_by, scan_made, scan_spec, scan_table};
+pub use scan::{MAX_READS, run_table, scan_by, scan_made, scan_spec, scan_table};
 pub use stats::{Stats, write_stats};

@@ -1,8 +1,10 @@
 //! One scan, by a specification's text or a table file.
 ghost use Rattle.std.specs.Prelude.{ℕ, ◌-◌, ◌≤◌, List, nat_lt, IfErr};
+ghost use Rattle.lex_semantics.specs.Machine.{rules_of_machine};
 ghost use Rattle.lexspec.specs.Views.{spec_of};
-ghost use Rattle.lexscan.specs.Runs.{FewCounts};
-ghost use Rattle.lexkit.specs.Headline.{Headline, IsWithin, ScansBy, TableHeadline, TellsFault};
+ghost use Rattle.lexscan.specs.Runs.{FewCounts, FewReads, Ran, RunCounts};
+ghost use Rattle.lexscan.specs.Ties.{RunHandedOn};
+ghost use Rattle.lexkit.specs.Headline.{Headline, IsWithin, ScansBy, TableHeadline, TellsFault, max_reads};
 ghost use Rattle.lexkit.specs.Generated.{HasTables};
 ghost use Rattle.lexkit.specs.declared.options.Options.{Options as Asked};
 ghost use Rattle.lexkit.specs.ScanCounts.{ScanCounts};
@@ -11,19 +13,43 @@ ghost use Rattle.lex_semantics.specs.Sound.{IsSound};
 ghost use Rattle.lex_semantics.specs.Spec.{Spec as Meant};
 ghost use Rattle.lex_semantics.specs.TableFor.{TableFor};
 ghost use Rattle.lexauto.specs.declared.subsets.Limits.{Limits as Given};
+ghost use Rattle.lextab_packed.specs.FlatViews.{tables_of};
 ghost use Rattle.lextab_packed.specs.Machines.{table_machine};
 
 use crate::errors::{GenError, ScanError};
 use crate::making::{least_automaton, read_text};
 use crate::options::Options;
 use lexauto::Limits;
-use lexscan::{Source, run};
+use lexscan::{RunError, Source, run};
 use lexspec::Spec;
 use lextab::{Flat, Sink, Tables, pack_flat, read_flat};
 use std::alloc::Global;
 
 /// How many reads a scan makes at most: 2^40.
 pub const MAX_READS: u64 = 1_099_511_627_776;
+
+/// Runs the scanner over a flat table. Where some of its rules do nothing but REJECT, it runs over the same table in
+/// which they fit no text, which makes the same turns: so it need not look for the matches that they give up.
+pub fn run_table<S: Source, K: Sink>(
+    alloc: Global,
+    table: &Flat,
+    source: &mut S,
+    sink: &mut K,
+) -> Result<u8, RunError>
+    requires few { FewCounts S.ends S.failures K.failures source.old sink.old }
+    ensures ran { (given : List ℕ) × (out : List ℕ) × S.gave source.old given source.new × K.wrote sink.old out sink.new
+        × Ran (rules_of_machine (table_machine (tables_of table.now))) given out
+        (nat_lt (S.ends source.old) (S.ends source.new)) max_reads result
+        × FewReads S.ends S.failures source.old source.new given max_reads }
+    ensures counts { RunCounts S.ends S.failures K.failures source.old source.new sink.old sink.new result }
+    ensures handed_on { RunHandedOn (K.flushed sink.new) result }
+{
+    if table.has_quiet_rule() {
+        run(alloc, &table.quiet(), source, sink, MAX_READS)
+    } else {
+        run(alloc, table, source, sink, MAX_READS)
+    }
+}
 
 /// Scans the source by the specification that a text spells, and writes to the sink. It answers the status that the
 /// specification ends with, 0 to 63, and takes no byte of the source that no rule asks for. A text that spells no
@@ -76,7 +102,7 @@ pub fn scan_by<S: Source, K: Sink>(
         Err(_) => return Err(ScanError::Generate(GenError::OutOfMemory)),
         Ok(machine) => machine,
     };
-    match run(alloc, &machine, source, sink, MAX_READS) {
+    match run_table(alloc, &machine, source, sink) {
         Err(fault) => Err(ScanError::Run(fault)),
         Ok(status) => Ok(status),
     }
@@ -101,7 +127,7 @@ pub fn scan_made<S: Source, K: Sink>(
         Err(_) => return Err(ScanError::Generate(GenError::OutOfMemory)),
         Ok(flat) => flat,
     };
-    match run(alloc, &flat, source, sink, MAX_READS) {
+    match run_table(alloc, &flat, source, sink) {
         Err(stop) => Err(ScanError::Run(stop)),
         Ok(end) => Ok(end),
     }
@@ -127,7 +153,7 @@ pub fn scan_table<S: Source, K: Sink>(
         Err(error) => return Err(ScanError::Table(error)),
         Ok(flat) => flat,
     };
-    match run(alloc, &flat, source, sink, MAX_READS) {
+    match run_table(alloc, &flat, source, sink) {
         Err(error) => Err(ScanError::Run(error)),
         Ok(answer) => Ok(answer),
     }

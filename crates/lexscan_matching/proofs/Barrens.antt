@@ -1,14 +1,17 @@
 -- Walks over bytes that are held, and lead to no match.
 use mathlib.Core.Logic.{∥∥₁_elim}
-use Rattle.std.proofs.Common.{◌≡◌, ℕ, zero, suc, ◌+◌, ◌-◌, ◌≤◌, ◌<◌, Bool, true, false, List, [], ◌∷◌, ◌++◌, length, take, drop, get_or, ◌⊎◌, inl, inr, refl, sym, ◌∙◌, ap, subst, arith, take-add, take_all}
-use Rattle.std.specs.Prelude.{filter_map, ◌==◌, slice_range}
+use Rattle.std.proofs.Common.{◌≡◌, ℕ, zero, suc, ◌+◌, ◌-◌, ◌≤◌, ◌<◌, Bool, true, false, List, [], ◌∷◌, ◌++◌, length, take, drop, get_or, ◌⊎◌, inl, inr, Option, Some, None, refl, sym, ◌∙◌, ap, subst, arith, take-add, take_all}
+use Rattle.std.specs.Prelude.{filter_map, slice_range}
 use Rattle.std.proofs.lemmas.List.{append-nil, length-append, length-drop, length-take-le, take-append-le, take-take, drop-append-le, drop-drop, nil_from_length}
 use Rattle.std.proofs.Math.Seq.{drop-cons}
-use Rattle.std.proofs.lemmas.Bool.{cases_lt, eqb-true}
+use Rattle.std.proofs.lemmas.Bool.{cases_lt}
 use Rattle.lex_semantics.specs.Text.{Among, IsText}
-use Rattle.lex_semantics.specs.Machine.{Machine, walk}
+use Rattle.lex_semantics.specs.Machine.{Machine, Keeps, walk}
 use Rattle.lex_semantics.specs.MachineLaws.{MachineLaws, StaysBelow, LeadsToAccept}
-use Rattle.lex_semantics.specs.PlainMachine.{match_of}
+use Rattle.lex_semantics.specs.PlainMachine.{kept_by, match_of}
+use Rattle.lex_machine.specs.Quiets.{NoneFits}
+use Rattle.lex_semantics.proofs.MachineRun.{match_sound}
+use Rattle.lexscan_matching.proofs.Descending.{no_match}
 use Rattle.lex_semantics.specs.Trail.{falling}
 use Rattle.lexscan_matching.specs.declared.back.Settled.{Settled}
 use Rattle.lexscan_window.specs.declared.memo.Mark.{Mark}
@@ -135,13 +138,13 @@ module _ (M : Machine) (p : TextPlace) (w : List ℕ) (e : Bool) where
       let one : suc (p.at + k) ≡ p.at + (k + 1) = omega arith in
       drop-cons w (p.at + k) 0 lt ∙ ap (λ j. get_or w (p.at + k) 0 ∷ drop j w) one
 
-  barren_back : (k : ℕ) → p.at + k < length w → M.accepts (state_at M p w (k + 1)) ≡ [] → BarrenFrom (k + 1) → BarrenFrom k
+  barren_back : (k : ℕ) → p.at + k < length w → NoneFits M (state_at M p w (k + 1)) → BarrenFrom (k + 1) → BarrenFrom k
   barren_back k lt none h = subst (Barren M e (state_at M p w k)) (sym (split k lt)) (λ g. (
-    ap M.accepts (state_more M p w k lt) ∙ none,
+    subst (NoneFits M) (sym (state_more M p w k lt)) none,
     subst (λ s. Barren M e s (drop (p.at + (k + 1)) w)) (sym (state_more M p w k lt)) h,
   ))
 
-  pub barren_before : (m k : ℕ) → p.at + (k + m) ≤ length w → ((j : ℕ) → k < j → j ≤ k + m → M.accepts (state_at M p w j) ≡ []) → BarrenFrom (k + m) → BarrenFrom k
+  pub barren_before : (m k : ℕ) → p.at + (k + m) ≤ length w → ((j : ℕ) → k < j → j ≤ k + m → NoneFits M (state_at M p w j)) → BarrenFrom (k + m) → BarrenFrom k
   barren_before zero k le none h = subst BarrenFrom (omega arith) h
   barren_before (suc m) k le none h =
       let same : k + suc m ≡ k + 1 + m = omega arith in
@@ -162,10 +165,10 @@ pub record LookedAt (M : Machine) (states : ℕ) (p : TextPlace) (r : Reading) (
   pub kept_known : a.state < states
   pub kept_before : 1 ≤ a.keep → a.before ≡ state_at M p r.window.bytes (a.keep - 1)
   pub kept_before_known : a.before < states
-  pub none : (k : ℕ) → a.keep < k → k ≤ len → M.accepts (state_at M p r.window.bytes k) ≡ []
+  pub none : (k : ℕ) → a.keep < k → k ≤ len → NoneFits M (state_at M p r.window.bytes k)
 
 pub looked_more : (M : Machine) (states : ℕ) (p : TextPlace) (r : Reading) (len state before s : ℕ) (a b : Settled) → LookedAt M states p r len state before a → (1 ≤ len → M.goes_on state ≡ true) → p.at + len < length r.window.bytes →
-    s ≡ M.next state (get_or r.window.bytes (p.at + len) 0) → s < states → (silent : Bool) → (silent ≡ true → M.accepts s ≡ []) → b.len ≡ len + 1 →
+    s ≡ M.next state (get_or r.window.bytes (p.at + len) 0) → s < states → (silent : Bool) → (silent ≡ true → NoneFits M s) → b.len ≡ len + 1 →
     ((b.keep ≡ len + 1) × (b.state ≡ s) × (b.before ≡ state)) ⊎ ((b.keep ≡ a.keep) × (b.state ≡ a.state) × (b.before ≡ a.before) × (0 < a.keep) × (silent ≡ true)) → LookedAt M states p r (len + 1) s state b
 looked_more M states p r len state before s a b h live lt stepped known silent quiet sized kept = record {
   inside = omega (arith, lt);
@@ -222,10 +225,10 @@ looked_more M states p r len state before s a b h live lt stepped known silent q
     kept_before_known (inl k) = omega (arith, k.2, h.state_known)
     kept_before_known (inr k) = omega (arith, k.2, h.kept_before_known)
 
-    last : (k : ℕ) → k ≡ len + 1 → silent ≡ true → M.accepts (state_at M p w k) ≡ []
-    last k e is = ap (λ n. M.accepts (state_at M p w n)) e ∙ ap M.accepts (sym next.state_is) ∙ quiet is
+    last : (k : ℕ) → k ≡ len + 1 → silent ≡ true → NoneFits M (state_at M p w k)
+    last k e is = subst (λ n. NoneFits M (state_at M p w n)) (sym e) (subst (NoneFits M) next.state_is (quiet is))
 
-    none : Kept → (k : ℕ) → b.keep < k → k ≤ len + 1 → M.accepts (state_at M p w k) ≡ []
+    none : Kept → (k : ℕ) → b.keep < k → k ≤ len + 1 → NoneFits M (state_at M p w k)
     none (inl e) k lo hi = absurd (omega (arith, e.0, lo, hi))
     none (inr e) k lo hi = elim (cases_lt len k) [
       | inl more ↦ last k (omega (arith, more, hi)) e.4
@@ -280,11 +283,20 @@ so_far_next M p w k s x le lt h live byte =
     step_more M p w w [] k s (M.next s x) (path_of M p w k) (path_of M p w k ++ M.next s x ∷ []) le (sym (append-nil w)) lt h (λ _. live) (ap (M.next s) (sym byte)) refl in
     subst (λ t. SoFar M p (drop p.at w) (k + 1) (M.next s x) t) next.path_is next
 
-further_back : (M : Machine) (p : TextPlace) (r : Reading) (k : ℕ) → M.accepts (state_at M p r.window.bytes (k + 1)) ≡ [] → p.at + k < length r.window.bytes → Further M p r (k + 1) → Further M p r k
+-- no match is made of rules that fit nothing
+none_kept : (M : Machine) (n i : ℕ) → ((k : ℕ) → Keeps (M.cut i) n k → ⊥) → (o : Option ℕ) → kept_by (M.cut i) n ≡ o → kept_by (M.cut i) n ≡ None
+none_kept M n i h None is = is
+none_kept M n i h (Some k) is = absurd (h k (match_sound M n i (Some k) (record { len = n; rule = i; keep = k }) is refl).2)
+
+none_matched : (M : Machine) (n : ℕ) (is : List ℕ) → ((i : ℕ) → Among is i → (k : ℕ) → Keeps (M.cut i) n k → ⊥) → filter_map (match_of M n) is ≡ []
+none_matched M n [] h = refl
+none_matched M n (i ∷ is) h = no_match M n i is (none_kept M n i (h i (inl refl)) (kept_by (M.cut i) n) refl) ∙ none_matched M n is (λ j a. h j (inr a))
+
+further_back : (M : Machine) (p : TextPlace) (r : Reading) (k : ℕ) → NoneFits M (state_at M p r.window.bytes (k + 1)) → p.at + k < length r.window.bytes → Further M p r (k + 1) → Further M p r k
 further_back M p r k none lt after = record {
   reach = after.reach;
   looked = after.looked;
-  same = sym (falling_more M p r.window.bytes k lt ∙ ap (λ l. filter_map (match_of M (k + 1)) l ++ falling M 0 (path_of M p r.window.bytes k)) none) ∙ after.same;
+  same = sym (falling_more M p r.window.bytes k lt ∙ ap (λ l. l ++ falling M 0 (path_of M p r.window.bytes k)) (none_matched M (k + 1) (M.accepts (state_at M p r.window.bytes (k + 1))) (λ i a j fits. none i a (k + 1) j fits))) ∙ after.same;
 }
 
 pub further : (M : Machine) (p : TextPlace) (r : Reading) → p.at ≤ length r.window.bytes → (rest : List ℕ) (k s : ℕ) (b : Bool) → M.goes_on s ≡ b → drop (p.at + k) r.window.bytes ≡ rest → 1 ≤ k →
@@ -311,11 +323,8 @@ further M p r le (x ∷ rest) k s true live is some h barren =
     let byte : get_or r.window.bytes (p.at + k) 0 ≡ x = first_left M p r.window.bytes r.at_end k x rest lt is in
     let left : drop (p.at + (k + 1)) r.window.bytes ≡ rest = rest_left M p r.window.bytes r.at_end k x rest lt is in
     let next : SoFar M p (drop p.at r.window.bytes) (k + 1) (M.next s x) (path_of M p r.window.bytes (k + 1)) = so_far_next M p r.window.bytes k s x le lt h live byte in
-    further_back M p r k (ap M.accepts (sym next.state_is) ∙ (barren live).0) lt
+    further_back M p r k (subst (NoneFits M) next.state_is (barren live).0) lt
     (further M p r le rest (k + 1) (M.next s x) (M.goes_on (M.next s x)) refl left (omega arith) next (barren live).1)
-
-pub none_in : (l : List ℕ) (b : Bool) → b ≡ (length l == 0) → b ≡ true → l ≡ []
-none_in l b e is = nil_from_length l (eqb-true (length l) 0 (sym e ∙ is))
 
 -- a mark of the place tells
 pub marked : (M : Machine) (r : Reading) (ms : List Mark) (m : Mark) (i left : ℕ) → AreTrue M r ms → Among ms m → m.place + left ≡ r.taken → i + left ≡ length r.window.bytes → TellsWalk M r.at_end m (drop i r.window.bytes)

@@ -8,7 +8,7 @@ use crate::pick::LookAhead;
 use lex_machine::Machine;
 use lexscan_window::{Mark, Memo, Reading, TextPlace};
 
-/// A match of which no state accepts after its first `keep` bytes, the state after these and the one before it, over
+/// A match of which no rule fits after its first `keep` bytes, the state after these and the one before it, over
 /// how many bytes a walk showed it, and how many of them were walked over now.
 #[derive(Clone, Copy)]
 pub struct Settled {
@@ -28,7 +28,7 @@ pub enum Ahead {
     Open(LookAhead),
 }
 
-/// The same after one byte more: it keeps all where this is the first byte or its state accepts.
+/// The same after one byte more: it keeps all where this is the first byte or a rule may fit there.
 #[inline(always)]
 fn after(settled: Settled, len: usize, state: u32, before: u32, silent: bool) -> Settled
     ensures len { result.len ≡ len }
@@ -116,7 +116,7 @@ pub fn look<M: Machine>(machine: &M, reading: &Reading, memo: &Memo, place: Text
         before = state;
         state = machine.step(state, reading.window.byte(place.at + len));
         len += 1;
-        let silent = machine.accepts(state).is_empty();
+        let silent = machine.fits_none(state);
         settled = after(settled, len, state, before, silent);
         if !machine.goes_on(state) {
             return Ahead::Settled(settled);

@@ -18,14 +18,14 @@
 //! - There are two forms of a match. Where no rule has REJECT the last two states are kept, since mostly one of them
 //!   accepts; else the bytes held are walked over once more. Where some rule has REJECT, the state after every byte is
 //!   kept.
-//! - A burst goes back over at most 128 bytes to find the last accepting state. Where there are more it ends, so that no
+//! - A burst goes back over at most 32 bytes to find the last accepting state. Where there are more it ends, so that no
 //!   byte is walked over more than a fixed number of times.
 //! - A rule that does nothing is asked for first: its match changes three numbers, which stay in registers.
 //! - Where some rule has REJECT there are no marks. Its matches are tried one after another, which may take time in
-//!   the square of the text, whatever is known of walks.
-//! - A walk marks the last state on its way that accepts, or that none does, not that a rule fits. In the automaton of a specification these
-//!   are the same. A table file that no specification makes may accept a rule whose trailing context takes the whole
-//!   match, and then walks are not marked.
+//!   the square of the text, whatever is known of walks. A machine may leave out the rules that do nothing but REJECT.
+//! - A walk marks the last state on its way where a rule may fit, or that there is none, as the machine knows it
+//!   (`fits_none`). In the automaton of a specification these are the states that accept. A table file that no specification
+//!   makes may accept a rule whose trailing context takes the whole match, and then walks are not marked.
 #![tactic(auto)]
 
 mod back;

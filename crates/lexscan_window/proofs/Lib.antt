@@ -3,3 +3,4 @@ pub mod Saying
 pub mod Walking
 pub mod Showing
 pub mod Marks
+pub mod MarkExampled

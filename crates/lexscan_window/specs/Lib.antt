@@ -10,3 +10,4 @@ pub mod Takings
 pub mod Acts
 pub mod Memos
 pub mod Waits
+pub mod MarkExamples

@@ -4,16 +4,17 @@ use Rattle.std.specs.Coded.{×_prop, le_prop}
 use Rattle.std.proofs.Props.{props}
 use Rattle.lex_semantics.specs.Text.{Among}
 use Rattle.lex_semantics.specs.Machine.{Machine, walk}
+use Rattle.lex_machine.specs.Quiets.{NoneFits}
 use Rattle.lexscan_window.specs.declared.cell.Cell.{Cell}
 use Rattle.lexscan_window.specs.declared.known_walk.KnownWalk.{KnownWalk}
 use Rattle.lexscan_window.specs.declared.memo.Mark.{Mark}
 use Rattle.lexscan_window.specs.declared.state.Reading.{Reading}
 
--- The walk from a state over these bytes comes to no state that accepts, and asks for none that follows them; or it
--- asks for the end there, where that is known to be the end.
+-- The walk from a state over these bytes comes to no state where a rule fits, and asks for none that follows them; or
+-- it asks for the end there, where that is known to be the end.
 abbrev pub Barren : Machine → Bool → ℕ → List ℕ → Type 0
 Barren M at_end s [] = M.goes_on s ≡ true → at_end ≡ true
-Barren M at_end s (b ∷ w) = M.goes_on s ≡ true → (M.accepts (M.next s b) ≡ []) × Barren M at_end (M.next s b) w
+Barren M at_end s (b ∷ w) = M.goes_on s ≡ true → NoneFits M (M.next s b) × Barren M at_end (M.next s b) w
 
 -- The walk from a state goes over all of these bytes, to a last state, over the one before it.
 abbrev pub GoesOver : Machine → ℕ → List ℕ → ℕ → ℕ → Type 0
@@ -65,11 +66,14 @@ abbrev pub AreTrue : Machine → Reading → List Mark → Type 0
 AreTrue M r ms = (m : Mark) → Among ms m → IsTrueMark M r m
 
 -- There is one proof at most of these, so a type may keep it.
+NoneFits-prop : (M : Machine) (s : ℕ) → IsProp (NoneFits M s)
+NoneFits-prop M s =
+    λ x y. λ k. λ i a n m h. (let none : IsProp ⊥ = Prim.hlevel props in none (x i a n m h) (y i a n m h) k)
+
 Barren-prop : (M : Machine) (at_end : Bool) (s : ℕ) (w : List ℕ) → IsProp (Barren M at_end s w)
 Barren-prop M at_end s [] = λ x y. λ k. λ g. (let p : IsProp (at_end ≡ true) = Prim.hlevel props in p) (x g) (y g) k
 Barren-prop M at_end s (b ∷ w) =
-    let none : IsProp (M.accepts (M.next s b) ≡ []) = Prim.hlevel props in
-    λ x y. λ k. λ g. ×_prop none (Barren-prop M at_end (M.next s b) w) (x g) (y g) k
+    λ x y. λ k. λ g. ×_prop (NoneFits-prop M (M.next s b)) (Barren-prop M at_end (M.next s b) w) (x g) (y g) k
 
 GoesOver-prop : (M : Machine) (s : ℕ) (w : List ℕ) (last before : ℕ) → IsProp (GoesOver M s w last before)
 GoesOver-prop M s w last before =

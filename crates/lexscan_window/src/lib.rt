@@ -16,6 +16,7 @@
 //! - `act`: the statements of a rule are carried out.
 //! - `memo`: the marks: pairs of a place and a state, and where a walk from there leads.
 //! - `cell`: a few marks of one place, of walks that lead to no match. `known_walk`: the mark of a walk that leads to one.
+//! - `laws`: worked examples of marks.
 //! - `waiting`: a source over what is left of earlier pieces and the new piece, for scans by pieces.
 //!
 //! It promises lexscan_matching and lexscan which bytes were taken, held and written (`specs/Takings`, `Walks`), and
@@ -38,6 +39,7 @@ mod error;
 mod glimpse;
 mod intake;
 mod known_walk;
+mod laws;
 mod matched;
 mod memo;
 mod path;
@@ -52,6 +54,7 @@ mod window;
 pub use act::{ActionFlow, ActionState, Finish, carry_out, put};
 pub use error::RunError;
 pub use intake::{Intake, Outlet};
+pub use laws::examples_of_marks;
 pub use matched::{Candidate, Match, MatchedRule};
 pub use memo::{Mark, Memo};
 pub use path::StatePath;

@@ -11,3 +11,4 @@ pub mod Leaps
 pub mod Live
 pub mod Inverse
 pub mod Spreading
+pub mod Quiets

@@ -14,6 +14,8 @@
 //! - `leaps`: states that at most three bytes lead away from; runs of the others are passed 16 bytes at a time.
 //! - `flat`: a table with a row of 256 marked targets for each state, so that a step is one look-up. It is the machine
 //!   of a scan.
+//! - `quiet`: a flat table in which rules that do nothing but REJECT fit no text, so that their matches are not looked
+//!   for.
 //!
 //! It promises that a table keeps to `IsTable`, and is a machine by its laws; and that the flat one is the same
 //! machine. How live states are found may change alone. So may the marks of `flat` and the kinds, under the trait's
@@ -39,6 +41,7 @@ mod leaps;
 mod live;
 mod machine;
 mod parts;
+mod quiet;
 mod rows;
 mod steps;
 mod tables;
@@ -47,5 +50,6 @@ pub use flat::Flat;
 pub use laying::laid_out;
 pub use live::live_states;
 pub use parts::{Row, TableCondition, TableParts, TableRule, may_lead};
+pub use quiet::Quiet;
 pub use rows::flat_rows;
 pub use tables::{Tables, any_reject};

@@ -41,7 +41,7 @@ impl Rules {
 
     /// The machine.
     #[inline(always)]
-    fn flat(&self) -> &Flat
+    pub(crate) fn flat(&self) -> &Flat
         ensures { result.now ≡ arc_value self.now.flat }
     {
         &self.flat

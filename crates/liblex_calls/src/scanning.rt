@@ -12,7 +12,7 @@ use crate::memory::Kept;
 use crate::rules::Rules;
 use crate::tables::LoadedTables;
 use lex_io::SliceSource;
-use lexkit::{MAX_READS, RunError, ScanError, TableError, run, scan_table};
+use lexkit::{RunError, ScanError, TableError, run_table, scan_table};
 use std::alloc::Global;
 
 /// Tells a scan that was refused or stopped. What was written up to a fault of the stack is handed out. A sink over
@@ -96,7 +96,7 @@ fn scan_by_rules(
     *status = 0;
     let mut source = SliceSource::new(input);
     let mut sink = Kept::new(alloc);
-    match run(alloc, rules, &mut source, &mut sink, MAX_READS) {
+    match run_table(alloc, rules.flat(), &mut source, &mut sink) {
         Ok(end) => {
             *status = end;
             hand_out(sink.bytes.as_slice(), buffer, count)

@@ -14,11 +14,11 @@ pub returns-in-Err-clause-told : goal.returns-in-Err-clause-told
 returns-in-Err-clause-told g c = told_of g.S.Source.gave g.K.Sink.wrote c.args.source.now c.args.sink.now (nat_lt (g.S.Source.ends c.args.source.now) (g.S.Source.ends c.args.source.now))
     (g.S.Source.failures c.args.source.now - g.S.Source.failures c.args.source.now) c.args.limits (spec_of c.args.spec.now) c.in-Err.error c.in-Err.ensures.refused
 
-pub returns-in-Err-run-clause-told : goal.returns-in-Err-run-clause-told
-returns-in-Err-run-clause-told g c =
+pub returns-in-Err-run_table-clause-told : goal.returns-in-Err-run_table-clause-told
+returns-in-Err-run_table-clause-told g c =
     let S : Spec = spec_of c.args.spec.now in
     let made = c.in-Ok.ensures.made in
-    let h = c.in-Err-run.ensures.ran in
+    let h = c.in-Err-run_table.ensures.ran in
     stopped_at _ _ _ _ _ _ _ _ _ _ c.args.limits S (spec_is_sound S c.args.spec.now.sound) (within c.args.limits S c.in-Ok.least.subsets c.in-Ok.least.automaton made)
     _ (laws_of (tables_of c.in-Ok-pack_flat.machine)) (subst (λ M. TableFor M S) (sym c.in-Ok-pack_flat.ensures) made.table) h.0 h.1 h.2 h.3 h.5 _ h.4
 
@@ -26,6 +26,6 @@ pub returns-clause-told : goal.returns-clause-told
 returns-clause-told g c =
     let S : Spec = spec_of c.args.spec.now in
     let made = c.in-Ok.ensures.made in
-    let h = c.in-Ok-run.ensures.ran in
+    let h = c.in-Ok-run_table.ensures.ran in
     came_to _ _ _ _ _ _ _ _ _ _ c.args.limits S (spec_is_sound S c.args.spec.now.sound) (within c.args.limits S c.in-Ok.least.subsets c.in-Ok.least.automaton made)
     _ (laws_of (tables_of c.in-Ok-pack_flat.machine)) (subst (λ M. TableFor M S) (sym c.in-Ok-pack_flat.ensures) made.table) h.0 h.1 h.2 h.3 h.5 _ h.4

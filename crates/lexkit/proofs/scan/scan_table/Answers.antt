@@ -5,9 +5,9 @@ use Rattle.lexkit.proofs.Carried as Same
 use Rattle.lexkit.proofs.Refusing.{table_refusal}
 use Rattle.lexkit.proofs.scan.scan_table.Goals as goal
 
-pub returns-in-Err-run-clause-told : goal.returns-in-Err-run-clause-told
-returns-in-Err-run-clause-told g c =
-    let h = c.in-Err-run.ensures.ran in
+pub returns-in-Err-run_table-clause-told : goal.returns-in-Err-run_table-clause-told
+returns-in-Err-run_table-clause-told g c =
+    let h = c.in-Err-run_table.ensures.ran in
     record {
       table = table_of c.in-Ok.flat.tables.parts;
       file = c.in-Ok.ensures.found;
@@ -25,7 +25,7 @@ returns-in-Err-run-clause-told g c =
 
 pub returns-clause-told : goal.returns-clause-told
 returns-clause-told g c =
-    let h = c.in-Ok-run.ensures.ran in
+    let h = c.in-Ok-run_table.ensures.ran in
     record {
       table = table_of c.in-Ok.flat.tables.parts;
       file = c.in-Ok.ensures.found;

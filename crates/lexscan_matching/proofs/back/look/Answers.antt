@@ -1,4 +1,4 @@
-use Rattle.std.proofs.Common.{◌≡◌, ℕ, ◌+◌, ◌≤◌, ◌<◌, true, List, [], length, drop, sym, ◌∙◌, ap, subst, arith}
+use Rattle.std.proofs.Common.{◌≡◌, ℕ, ◌+◌, ◌≤◌, ◌<◌, true, List, length, drop, sym, ◌∙◌, ap, subst, arith}
 use Rattle.std.proofs.lemmas.List.{length-drop}
 use Rattle.lex_semantics.specs.Text.{IsText}
 use Rattle.lex_semantics.specs.Machine.{Machine}
@@ -13,10 +13,9 @@ returns-then-not-goes_on g c =
     let M : Machine = g.M.Machine.machine c.args.machine.now in
     let r : Reading = c.args.reading.now in
     let lt : c.args.place.at + c.bytes.len < length r.window.bytes = omega (arith, c.bytes-test.true, c.len.ensures, c.requires.inside) in
-    let quiet : c.is_empty-silent.result ≡ true → M.accepts c.step-state.result ≡ [] = λ is. sym c.accepts.ensures ∙ Look.none_in c.accepts.result.now c.is_empty-silent.result c.is_empty-silent.ensures is in
     let looked : LookedAt M (g.M.Machine.states c.args.machine.now) c.args.place r (c.bytes.len + 1) c.step-state.result c.bytes.state c.after-settled.result =
     Look.looked_more M _ c.args.place r c.bytes.len c.bytes.state c.bytes.before c.step-state.result c.bytes.settled c.after-settled.result c.bytes.invariant.looked c.bytes.invariant.goes_on lt
-    (c.step-state.ensures.state ∙ ap (M.next c.bytes.state) c.byte.ensures.value) c.step-state.ensures.known c.is_empty-silent.result quiet c.after-settled.ensures.len c.after-settled.ensures.keep in
+    (c.step-state.ensures.state ∙ ap (M.next c.bytes.state) c.byte.ensures.value) c.step-state.ensures.known c.fits_none-silent.result c.fits_none-silent.ensures c.after-settled.ensures.len c.after-settled.ensures.keep in
     Look.settled_at M _ c.args.place r (c.bytes.len + 1) c.step-state.result c.bytes.state c.after-settled.result looked (omega arith)
     (Look.barren_stopped M r.at_end c.step-state.result (drop (c.args.place.at + (c.bytes.len + 1)) r.window.bytes) (sym c.goes_on.ensures ∙ c.if-not-goes_on.true))
 
@@ -34,10 +33,9 @@ returns-in-Some g c =
     let r : Reading = c.args.reading.now in
     let w : List ℕ = r.window.bytes in
     let lt : c.args.place.at + c.bytes.len < length w = omega (arith, c.bytes-test.true, c.len.ensures, c.requires.inside) in
-    let quiet : c.is_empty-silent.result ≡ true → M.accepts c.step-state.result ≡ [] = λ is. sym c.accepts.ensures ∙ Look.none_in c.accepts.result.now c.is_empty-silent.result c.is_empty-silent.ensures is in
     let looked : LookedAt M (g.M.Machine.states c.args.machine.now) c.args.place r (c.bytes.len + 1) c.step-state.result c.bytes.state c.after-settled.result =
     Look.looked_more M _ c.args.place r c.bytes.len c.bytes.state c.bytes.before c.step-state.result c.bytes.settled c.after-settled.result c.bytes.invariant.looked c.bytes.invariant.goes_on lt
-    (c.step-state.ensures.state ∙ ap (M.next c.bytes.state) c.byte.ensures.value) c.step-state.ensures.known c.is_empty-silent.result quiet c.after-settled.ensures.len c.after-settled.ensures.keep in
+    (c.step-state.ensures.state ∙ ap (M.next c.bytes.state) c.byte.ensures.value) c.step-state.ensures.known c.fits_none-silent.result c.fits_none-silent.ensures c.after-settled.ensures.len c.after-settled.ensures.keep in
     let live : M.goes_on c.step-state.result ≡ true = sym c.goes_on.ensures ∙ c.if-not-goes_on.false in
     let text : IsText (drop c.args.place.at w) = subst IsText (c.slice.ensures ∙ Look.whole_slice w c.args.place.at _ (omega (arith, c.len.ensures, c.requires.inside))) c.is_text.ensures in
     let tells : TellsWalk M r.at_end c.in-Some.mark (drop (c.args.place.at + (c.bytes.len + 1)) w) = Look.marked M r c.args.memo.now c.in-Some.mark (c.args.place.at + (c.bytes.len + 1)) _ c.requires.marks c.in-Some.ensures.0 c.in-Some.ensures.2 (omega (arith, c.len.ensures, c.requires.inside, c.bytes-test.true)) in
@@ -48,10 +46,9 @@ bytes-preserved-in_default g c =
     let M : Machine = g.M.Machine.machine c.args.machine.now in
     let r : Reading = c.args.reading.now in
     let lt : c.args.place.at + c.bytes.len < length r.window.bytes = omega (arith, c.bytes-test.true, c.len.ensures, c.requires.inside) in
-    let quiet : c.is_empty-silent.result ≡ true → M.accepts c.step-state.result ≡ [] = λ is. sym c.accepts.ensures ∙ Look.none_in c.accepts.result.now c.is_empty-silent.result c.is_empty-silent.ensures is in
     record {
       looked = Look.looked_more M _ c.args.place r c.bytes.len c.bytes.state c.bytes.before c.step-state.result c.bytes.settled c.after-settled.result c.bytes.invariant.looked c.bytes.invariant.goes_on lt
-          (c.step-state.ensures.state ∙ ap (M.next c.bytes.state) c.byte.ensures.value) c.step-state.ensures.known c.is_empty-silent.result quiet c.after-settled.ensures.len c.after-settled.ensures.keep;
+          (c.step-state.ensures.state ∙ ap (M.next c.bytes.state) c.byte.ensures.value) c.step-state.ensures.known c.fits_none-silent.result c.fits_none-silent.ensures c.after-settled.ensures.len c.after-settled.ensures.keep;
       goes_on = λ some. sym c.goes_on.ensures ∙ c.if-not-goes_on.false;
     }
 
@@ -60,10 +57,9 @@ bytes-preserved g c =
     let M : Machine = g.M.Machine.machine c.args.machine.now in
     let r : Reading = c.args.reading.now in
     let lt : c.args.place.at + c.bytes.len < length r.window.bytes = omega (arith, c.bytes-test.true, c.len.ensures, c.requires.inside) in
-    let quiet : c.is_empty-silent.result ≡ true → M.accepts c.step-state.result ≡ [] = λ is. sym c.accepts.ensures ∙ Look.none_in c.accepts.result.now c.is_empty-silent.result c.is_empty-silent.ensures is in
     record {
       looked = Look.looked_more M _ c.args.place r c.bytes.len c.bytes.state c.bytes.before c.step-state.result c.bytes.settled c.after-settled.result c.bytes.invariant.looked c.bytes.invariant.goes_on lt
-          (c.step-state.ensures.state ∙ ap (M.next c.bytes.state) c.byte.ensures.value) c.step-state.ensures.known c.is_empty-silent.result quiet c.after-settled.ensures.len c.after-settled.ensures.keep;
+          (c.step-state.ensures.state ∙ ap (M.next c.bytes.state) c.byte.ensures.value) c.step-state.ensures.known c.fits_none-silent.result c.fits_none-silent.ensures c.after-settled.ensures.len c.after-settled.ensures.keep;
       goes_on = λ some. sym c.goes_on.ensures ∙ c.if-not-goes_on.false;
     }
 
