@@ -38,6 +38,7 @@ fn begun(statement: &Statement, condition: u8) -> u8
 }
 
 /// The condition after some of them.
+#[inline(never)]
 fn all_begun(statements: &[Statement], condition: u8) -> u8
     ensures { result ≡ all_begun (map statement_of statements.now) condition }
 {
@@ -59,17 +60,34 @@ fn condition_after(gist: Gist<'_>, condition: u8) -> u8
     }
 }
 
+/// A rule whose deeds are told, and the condition after these.
+#[derive(Clone, Copy)]
+struct ToldRule {
+    rule: u32,
+    condition: u8,
+}
+
 /// The first rule of a state, where it is told what that does.
 #[inline(always)]
-fn told_rule<M: Machine>(machine: &M, state: u32, gist: Gist<'_>) -> Option<u32>
+fn told_rule<M: Machine>(machine: &M, state: u32, gist: Gist<'_>, condition: u8) -> Option<ToldRule>
     requires known { state < M.states machine.now }
     requires gists { Gists (M.machine machine.now) state gist }
-    ensures { IfSome result (TellsRule (M.machine machine.now) state gist.entry) }
+    ensures rule { IfSome result (λ told. TellsRule (M.machine machine.now) state gist.entry told.rule) }
+    ensures condition { IfSome result (λ told. told.condition ≡ condition_after gist.entry condition) }
 {
+    // Most rules of tokens do nothing: such a one is told in few steps.
+    if matches!(gist, Gist::Silent) {
+        let rule = *machine.accepts(state).first()?;
+        return Some(ToldRule { rule, condition });
+    }
     if !names_rule(gist) {
         return None;
     }
-    machine.accepts(state).first().copied()
+    let rule = *machine.accepts(state).first()?;
+    Some(ToldRule {
+        rule,
+        condition: condition_after(gist, condition),
+    })
 }
 
 /// The match at the front of a text, where it ends there, and the last state of its walk or the one before it tells
@@ -84,28 +102,30 @@ pub fn told_match<M: Machine>(
 ) -> Option<ToldMatch>
     requires first { first < M.states machine.now }
     ensures told { IfSome result (IsTold (M.machine machine.now) first bytes.now condition) }
+    ensures near { IfSome result (λ told. told.asked ≤ told.keep + 1) }
     ensures text { IsText bytes.now }
 {
     let way = machine.way(first, bytes)?;
-    if let Some(rule) = told_rule(machine, way.state, way.gist) {
+    if !matches!(way.gist, Gist::NoRule) {
+        let told = told_rule(machine, way.state, way.gist, condition)?;
         return Some(ToldMatch {
-            rule,
+            rule: told.rule,
             keep: way.count,
             asked: way.count,
-            condition: condition_after(way.gist, condition),
+            condition: told.condition,
         });
     }
     // Where the last state accepts no rule, a match that is one byte shorter is the longest.
-    if way.count == 1 || !matches!(way.gist, Gist::NoRule) {
+    if way.count == 1 {
         return None;
     }
     let gist = machine.gist(way.before);
-    let rule = told_rule(machine, way.before, gist)?;
+    let told = told_rule(machine, way.before, gist, condition)?;
     Some(ToldMatch {
-        rule,
+        rule: told.rule,
         keep: way.count - 1,
         asked: way.count,
-        condition: condition_after(gist, condition),
+        condition: told.condition,
     })
 }
 

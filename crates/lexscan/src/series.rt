@@ -1,9 +1,10 @@
 //! A series: turns over bytes that are there, one behind another, whose matches are told at a glance. It lists their tokens, in
 //! few bytes each, and writes nothing.
-ghost use Rattle.std.specs.Prelude.{◌≡◌, ◌<◌, ◌≤◌, length, IfSome, None};
+ghost use Rattle.std.specs.Prelude.{◌≡◌, ℕ, ◌<◌, ◌≤◌, length, IfSome, None};
+ghost use Rattle.lex_semantics.specs.Machine.{Machine as MachineModel};
 ghost use Rattle.lexscan.specs.Pushes.{IsReachable};
 ghost use Rattle.lexscan.specs.Scans.{IsGoing, ScanInvariant};
-ghost use Rattle.lexscan.specs.Series.{IsBrief, SeriesMade, ListedOver};
+ghost use Rattle.lexscan.specs.Series.{AreStarts, IsBrief, SeriesMade, ListedOver};
 
 use crate::burst::{Burst, starts_line};
 use crate::find::has_backlog;
@@ -50,6 +51,51 @@ fn brief_of(told: ToldMatch, condition: u8) -> Option<BriefToken>
     })
 }
 
+/// The states where a match starts in a condition: inside a line, and at the start of one.
+#[derive(Clone, Copy)]
+struct Starts {
+    inside: u32,
+    at_line: u32,
+}
+
+/// The states where a match starts in a condition.
+#[inline(always)]
+fn starts_in<M: Machine>(machine: &M, condition: u8) -> Starts
+    requires { condition < (M.machine machine.now).conditions }
+    ensures { AreStarts (M.machine machine.now) (M.states machine.now) condition result }
+{
+    Starts {
+        inside: machine.start(condition, false),
+        at_line: machine.start(condition, true),
+    }
+}
+
+/// The same for the condition after a match, where those of the one before it are known: mostly it is the same condition.
+#[inline(always)]
+fn starts_after<M: Machine>(machine: &M, known: Starts, condition: u8, after: u8) -> Starts
+    requires after { after < (M.machine machine.now).conditions }
+    requires known { AreStarts (M.machine machine.now) (M.states machine.now) condition known }
+    ensures { AreStarts (M.machine machine.now) (M.states machine.now) after result }
+{
+    if after == condition {
+        return known;
+    }
+    starts_in(machine, after)
+}
+
+/// The one of them where a match starts, at the start of a line or not.
+#[inline(always)]
+fn start_at(starts: Starts, line_start: bool) -> u32
+    ensures { (M : MachineModel) (states condition : ℕ) → AreStarts M states condition starts
+        → (result ≡ M.start condition line_start) × (result < states) }
+{
+    if line_start {
+        starts.at_line
+    } else {
+        starts.inside
+    }
+}
+
 /// Turns over a text, of which the first bytes are held and the others are those that wait, as long as each match ends in
 /// the text, is told at a glance, and there is memory for its token. The tokens are appended.
 #[inline(never)]
@@ -65,10 +111,11 @@ fn series_over<M: Machine>(
     ensures { SeriesMade (M.machine machine.now) text.now held place tokens.old.items tokens.new.items result }
 {
     let mut rest = text;
-    // How many bytes at the end of the text no match has asked for.
-    let mut unasked = text.len() - held;
+    // How many bytes at the end of the text no match has asked for, those that are held not counted.
+    let mut unasked = text.len();
     let mut condition = place.condition;
-    let mut first = machine.start(condition, place.line_start);
+    let mut starts = starts_in(machine, condition);
+    let mut first = start_at(starts, place.line_start);
     'turns: while !rest.is_empty() {
         let Some(told) = told_match(machine, first, rest, condition) else {
             break 'turns;
@@ -80,15 +127,17 @@ fn series_over<M: Machine>(
             Err(_) => break 'turns,
             Ok(()) => {}
         }
-        unasked = unasked.min(rest.len() - told.asked);
+        // No match asks for less than one before it did.
+        unasked = rest.len() - told.asked;
+        starts = starts_after(machine, starts, condition, told.condition);
         condition = told.condition;
-        first = machine.start(condition, rest[told.keep - 1] == b'\n');
+        first = start_at(starts, rest[told.keep - 1] == b'\n');
         rest = &rest[told.keep..];
     }
     let done = text.len() - rest.len();
     Burst {
         done,
-        asked: text.len() - unasked,
+        asked: text.len() - unasked.min(text.len() - held),
         line_start: starts_line(place.line_start, text, done),
         condition,
         fault: false,

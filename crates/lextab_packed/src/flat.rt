@@ -74,12 +74,12 @@ impl Flat {
 
     /// The marked state after one byte more, from the state whose row is at this place.
     #[inline(always)]
-    fn target(&self, place: u32, byte: u8) -> u32
+    fn target(&self, place: usize, byte: u8) -> u32
         requires { (s : ℕ) × (s < table_states self.now.tables) × (place ≡ 256 * s) }
         ensures { (s : ℕ) → place ≡ 256 * s → s < table_states self.now.tables
             → result ≡ marked_target self.now.tables s byte }
     {
-        self.rows[place as usize + usize::from(byte)]
+        self.rows[place + usize::from(byte)]
     }
 
     /// The end of the run of bytes, from `start` on, that lead from the state whose row is at this place to itself.
@@ -92,7 +92,7 @@ impl Flat {
     {
         let near = start + (bytes.len() - start).min(NEAR);
         let mut end = start;
-        'run: while end < near && self.target(place, bytes[end]) == place {
+        'run: while end < near && self.target(place as usize, bytes[end]) == place {
             end += 1;
         }
         if end < near {
@@ -124,7 +124,7 @@ impl Flat {
             → IsRun (table_machine self.now.tables) s bytes.now start result }
     {
         let mut end = self.leap_end(place, bytes, start);
-        'run: while end < bytes.len() && self.target(place, bytes[end]) == place {
+        'run: while end < bytes.len() && self.target(place as usize, bytes[end]) == place {
             end += 1;
         }
         end
@@ -192,7 +192,7 @@ impl Machine for Flat {
 
     /// The state after one byte more, by one look-up in the rows.
     fn step(&self, state: u32, byte: u8) -> u32 {
-        state_of(self.target(256 * state, byte))
+        state_of(self.target(256 * state as usize, byte))
     }
 
     /// Whether a longer text may be accepted.
@@ -223,23 +223,24 @@ impl Machine for Flat {
     /// Where the bytes lead to from a state, up to the first state that does not go on; None where all of them go on.
     #[inline(always)]
     fn way(&self, first: u32, bytes: &[u8]) -> Option<Way<'_>> {
-        let mut place = 256 * first;
+        let mut place = 256 * first as usize;
         let mut count = 0usize;
         'bytes: while count < bytes.len() {
             let next = self.target(place, bytes[count]);
             if STOP <= next {
                 return Some(Way {
                     state: state_of(next),
-                    before: place / 256,
+                    before: (place / 256) as u32,
                     gist: self.gist_at(next),
                     count: count + 1,
                 });
             }
             count += 1;
-            if next == place {
-                count = self.run_end(place, bytes, count);
+            let before = place;
+            place = next as usize;
+            if place == before {
+                count = self.run_end(next, bytes, count);
             }
-            place = next;
         }
         None
     }

@@ -79,6 +79,9 @@ module _ (M : Machine) (laws : MachineLaws M) (text : List ℕ) (bytes : IsText 
   condition_then : condition < M.conditions → t.condition < M.conditions
   condition_then lt = Told.below M laws text bytes held condition0 line0 added done asked condition here size low before inside t told_here lt
 
+  near_then : t.asked ≤ t.keep + 1 → length then_rest ≤ length rest - t.asked + 1
+  near_then near = omega (arith, near, then_size, within, fits, short)
+
   -- what no match has asked for then
   module _ (left : ℕ) (left_is : left ≡ min unasked (length rest - t.asked)) where
     asked_then : length text - left ≡ max asked (done + t.asked)
@@ -111,11 +114,13 @@ turns-init g c = rw none (record {
     subst (λ k. SeriesTells M text c.args.held c.args.place.condition c.args.place.line_start [] 0 k c.args.place.condition c.args.place.line_start) (sym all)
         (Told.series_none M text c.args.held c.args.place.condition c.args.place.line_start c.requires.held),
   );
-  first = c.start-first.ensures.state;
-  known = c.start-first.ensures.known;
+  first = (c.start_at-first.ensures M states c.args.place.condition c.starts_in-starts.ensures).0;
+  known = (c.start_at-first.ensures M states c.args.place.condition c.starts_in-starts.ensures).1;
+  starts = c.starts_in-starts.ensures;
   condition = c.requires.condition;
   inside = omega arith;
   done = omega arith;
+  near = omega arith;
   held = omega (arith, all);
 })
   where
@@ -128,14 +133,21 @@ turns-init g c = rw none (record {
     none : length text - length text ≡ 0
     none = omega arith
 
-    all : length text - (length text - c.args.held) ≡ c.args.held
+    states : ℕ
+    states = g.M.Machine.states c.args.machine.now
+
+    all : length text - min (length text) (length text - c.args.held) ≡ c.args.held
     all = let h = c.requires.held in omega (arith, h)
 
-pub start-first-requires-in-turns : goal.start-first-requires-in-turns
-start-first-requires-in-turns g c =
+pub starts_after-starts-requires-clause-after : goal.starts_after-starts-requires-clause-after
+starts_after-starts-requires-clause-after g c =
     let i = c.turns.invariant in
-    condition_then (g.M.Machine.machine c.args.machine.now) (g.M.Machine.laws c.args.machine.now) c.args.text.now (is_text_from c.args.text.now (λ k. let f = c.type_inv.text k in omega (arith, f))) c.args.held c.args.place.condition c.args.place.line_start i.added.0 c.turns.rest.now c.turns.unasked c.turns.condition c.turns.first c.in-Some.told
+    let text = c.args.text.now in
+    condition_then (g.M.Machine.machine c.args.machine.now) (g.M.Machine.laws c.args.machine.now) text (is_text_from text (λ k. let f = c.type_inv.text k in omega (arith, f))) c.args.held c.args.place.condition c.args.place.line_start i.added.0 c.turns.rest.now (min c.turns.unasked (length text - c.args.held)) c.turns.condition c.turns.first c.in-Some.told
     i.rest i.inside i.done i.held i.first i.added.2 c.in-Some.ensures.told i.condition
+
+pub starts_after-starts-requires-clause-known : goal.starts_after-starts-requires-clause-known
+starts_after-starts-requires-clause-known g c = c.turns.invariant.starts
 
 pub turns-preserved : goal.turns-preserved
 turns-preserved g c =
@@ -148,21 +160,28 @@ turns-preserved g c =
     let t = c.in-Some.told in
     let token = c.in-Some-brief_of.token in
     let told = c.in-Some.ensures.told in
+    let rest = c.turns.rest.now in
+    let unasked : ℕ = min c.turns.unasked (length text - c.args.held) in
+    let left : ℕ = min (length rest - t.asked) (length text - c.args.held) in
+    let left_is : left ≡ min unasked (length rest - t.asked) = omega (arith, i.near, told.some, told.short, told.asked) in
+    let start = c.start_at-first-in-turns.ensures M (g.M.Machine.states c.args.machine.now) t.condition c.starts_after-starts.ensures in
     let pushed : c.push.new.self.items ≡ c.turns.tokens.items ++ token ∷ [] = search rules in
     record {
-      rest = rest_then M laws text bytes c.args.held p.condition p.line_start i.added.0 c.turns.rest.now c.turns.unasked c.turns.condition c.turns.first t i.rest i.inside i.done i.held i.first i.added.2 told;
+      rest = rest_then M laws text bytes c.args.held p.condition p.line_start i.added.0 rest unasked c.turns.condition c.turns.first t i.rest i.inside i.done i.held i.first i.added.2 told;
       added = (
         i.added.0 ++ token ∷ [],
         pushed ∙ ap (λ l. l ++ token ∷ []) i.added.1 ∙ append_assoc c.args.tokens.now.items i.added.0 (token ∷ []),
-        size_then M laws text bytes c.args.held p.condition p.line_start i.added.0 c.turns.rest.now c.turns.unasked c.turns.condition c.turns.first t i.rest i.inside i.done i.held i.first i.added.2 told c.min-unasked.result c.min-unasked.ensures token c.in-Some-brief_of.ensures.brief,
-        tells_then M laws text bytes c.args.held p.condition p.line_start i.added.0 c.turns.rest.now c.turns.unasked c.turns.condition c.turns.first t i.rest i.inside i.done i.held i.first i.added.2 told c.min-unasked.result c.min-unasked.ensures i.added.3 token c.in-Some-brief_of.ensures.brief,
+        size_then M laws text bytes c.args.held p.condition p.line_start i.added.0 rest unasked c.turns.condition c.turns.first t i.rest i.inside i.done i.held i.first i.added.2 told left left_is token c.in-Some-brief_of.ensures.brief,
+        tells_then M laws text bytes c.args.held p.condition p.line_start i.added.0 rest unasked c.turns.condition c.turns.first t i.rest i.inside i.done i.held i.first i.added.2 told left left_is i.added.3 token c.in-Some-brief_of.ensures.brief,
       );
-      first = c.start-first-in-turns.ensures.state ∙ ap (M.start t.condition) (line_then M laws text bytes c.args.held p.condition p.line_start i.added.0 c.turns.rest.now c.turns.unasked c.turns.condition c.turns.first t i.rest i.inside i.done i.held i.first i.added.2 told);
-      known = c.start-first-in-turns.ensures.known;
-      condition = condition_then M laws text bytes c.args.held p.condition p.line_start i.added.0 c.turns.rest.now c.turns.unasked c.turns.condition c.turns.first t i.rest i.inside i.done i.held i.first i.added.2 told i.condition;
-      inside = then_inside M laws text bytes c.args.held p.condition p.line_start i.added.0 c.turns.rest.now c.turns.unasked c.turns.condition c.turns.first t i.rest i.inside i.done i.held i.first i.added.2 told;
-      done = less_unasked M laws text bytes c.args.held p.condition p.line_start i.added.0 c.turns.rest.now c.turns.unasked c.turns.condition c.turns.first t i.rest i.inside i.done i.held i.first i.added.2 told c.min-unasked.result c.min-unasked.ensures;
-      held = held_then M laws text bytes c.args.held p.condition p.line_start i.added.0 c.turns.rest.now c.turns.unasked c.turns.condition c.turns.first t i.rest i.inside i.done i.held i.first i.added.2 told c.min-unasked.result c.min-unasked.ensures;
+      first = start.0 ∙ ap (M.start t.condition) (line_then M laws text bytes c.args.held p.condition p.line_start i.added.0 rest unasked c.turns.condition c.turns.first t i.rest i.inside i.done i.held i.first i.added.2 told);
+      known = start.1;
+      starts = c.starts_after-starts.ensures;
+      condition = condition_then M laws text bytes c.args.held p.condition p.line_start i.added.0 rest unasked c.turns.condition c.turns.first t i.rest i.inside i.done i.held i.first i.added.2 told i.condition;
+      inside = then_inside M laws text bytes c.args.held p.condition p.line_start i.added.0 rest unasked c.turns.condition c.turns.first t i.rest i.inside i.done i.held i.first i.added.2 told;
+      done = less_unasked M laws text bytes c.args.held p.condition p.line_start i.added.0 rest unasked c.turns.condition c.turns.first t i.rest i.inside i.done i.held i.first i.added.2 told left left_is;
+      near = near_then M laws text bytes c.args.held p.condition p.line_start i.added.0 rest unasked c.turns.condition c.turns.first t i.rest i.inside i.done i.held i.first i.added.2 told c.in-Some.ensures.near;
+      held = held_then M laws text bytes c.args.held p.condition p.line_start i.added.0 rest unasked c.turns.condition c.turns.first t i.rest i.inside i.done i.held i.first i.added.2 told left left_is;
     }
 
 pub returns : goal.returns
@@ -177,13 +196,15 @@ returns g c =
       | then-turns-test+in-Some+in_default-brief_of w ↦ search rules
       | then-turns-test+in-Some+in-Some-brief_of+in-Err w ↦ search rules
     ] in
+    let is : c.min.result ≡ min c.turns.unasked (length text - c.args.held) = c.min.ensures in
     record {
       added = i.added.0;
       appended = same ∙ i.added.1;
       size = i.added.2;
-      done = (let a = i.done in omega (arith, a));
-      held = i.held;
+      done = (let a = i.done in omega (arith, a, is));
+      held = omega (arith, i.held, is);
       asked = omega arith;
       condition = i.condition;
-      tells = subst (SeriesTells M text c.args.held p.condition p.line_start i.added.0 (length text - length c.turns.rest.now) (length text - c.turns.unasked) c.turns.condition) (sym c.starts_line.ensures) i.added.3;
+      tells = subst (λ u. SeriesTells M text c.args.held p.condition p.line_start i.added.0 (length text - length c.turns.rest.now) (length text - u) c.turns.condition c.starts_line.result) (sym is)
+          (subst (SeriesTells M text c.args.held p.condition p.line_start i.added.0 (length text - length c.turns.rest.now) (length text - min c.turns.unasked (length text - c.args.held)) c.turns.condition) (sym c.starts_line.ensures) i.added.3);
     }

@@ -74,8 +74,8 @@ bytes-preserved c =
 pub overflow_mul-place : goal.overflow_mul-place
 overflow_mul-place c = omega (arith, c.requires, Mark.few_states c.args.self.now.tables)
 
-pub bytes-smaller-then-next-place : goal.bytes-smaller-then-next-place
-bytes-smaller-then-next-place c =
+pub bytes-smaller-then-place-before : goal.bytes-smaller-then-place-before
+bytes-smaller-then-place-before c =
     let t : Tables = c.args.self.now.tables in
     let M : Machine = table_machine t in
     let lt : c.bytes.count < length c.args.bytes.now = omega (arith, c.bytes-test.true) in
@@ -83,11 +83,11 @@ bytes-smaller-then-next-place c =
     let next : ℕ = step_of (table_of t.parts) (walk M c.args.first (take c.bytes.count c.args.bytes.now)) (get_or c.args.bytes.now c.bytes.count 0) in
     let r : c.target-next.result ≡ as_target (flag t.goes_on.items next) (kind_of (table_machine t) next) next = c.target-next.ensures (walk M c.args.first (take c.bytes.count c.args.bytes.now)) c.bytes.invariant.place_is c.bytes.invariant.known in
     let k = Mark.goes_further t c.args.first c.bytes.count c.args.bytes.now lt small c.bytes.invariant.known c.target-next.result r (omega (arith, c.if-next-ge-STOP.false)) c.bytes.invariant.asked in
-    let run = c.run_end-count.ensures (walk M c.args.first (take (c.bytes.count + 1) c.args.bytes.now)) (sym c.if-next-place.true ∙ k.0) k.1 in
+    let run = c.run_end-count.ensures (walk M c.args.first (take (c.bytes.count + 1) c.args.bytes.now)) k.0 k.1 in
     omega (arith, lt, run.order, run.inside)
 
-pub bytes-preserved-then-next-place : goal.bytes-preserved-then-next-place
-bytes-preserved-then-next-place c =
+pub bytes-preserved-then-place-before : goal.bytes-preserved-then-place-before
+bytes-preserved-then-place-before c =
     let t : Tables = c.args.self.now.tables in
     let M : Machine = table_machine t in
     let lt : c.bytes.count < length c.args.bytes.now = omega (arith, c.bytes-test.true) in
@@ -95,7 +95,7 @@ bytes-preserved-then-next-place c =
     let next : ℕ = step_of (table_of t.parts) (walk M c.args.first (take c.bytes.count c.args.bytes.now)) (get_or c.args.bytes.now c.bytes.count 0) in
     let r : c.target-next.result ≡ as_target (flag t.goes_on.items next) (kind_of (table_machine t) next) next = c.target-next.ensures (walk M c.args.first (take c.bytes.count c.args.bytes.now)) c.bytes.invariant.place_is c.bytes.invariant.known in
     let k = Mark.goes_further t c.args.first c.bytes.count c.args.bytes.now lt small c.bytes.invariant.known c.target-next.result r (omega (arith, c.if-next-ge-STOP.false)) c.bytes.invariant.asked in
-    let run = c.run_end-count.ensures (walk M c.args.first (take (c.bytes.count + 1) c.args.bytes.now)) (sym c.if-next-place.true ∙ k.0) k.1 in
+    let run = c.run_end-count.ensures (walk M c.args.first (take (c.bytes.count + 1) c.args.bytes.now)) k.0 k.1 in
     let end : ℕ = c.run_end-count.result in
     let within = run_within M c.args.first c.args.bytes.now (c.bytes.count + 1) end run end run.order (omega arith) in
     record {
