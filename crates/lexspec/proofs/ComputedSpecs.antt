@@ -23,11 +23,10 @@ use Rattle.lexre.specs.Spelling.{Spells}
 use Rattle.lexre.proofs.GrammarLaws.{runs_spelled}
 use Rattle.lexre.proofs.PatternTries.{found_runs}
 use Rattle.lexre.proofs.PatternsComputed.{is_tree}
-use Rattle.lexspec_actions.specs.Actions as A
 use Rattle.lexspec_actions.specs.Actions.{SpellsEndAction}
 use Rattle.lexspec_actions.specs.ActionSteps as Steps
 use Rattle.lexspec_actions.specs.ActionSteps.{does, prints}
-use Rattle.lexspec_actions.proofs.SameActions.{balanced, one_balanced}
+use Rattle.lexspec_actions.proofs.GrammarLaws.{from_steps}
 use Rattle.lexspec_actions.specs.Bytes as B
 use Rattle.lexspec_actions.specs.Names.{known_in}
 use Rattle.lexspec_lines.specs.DefinitionLines.{options, all_conditions}
@@ -91,7 +90,7 @@ cut_as_tested r head trail fits = cut_is_fit r.cut r.head r.trail (tree_is_sound
     sound (Some t) h = tree_is_sound t h
 
 number_ruled : (is : List (ℕ × Item)) (rules : List Rule) → IsRule names plain true named 17 unlisted true (codes "{D}+") line_end (Some (codes "ECHO;")) is rules number
-unfolding has set_of single range_set any_below take_up_to is_alpha is_upper is_lower is_alnum is_blank is_digit after_word A.next_piece A.statement_at A.parts_of A.in_parentheses A.number_within A.second_word A.format_at A.after_statement A.condition_at run_at number_at name_at B.after_space B.after_spaces B.expect B.string_escape_at escape_at B.literal_at
+unfolding has set_of single range_set any_below take_up_to is_alpha is_upper is_lower is_alnum is_blank is_digit after_word Steps.piece_from Steps.statement_at Steps.after_word Steps.parts_of Steps.this_word Steps.no_argument Steps.number_argument Steps.second_word Steps.formatted_at Steps.printf_at Steps.yymore_at Steps.yyterminate_at Steps.pop_at Steps.exit_at Steps.after_statement Steps.condition_at Steps.closed_condition Steps.push_at Steps.stack_word run_at number_at name_at B.after_space B.after_spaces B.expect B.string_escape_at escape_at B.literal_at
 number_ruled is rules = (
   record {
     line_is = refl;
@@ -102,7 +101,7 @@ number_ruled is rules = (
     cut_is = cut_as_tested number refl refl refl;
   },
   refl,
-  ((([], Echo ∷ []) ∷ [], ([], refl, refl), one_balanced (does Echo), refl), refl),
+  (from_steps (known_in names true) (codes "ECHO;") (Echo ∷ []) (Steps.says (does Echo) ∷ [], ([], refl, refl), refl, refl), refl),
 )
 
 letters_ruled : IsRule names plain true named 19 (only (codes "A" ∷ codes "C" ∷ [])) false (codes "ab") (pattern_after (codes "c*")) None later_items (opening ∷ closing ∷ any_other ∷ []) letters
@@ -121,7 +120,7 @@ letters_ruled = (
 )
 
 opening_ruled : (is : List (ℕ × Item)) (rules : List Rule) → IsRule names plain true named 20 unlisted false (codes "\"/*\"") no_trail (Some (codes "{ yy_push_state(B); /* } */\n  yymore(); }")) is rules opening
-unfolding symbol_at until_quote quoted_tree take_up_to is_alpha is_upper is_lower is_alnum is_blank is_digit after_word A.next_piece A.statement_at A.parts_of A.in_parentheses A.number_within A.second_word A.format_at A.after_statement A.condition_at run_at number_at name_at B.after_space B.after_spaces B.expect B.string_escape_at escape_at B.literal_at
+unfolding symbol_at until_quote quoted_tree take_up_to is_alpha is_upper is_lower is_alnum is_blank is_digit after_word Steps.piece_from Steps.statement_at Steps.after_word Steps.parts_of Steps.this_word Steps.no_argument Steps.number_argument Steps.second_word Steps.formatted_at Steps.printf_at Steps.yymore_at Steps.yyterminate_at Steps.pop_at Steps.exit_at Steps.after_statement Steps.condition_at Steps.closed_condition Steps.push_at Steps.stack_word run_at number_at name_at B.after_space B.after_spaces B.expect B.string_escape_at escape_at B.literal_at
 opening_ruled is rules = (
   record {
     line_is = refl;
@@ -133,10 +132,10 @@ opening_ruled is rules = (
   },
   refl,
   (
-    (
-      (codes "{", []) ∷ ([], Push 2 ∷ []) ∷ ([], More ∷ []) ∷ (codes "}", []) ∷ [],
+    from_steps (known_in names true) (codes "{ yy_push_state(B); /* } */\n  yymore(); }") (Push 2 ∷ More ∷ []) (
+      Steps.opens ∷ Steps.says (does (Push 2)) ∷ Steps.says (does More) ∷ Steps.closes ∷ [],
       (codes " yy_push_state(B); /* } */\n  yymore(); }", refl, (codes " /* } */\n  yymore(); }", refl, (codes " }", refl, ([], refl, refl)))),
-      balanced (Steps.opens ∷ Steps.says (does (Push 2)) ∷ Steps.says (does More) ∷ Steps.closes ∷ []) refl,
+      refl,
       refl,
     ),
     refl,
@@ -144,7 +143,7 @@ opening_ruled is rules = (
 )
 
 closing_ruled : (is : List (ℕ × Item)) (rules : List Rule) → IsRule names plain true named 22 (only (codes "B" ∷ [])) false (codes "\"*/\"") no_trail (Some (codes "yy_pop_state();")) is rules closing
-unfolding symbol_at until_quote quoted_tree take_up_to is_alpha is_upper is_lower is_alnum is_blank is_digit after_word A.next_piece A.statement_at A.parts_of A.in_parentheses A.number_within A.second_word A.format_at A.after_statement A.condition_at run_at number_at name_at B.after_space B.after_spaces B.expect B.string_escape_at escape_at B.literal_at
+unfolding symbol_at until_quote quoted_tree take_up_to is_alpha is_upper is_lower is_alnum is_blank is_digit after_word Steps.piece_from Steps.statement_at Steps.after_word Steps.parts_of Steps.this_word Steps.no_argument Steps.number_argument Steps.second_word Steps.formatted_at Steps.printf_at Steps.yymore_at Steps.yyterminate_at Steps.pop_at Steps.exit_at Steps.after_statement Steps.condition_at Steps.closed_condition Steps.push_at Steps.stack_word run_at number_at name_at B.after_space B.after_spaces B.expect B.string_escape_at escape_at B.literal_at
 closing_ruled is rules = (
   record {
     line_is = refl;
@@ -155,11 +154,11 @@ closing_ruled is rules = (
     cut_is = refl;
   },
   refl,
-  ((([], Pop ∷ []) ∷ [], ([], refl, refl), one_balanced (does Pop), refl), refl),
+  (from_steps (known_in names true) (codes "yy_pop_state();") (Pop ∷ []) (Steps.says (does Pop) ∷ [], ([], refl, refl), refl, refl), refl),
 )
 
 other_ruled : (is : List (ℕ × Item)) (rules : List Rule) → IsRule names plain true named 23 every false (codes ".|\\n") no_trail (Some (codes ";")) is rules any_other
-unfolding symbol_at escape_at simple_escape take_up_to is_blank after_word A.next_piece A.statement_at A.parts_of A.in_parentheses A.number_within A.second_word A.format_at A.after_statement A.condition_at run_at number_at name_at B.after_space B.after_spaces B.expect B.string_escape_at B.literal_at
+unfolding symbol_at escape_at simple_escape take_up_to is_blank after_word Steps.piece_from Steps.statement_at Steps.after_word Steps.parts_of Steps.this_word Steps.no_argument Steps.number_argument Steps.second_word Steps.formatted_at Steps.printf_at Steps.yymore_at Steps.yyterminate_at Steps.pop_at Steps.exit_at Steps.after_statement Steps.condition_at Steps.closed_condition Steps.push_at Steps.stack_word run_at number_at name_at B.after_space B.after_spaces B.expect B.string_escape_at B.literal_at
 other_ruled is rules = (
   record {
     line_is = refl;
@@ -170,17 +169,17 @@ other_ruled is rules = (
     cut_is = refl;
   },
   refl,
-  (((codes ";", []) ∷ [], ([], refl, refl), balanced (Steps.semicolon ∷ []) refl, refl), refl),
+  (from_steps (known_in names true) (codes ";") ([]) (Steps.semicolon ∷ [], ([], refl, refl), refl, refl), refl),
 )
 
 open_spelled : SpellsEndAction (known_in names true) (codes "{ printf(\"open\"); exit(2); }") open_at_end
-unfolding take_up_to is_alpha is_upper is_lower is_alnum is_blank is_digit simple_escape until_quote after_word A.next_piece A.statement_at A.parts_of A.in_parentheses A.number_within A.second_word A.format_at A.after_statement A.condition_at run_at number_at name_at B.after_space B.after_spaces B.expect B.string_escape_at escape_at B.literal_at
+unfolding take_up_to is_alpha is_upper is_lower is_alnum is_blank is_digit simple_escape until_quote after_word Steps.piece_from Steps.statement_at Steps.after_word Steps.parts_of Steps.this_word Steps.no_argument Steps.number_argument Steps.second_word Steps.formatted_at Steps.printf_at Steps.yymore_at Steps.yyterminate_at Steps.pop_at Steps.exit_at Steps.after_statement Steps.condition_at Steps.closed_condition Steps.push_at Steps.stack_word run_at number_at name_at B.after_space B.after_spaces B.expect B.string_escape_at escape_at B.literal_at
 open_spelled = (
   Print (codes "open") ∷ End 2 ∷ [],
-  (
-    (codes "{", []) ∷ ([], Print (codes "open") ∷ []) ∷ ([], End 2 ∷ []) ∷ (codes "}", []) ∷ [],
+  from_steps (known_in names true) (codes "{ printf(\"open\"); exit(2); }") (Print (codes "open") ∷ End 2 ∷ []) (
+    Steps.opens ∷ Steps.says (prints (codes "open")) ∷ Steps.says (does (End 2)) ∷ Steps.closes ∷ [],
     (codes " printf(\"open\"); exit(2); }", refl, (codes " exit(2); }", refl, (codes " }", refl, ([], refl, refl)))),
-    balanced (Steps.opens ∷ Steps.says (prints (codes "open")) ∷ Steps.says (does (End 2)) ∷ Steps.closes ∷ []) refl,
+    refl,
     refl,
   ),
   refl,
@@ -188,13 +187,13 @@ open_spelled = (
 )
 
 ended_spelled : SpellsEndAction (known_in names true) (codes "{ printf(\"end\"); yyterminate(); }") ended
-unfolding take_up_to is_alpha is_upper is_lower is_alnum is_blank is_digit simple_escape until_quote after_word A.next_piece A.statement_at A.parts_of A.in_parentheses A.number_within A.second_word A.format_at A.after_statement A.condition_at run_at number_at name_at B.after_space B.after_spaces B.expect B.string_escape_at escape_at B.literal_at
+unfolding take_up_to is_alpha is_upper is_lower is_alnum is_blank is_digit simple_escape until_quote after_word Steps.piece_from Steps.statement_at Steps.after_word Steps.parts_of Steps.this_word Steps.no_argument Steps.number_argument Steps.second_word Steps.formatted_at Steps.printf_at Steps.yymore_at Steps.yyterminate_at Steps.pop_at Steps.exit_at Steps.after_statement Steps.condition_at Steps.closed_condition Steps.push_at Steps.stack_word run_at number_at name_at B.after_space B.after_spaces B.expect B.string_escape_at escape_at B.literal_at
 ended_spelled = (
   Print (codes "end") ∷ End 0 ∷ [],
-  (
-    (codes "{", []) ∷ ([], Print (codes "end") ∷ []) ∷ ([], End 0 ∷ []) ∷ (codes "}", []) ∷ [],
+  from_steps (known_in names true) (codes "{ printf(\"end\"); yyterminate(); }") (Print (codes "end") ∷ End 0 ∷ []) (
+    Steps.opens ∷ Steps.says (prints (codes "end")) ∷ Steps.says (does (End 0)) ∷ Steps.closes ∷ [],
     (codes " printf(\"end\"); yyterminate(); }", refl, (codes " yyterminate(); }", refl, (codes " }", refl, ([], refl, refl)))),
-    balanced (Steps.opens ∷ Steps.says (prints (codes "end")) ∷ Steps.says (does (End 0)) ∷ Steps.closes ∷ []) refl,
+    refl,
     refl,
   ),
   refl,
@@ -272,7 +271,7 @@ whole = record {
 -- ---- the short file
 
 short_ruled : RulesFrom (codes "INITIAL" ∷ []) folding false (from_entries []) short_items (both_cases ∷ []) []
-unfolding symbol_at has set_of single fold_case other_case take_up_to is_alpha is_upper is_lower is_alnum is_blank is_digit after_word A.next_piece A.statement_at A.parts_of A.in_parentheses A.number_within A.second_word A.format_at A.after_statement A.condition_at run_at number_at name_at B.after_space B.after_spaces B.expect B.string_escape_at escape_at B.literal_at
+unfolding symbol_at has set_of single fold_case other_case take_up_to is_alpha is_upper is_lower is_alnum is_blank is_digit after_word Steps.piece_from Steps.statement_at Steps.after_word Steps.parts_of Steps.this_word Steps.no_argument Steps.number_argument Steps.second_word Steps.formatted_at Steps.printf_at Steps.yymore_at Steps.yyterminate_at Steps.pop_at Steps.exit_at Steps.after_statement Steps.condition_at Steps.closed_condition Steps.push_at Steps.stack_word run_at number_at name_at B.after_space B.after_spaces B.expect B.string_escape_at escape_at B.literal_at
 short_ruled = (
   both_cases,
   [],
@@ -287,7 +286,7 @@ short_ruled = (
       cut_is = refl;
     },
     refl,
-    ((([], Echo ∷ []) ∷ [], ([], refl, refl), one_balanced (does Echo), refl), refl),
+    (from_steps (known_in (codes "INITIAL" ∷ []) false) (codes "ECHO;") (Echo ∷ []) (Steps.says (does Echo) ∷ [], ([], refl, refl), refl, refl), refl),
   ),
   (refl, refl),
 )
@@ -322,7 +321,7 @@ short = record {
 -- ---- the file of one rule
 
 key_ruled : RulesFrom (codes "INITIAL" ∷ []) plain false (from_entries []) key_items (key_rule ∷ []) []
-unfolding symbol_at has set_of single simple_escape until_quote take_up_to is_alpha is_upper is_lower is_alnum is_blank is_digit after_word A.next_piece A.statement_at A.parts_of A.in_parentheses A.number_within A.second_word A.format_at A.after_statement A.condition_at run_at number_at name_at B.after_space B.after_spaces B.expect B.string_escape_at escape_at B.literal_at
+unfolding symbol_at has set_of single simple_escape until_quote take_up_to is_alpha is_upper is_lower is_alnum is_blank is_digit after_word Steps.piece_from Steps.statement_at Steps.after_word Steps.parts_of Steps.this_word Steps.no_argument Steps.number_argument Steps.second_word Steps.formatted_at Steps.printf_at Steps.yymore_at Steps.yyterminate_at Steps.pop_at Steps.exit_at Steps.after_statement Steps.condition_at Steps.closed_condition Steps.push_at Steps.stack_word run_at number_at name_at B.after_space B.after_spaces B.expect B.string_escape_at escape_at B.literal_at
 key_ruled = (
   key_rule,
   [],
@@ -337,7 +336,7 @@ key_ruled = (
       cut_is = refl;
     },
     refl,
-    ((([], Print (codes "K") ∷ []) ∷ [], ([], refl, refl), one_balanced (prints (codes "K")), refl), refl),
+    (from_steps (known_in (codes "INITIAL" ∷ []) false) (codes "printf(\"K\");") (Print (codes "K") ∷ []) (Steps.says (prints (codes "K")) ∷ [], ([], refl, refl), refl, refl), refl),
   ),
   (refl, refl),
 )

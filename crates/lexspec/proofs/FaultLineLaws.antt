@@ -35,7 +35,7 @@ use Rattle.lexspec.specs.SectionReads.{line_of_last}
 use Rattle.lexspec.specs.WaitingRules.{Left, acting, filled, may_wait, RulesFrom}
 use Rattle.lexspec.specs.declared.rule.Rule.{Rule as RuleKept}
 use Rattle.lexspec.specs.declared.rules_so_far.RulesSoFar.{RulesSoFar}
-use Rattle.lexspec_actions.proofs.SameActions.{balanced}
+use Rattle.lexspec_actions.specs.Actions as Actions
 use Rattle.lexspec_actions.specs.Actions.{SpellsAction}
 use Rattle.lexspec_actions.specs.Bytes.{after_space, after_spaces}
 use Rattle.lexspec_actions.specs.Names.{Scope, known_in}
@@ -124,7 +124,7 @@ a_spells how defined = read_as how.fold how.posix defined
 
 nothing_acts : (known : Scope) → SpellsAction known [] []
 unfolding after_spaces after_space take_up_to
-nothing_acts known = (([], refl, balanced [] refl, refl), refl)
+nothing_acts known = (([], [], refl, Actions.none, refl), refl)
 
 abbrev closing : Item
 closing = rule unlisted (matching false (codes "a") no_trail) (Some [])

@@ -17,7 +17,9 @@ use Rattle.lexre.specs.PatternExamples.{plain, a, b}
 use Rattle.lexre.specs.Pieces.{dollar, other, slash, kind_at, slashes, ends_with_dollar}
 use Rattle.lexre.specs.Spelling.{Spells}
 use Rattle.lexre_bytes.specs.Lexical.{symbol_at, after_word, name_at}
-use Rattle.lexspec_actions.specs.Actions.{Piece, next_piece, statement_at}
+use Rattle.lexspec_actions.specs.ActionSteps as Steps
+use Rattle.lexspec_actions.specs.ActionSteps.{Piece}
+use Rattle.lexspec_actions.proofs.GrammarLaws.{to_steps}
 use Rattle.lexspec_actions.specs.Bytes.{after_space, after_spaces}
 use Rattle.lexspec_lines.proofs.OneSection.{no_true, one_up_to, separator_ends, some_pair}
 use Rattle.lexspec_lines.specs.DefinitionLines.{definition_at, all_conditions, all_options, has_name, substitutes_of}
@@ -284,8 +286,8 @@ both_vary S h =
             (subst (λ is. AreRules (map (λ c. c.1) (all_conditions h.definitions)) (record { fold = plain.fold || has_name (all_options h.definitions) (codes "case-insensitive"); posix = plain.posix }) (has_name (all_options h.definitions) (codes "stack")) (from_entries (substitutes_of h.definitions)) is S.rules h.ends false) all h.rules))
 
 -- the text of a statement of the stack, where the option is not set
-no_piece : (names : List (List ℕ)) (defined : Definitions) (ps : List Piece) → IsReadAs (next_piece (known names plain false defined)) (λ t. after_spaces t ≡ []) (codes "yy_pop_state();") ps → ⊥
-unfolding take_up_to is_alpha is_upper is_lower is_alnum is_blank is_digit after_word name_at after_space after_spaces next_piece statement_at
+no_piece : (names : List (List ℕ)) (defined : Definitions) (ps : List Piece) → IsReadAs (Steps.piece_at (known names plain false defined)) Steps.NoPiece (codes "yy_pop_state();") ps → ⊥
+unfolding take_up_to is_alpha is_upper is_lower is_alnum is_blank is_digit after_word name_at after_space after_spaces Steps.piece_from Steps.statement_at Steps.after_word
 no_piece names defined [] cut = cc
 no_piece names defined (p ∷ ps) (rest, here, cut) = no here
   where
@@ -295,7 +297,7 @@ no_piece names defined (p ∷ ps) (rest, here, cut) = no here
 pops : (names : List (List ℕ)) (defined : Definitions) (n : ℕ) (asked : Conditions) (more : List (ℕ × Item)) (rules : List Rule) (ends : List EndRule)
     → AreRules names plain false defined ((n, rule asked (matching false (codes "a") None) (Some (codes "yy_pop_state();"))) ∷ more) rules ends false → ⊥
 pops names defined n asked more [] ends h = h
-pops names defined n asked more (r ∷ rules) ends (h, acts, rest) = no_piece names defined acts.0.0 acts.0.1
+pops names defined n asked more (r ∷ rules) ends (h, acts, rest) = (let steps = to_steps (known names plain false defined) (codes "yy_pop_state();") r.statements acts.0 in no_piece names defined steps.0 steps.1)
 
 no_stack : Example.IsNoSpec (codes "%%\na yy_pop_state();\n")
 unfolding definition_at conditions_at take_up_to is_blank action_at action_end after_piece kind_at piece_at slashes ends_with_dollar

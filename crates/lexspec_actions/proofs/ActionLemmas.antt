@@ -7,7 +7,7 @@ use Rattle.lexspec_actions.specs.Statements.{then_all}
 use Rattle.lexspec_actions.specs.Names.{Scope}
 use Rattle.lexspec_actions.specs.ActionSteps.{Piece, semicolon, opens, closes, says, Said, said_by, statement_at, piece_from, piece_at, are_balanced, statements_of, NoPiece}
 use Rattle.lexspec_actions.specs.Actions.{SpellsStatements}
-use Rattle.lexspec_actions.proofs.SameActions.{to_steps, from_steps}
+use Rattle.lexspec_actions.proofs.GrammarLaws.{to_steps, from_steps}
 use Rattle.lexspec_actions.specs.Outcome.{UnlessMemory}
 use Rattle.lexre_bytes.specs.declared.refusals.SpecErrorKind.{SpecErrorKind}
 use Rattle.std.proofs.lemmas.Bool.{ne_eqb, eqb-true}

@@ -1,7 +1,10 @@
 pub mod ByteLemmas
 pub mod SameBytes
 pub mod SameNormal
-pub mod SameActions
+pub mod TokenLaws
+pub mod FormatLaws
+pub mod StatementTokens
+pub mod GrammarLaws
 pub mod PartLemmas
 pub mod CallLemmas
 pub mod FaultLaws

@@ -11,7 +11,7 @@ use Rattle.lexspec_actions.specs.Actions.{are_few, SpellsStatements, SpellsActio
 use Rattle.lexspec_actions.specs.ActionSteps as Steps
 use Rattle.lexspec_actions.specs.ActionSteps.{statements_of, end_of}
 use Rattle.lexspec_actions.proofs.EndLemmas.{end_is}
-use Rattle.lexspec_actions.proofs.SameActions.{to_steps}
+use Rattle.lexspec_actions.proofs.GrammarLaws.{to_steps}
 use Rattle.lexspec_actions.proofs.RangeLemmas.{raw, all_raw, cut_good, number_below}
 use Rattle.lex_semantics.specs.Limits.{max_status}
 

@@ -7,7 +7,7 @@ use Rattle.lexspec_actions.specs.Names.{Scope}
 use Rattle.lexspec_actions.specs.Actions.{SpellsStatements}
 use Rattle.lexspec_actions.specs.ActionSteps as Steps
 use Rattle.lexspec_actions.specs.ActionSteps.{piece_at, statements_of, NoPiece}
-use Rattle.lexspec_actions.proofs.SameActions.{to_steps}
+use Rattle.lexspec_actions.proofs.GrammarLaws.{to_steps}
 use Rattle.lexspec_actions.proofs.ActionLemmas.{no_piece}
 
 some_is : {A : Type 0} (x y : A) → Some x ≡ Some y → x ≡ y

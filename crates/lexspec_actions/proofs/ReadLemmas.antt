@@ -1,9 +1,8 @@
 -- What is refused after its statements were read is no action.
 use Rattle.std.proofs.Common.{◌≡◌, ℕ, true, false, List, Some, None, sym, ap, ◌∙◌}
-use Rattle.std.specs.Prelude.{flat_map}
 use Rattle.lex_semantics.specs.Spec.{EndAction, Statement}
 use Rattle.lexspec_actions.specs.Names.{Scope}
-use Rattle.lexspec_actions.specs.Actions.{Piece, SpellsStatements, SpellsAction, SpellsEndAction, are_few}
+use Rattle.lexspec_actions.specs.Actions.{SpellsStatements, SpellsAction, SpellsEndAction, are_few}
 use Rattle.lexspec_actions.specs.ActionSteps.{end_of}
 use Rattle.lexspec_actions.specs.ActionSteps.{may_stand}
 use Rattle.lexspec_actions.specs.Outcome.{UnlessMemory}
@@ -38,7 +37,7 @@ module _ (known : Scope) (text : List ℕ) where
   no_end_read kind h = unless_memory kind (SpellsNone known text) NoEndAction (λ none e spells. none spells.0 spells.1) h
 
   pub end_read : (ss : List Statement) (e : EndAction) → SpellsStatements known text ss → are_few ss ≡ true → end_of ss ≡ Some e → SpellsEndAction known text e
-  end_read ss e spells few is = (ss, spells, few, end_told (flat_map (λ (q : Piece). q.1) spells.0) ss e spells.3 is)
+  end_read ss e spells few is = (ss, spells, few, end_told spells.1 ss e spells.4 is)
 
   pub no_end_few : (ss : List Statement) → SpellsStatements known text ss → are_few ss ≡ false → NoEndAction
   no_end_few ss read bad e (other, spells, few, is) = let same : other ≡ ss = one_statements known text other ss spells read in no_both (sym few ∙ ap are_few same ∙ bad)

@@ -30,7 +30,7 @@ pub record EachStatement : Type 0 where
   pub pop : SpellsAction (known true) (codes "yy_pop_state();") (Pop ∷ [])
 
 -- nothing; literals in a row, with braces and a comment; a semicolon that is absent at the end; a comment to the end of
--- its line, and one that is not closed; a format with nothing beside its text
+-- its line, and one that is not closed; a format with nothing beside its text, and one with a percent sign before it
 pub record SeveralStatements : Type 0 where
   pub none : Says (codes " ;") []
   pub joined : Says (codes "{ puts(\"a\"); /* b */ printf(\"%%c\") }") (Print (codes "a\n%c") ∷ [])
@@ -38,6 +38,7 @@ pub record SeveralStatements : Type 0 where
   pub line_comment : Says (codes "ECHO; // }\n") (Echo ∷ [])
   pub open_comment : Says (codes "ECHO; /* }") (Echo ∷ [])
   pub text_alone : Says (codes "printf(\"%s\", yytext);") (Echo ∷ [])
+  pub percent_before_text : Says (codes "printf(\"%%%s\", yytext);") (Print (codes "%") ∷ Echo ∷ [])
 
 -- a status above 63; no byte kept; a condition by a number that is not 0; a sign of printf's that is none of these, two
 -- texts, and one without its argument; a NUL by an escape, and escapes that C has not; a brace that stays open;

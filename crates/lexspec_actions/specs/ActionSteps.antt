@@ -1,5 +1,5 @@
 -- The action of a rule by the steps of the code that reads it: what each of its readers answers. Actions says the same
--- by its table of statements.
+-- by its grammar.
 use Rattle.std.specs.Prelude.{◌≡◌, ℕ, zero, suc, Bool, true, false, ◌&&◌, ◌==◌, nat_le, if◌then◌else◌, List, [], ◌∷◌, ◌++◌, Option, Some, None, codes, min}
 use Rattle.lex_semantics.specs.ByteSets.{same_bytes, within}
 use Rattle.lex_semantics.specs.Reading.{◌>>=◌, Reader, IsReadAs, value}

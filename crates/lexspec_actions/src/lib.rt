@@ -21,10 +21,9 @@
 //! Decided here:
 //! - Legality is that of the normal form. The empty literal and the empty statement are dropped first, so `REJECT;
 //!   printf("");` and `exit(1); ;` are legal.
-//! - What an action is stands apart from how it is read. A text spells its statements by a table (`specs/Actions`): the
-//!   first word of each, and what follows it. The code goes byte by byte and word by word (`specs/ActionSteps`,
-//!   `specs/ByteSteps`), and lemmas say that both mean the same of every text. A reader of the public contracts meets
-//!   the table alone.
+//! - What an action is stands apart from how it is read. A text spells its statements by a grammar of tokens
+//!   (`specs/Actions`). The code goes byte by byte and word by word (`specs/ActionSteps`, `specs/ByteSteps`), and lemmas
+//!   say that both mean the same of every text. A reader of the public contracts meets the grammar alone.
 #![tactic(auto)]
 
 mod action;
