@@ -1,5 +1,5 @@
 #!/usr/bin/env python3
-"""Runs the program lex with each of its flags, and lexlook where it fails. Holds each run to the manual: its status, what it writes on
+"""Runs the program lex with each of its flags, and lexlook over the most rules and where it fails. Holds each run to the manual: its status, what it writes on
 both outputs, and the files that it makes.
 
     scripts/gate/runs.py LEX LEXLOOK
@@ -22,7 +22,11 @@ REPORT = b'state 3 after "ab"\nstates that back up: 1\n'
 SERIES = b'%%\nab{2} printf("X");\n'
 # One byte longer than a specification may be.
 LONG = b"%%\n" + 1_048_574 * b"\n"
-FILES = {"small.l": SMALL, "warned.l": WARNED, "back.l": BACKING_UP, "series.l": SERIES, "first.l": SMALL[:10], "second.l": SMALL[10:], "long.l": LONG}
+# As many rules as a specification may have, of which the first takes all texts, and what lexlook says of their texts.
+MOST = b"%%\n" + 4_096 * b"a ;\n"
+TAKEN = "".join(f"at line {line}: rule cannot be matched, its texts are taken at line 2\n" for line in range(3, 4_098)).encode()
+WORDS = b'at line 2: "a" in INITIAL\n' + TAKEN + b'default rule: "\\000" in INITIAL\n'
+FILES = {"small.l": SMALL, "warned.l": WARNED, "back.l": BACKING_UP, "series.l": SERIES, "first.l": SMALL[:10], "second.l": SMALL[10:], "long.l": LONG, "most.l": MOST}
 
 
 class Run(NamedTuple):
@@ -71,8 +75,9 @@ def runs(table, folded, series):
         yield Run(words, status=64, told=b"lex: usage\n")
 
 
-def failures():
-    """Runs of lexlook that fail, with its line of each."""
+def looks():
+    """Runs of lexlook: of the most rules, and those that fail, with its line of each."""
+    yield Run("words most.l", written=WORDS)
     missing, folder = b"lexlook: none.l: No such file or directory\n", b"lexlook: .: Is a directory\n"
     refused, bad = b"lexlook: bad.l: line 1: BadDefinitionLine\n", b"lexlook: cut: table: Truncated\n"
     for words in ("picture", "words", "lines", "trace", "header", "check", "same small.l"):
@@ -120,13 +125,13 @@ def main():
         small, folded, series = table_of(lex, here("small.l")), table_of(lex, "-i", here("small.l")), table_of(lex, "-X", here("series.l"))
     faults = 0 if len(small) == 471 else print(f"the table file of small.l has {len(small)} bytes") or 1
     before = {**FILES, "small": small, "folded": folded, "series": series, "bad.l": b"foo\n%%\n", "cut": small[:100]}
-    tried = [(lex, run) for run in runs(small, folded, series)] + [(lexlook, run) for run in failures()]
+    tried = [(lex, run) for run in runs(small, folded, series)] + [(lexlook, run) for run in looks()]
     for program, run in tried:
         found = fault(program, run, before)
         if found:
             faults += 1
             print(f"{Path(program).name} {run.words}: {found}")
-    print(f"runs of lex with its flags, and of lexlook where it fails: {faults} faults")
+    print(f"runs of lex with its flags, and of lexlook over the most rules and where it fails: {faults} faults")
     return 1 if faults else 0
 
 

@@ -106,9 +106,27 @@ fn scan_by_spec(
     scan(rt, By::Made(made.tables))
 }
 
-/// Does what the command line asks for, and answers with the status of the program.
-fn run(rt: &HostRuntime) -> Result<u8, Failure> {
-    match job_of(rt)? {
+/// Scans standard input by the table in a file.
+fn scan_by_table(rt: &HostRuntime, file: String) -> Result<u8, Failure> {
+    let bytes = read_table_file(rt, file)?;
+    scan(rt, By::Table(bytes.as_slice()))
+}
+
+/// Makes tables of the specification that files are together, and writes what is asked for.
+fn make_tables(
+    rt: &HostRuntime,
+    files: &[String],
+    patterns: PatternFlags,
+    outputs: &Outputs,
+) -> Result<u8, Failure> {
+    let text = read_specification(rt, files)?;
+    make(rt, text.as_slice(), options_of(patterns), outputs)?;
+    Ok(0)
+}
+
+/// Does a job, and answers with the status of the program.
+fn carry_out(rt: &HostRuntime, job: Job) -> Result<u8, Failure> {
+    match job {
         Job::Generate {
             files,
             out,
@@ -118,7 +136,6 @@ fn run(rt: &HostRuntime) -> Result<u8, Failure> {
             patterns,
             quiet,
         } => {
-            let text = read_specification(rt, files.as_slice())?;
             let outputs = Outputs {
                 table: out,
                 to_stdout: stdout,
@@ -126,19 +143,20 @@ fn run(rt: &HostRuntime) -> Result<u8, Failure> {
                 backup,
                 quiet,
             };
-            make(rt, text.as_slice(), options_of(patterns), &outputs)?;
-            Ok(0)
+            make_tables(rt, files.as_slice(), patterns, &outputs)
         }
         Job::ScanSpec {
             file,
             patterns,
             quiet,
         } => scan_by_spec(rt, file, patterns, quiet),
-        Job::ScanTable { file } => {
-            let bytes = read_table_file(rt, file)?;
-            scan(rt, By::Table(bytes.as_slice()))
-        }
+        Job::ScanTable { file } => scan_by_table(rt, file),
     }
+}
+
+/// Does what the command line asks for.
+fn run(rt: &HostRuntime) -> Result<u8, Failure> {
+    carry_out(rt, job_of(rt)?)
 }
 
 /// Runs, and reports what ended the run before its work was done.

@@ -23,11 +23,6 @@ letter_rule name letter = record (new_rule name) { short = Some letter; action =
 abbrev pub word_rule : Text → Rule
 word_rule name = record (new_rule name) { long = Some name; action = Some Set }
 
--- a word that has a value: by its letter, or else by its long name
-abbrev pub value_rule : Text → Option ℕ → Rule
-value_rule name (Some letter) = letter_rule name letter
-value_rule name None = word_rule name
-
 -- the words that stand for themselves, one or more of them
 abbrev pub words_rule : Text → Rule
 words_rule name = record (new_rule name) {

@@ -4,3 +4,4 @@ pub mod CommandLine
 pub mod CommandExamples
 pub mod Refusal
 pub mod LookLine
+pub mod Forms

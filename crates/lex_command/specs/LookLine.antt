@@ -1,6 +1,5 @@
 -- What the words of the command line of lexlook ask for.
-use Rattle.std.specs.Prelude.{◌≡◌, ◌||◌, if◌then◌else◌, ⊤, true, List, [], ◌∷◌, ◌++◌, Option, Some, None, fold, map, codes, option_map, string_bytes}
-use Rattle.std.specs.Borrow.{Bor}
+use Rattle.std.specs.Prelude.{◌≡◌, ◌||◌, if◌then◌else◌, ⊤, true, List, [], ◌∷◌, Option, Some, None, fold, map, codes, option_map, string_bytes}
 use Rattle.std.specs.Str.{bytes_eq}
 use Rattle.clap.specs.Words.{App, Row, Rule, Text, all_of, fault_of, first_of, new_app, new_rule, subcommand_of, with_rule, with_subcommand}
 use Rattle.clap.specs.Simple.{on_top}
@@ -57,10 +56,6 @@ suite_words = letter_rule (codes "out") 111 ∷ one_file
 -- a flag of a subcommand's own, and its file
 abbrev pub flagged_file : Text → List Rule
 flagged_file flag = long_rule flag ∷ one_file
-
--- A name that the code has for words of a subcommand: the flags of its own, and its files.
-abbrev pub own_rules : List (Bor Text) → List (Bor Text) → List Rule
-own_rules flags files = map (λ flag. long_rule flag.now) flags ++ map (λ file. needed_rule file.now) files
 
 -- the words begin after the program's name, and name a subcommand; clap knows no help
 abbrev pub no_subcommand : App

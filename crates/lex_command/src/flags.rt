@@ -1,9 +1,9 @@
-//! What both command lines have: flags, words that have a value, and how patterns are read.
-ghost use Rattle.std.specs.Prelude.{◌≡◌, IfOk, false, fold, map, option_map, string_bytes};
-ghost use Rattle.clap.specs.Words.{all_of, app_of, first_of, found_of, rows_of, rule_of, with_rule};
-ghost use Rattle.lex_command.specs.Flags.{flag_rule, has_flag, patterns_of};
+//! What was met in a command line: flags, values, and how patterns are read.
+ghost use Rattle.std.specs.Prelude.{◌≡◌, IfOk, map, option_map, string_bytes};
+ghost use Rattle.clap.specs.Words.{all_of, first_of, found_of, rows_of};
+ghost use Rattle.lex_command.specs.Flags.{has_flag, patterns_of};
 
-use clap::{Arg, ArgAction, ArgMatches, Command};
+use clap::ArgMatches;
 use std::alloc::{AllocError, Global};
 
 /// How the patterns of a specification are read, as `-i` and `-X` say.
@@ -13,30 +13,6 @@ pub struct PatternFlags {
     pub fold: bool,
     /// Intervals apply to series: `-X`. (POSIX, lex, Regular Expressions in lex.)
     pub posix: bool,
-}
-
-/// A flag, which may be repeated.
-fn flag<'a>(alloc: Global, id: &'a str, letter: char) -> Arg<'a>
-    ensures rule { rule_of result ≡ flag_rule id.entry.now letter }
-    ensures global { result.global ≡ false }
-{
-    Arg::new(alloc, id).short(letter).action(ArgAction::Count)
-}
-
-/// The command with these flags more, each by its letter.
-pub(crate) fn with_flags<'a>(
-    alloc: Global,
-    command: Command<'a>,
-    flags: &[(&'a str, char)],
-) -> Result<Command<'a>, AllocError>
-    ensures { IfOk result (λ c. app_of c
-        ≡ fold with_rule (app_of command.entry) (map (λ (id, letter). flag_rule id.now letter) flags.now)) }
-{
-    let mut with = command;
-    for &(id, letter) in flags {
-        with = with.arg(flag(alloc, id, letter))?;
-    }
-    Ok(with)
 }
 
 /// Whether the flag stands there.

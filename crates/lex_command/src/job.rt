@@ -3,6 +3,6 @@
 mod args;
 mod laws;
 
-pub(crate) use args::{files_of, value_word};
+pub(crate) use args::files_of;
 pub use args::{Job, read_args};
 pub use laws::command_lines;

@@ -3,13 +3,14 @@
 //! It is for the two programs alone: lexkit does not stand on it, so a program in C links no reader of command lines.
 //!
 //! - `error`: why a command line is refused, `ArgsError`.
-//! - `flags`: what both lines have: flags, words that have a value, and how patterns are read (`PatternFlags`).
+//! - `words`: the words that a line knows, as rows of a table, and the command that knows them.
+//! - `flags`: what was met in a line: flags, values, and how patterns are read (`PatternFlags`).
 //! - `job`: the line of lex. `args` reads it into a `Job`, and `laws` has worked examples of lines.
 //! - `look`: the line of lexlook. `args` reads it into a `Look`, and `help` writes how the program is called, and its version.
 //!
 //! It promises that what is answered is what the words ask for, and that words refused by `Usage` ask for nothing
-//! (`AsksFor` of `specs/CommandLine` and of `specs/LookLine`). A flag or a subcommand is added here, with its rule in
-//! specs/, and then in the program that carries it out. The letters of `flags` are those of both programs.
+//! (`AsksFor` of `specs/CommandLine` and of `specs/LookLine`). A flag or a subcommand is a row here, with its rule in
+//! specs/, and then in the program that carries it out.
 //!
 //! - **What words ask for is said in clap's terms**: by the program's line (`lex_app`, `lexlook_app`) and what clap's
 //!   definitions say is met there. The examples are computed from both.
@@ -28,6 +29,7 @@ mod error;
 mod flags;
 mod job;
 mod look;
+mod words;
 
 pub use error::ArgsError;
 pub use flags::PatternFlags;

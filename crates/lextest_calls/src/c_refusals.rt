@@ -5,8 +5,8 @@ use crate::building::made;
 use crate::for_c::{NO_TOKEN, NONE};
 use crate::table_files::conditions;
 use liblex_calls::{
-    Answer, Scan, TextFault, generate_into, open_scan, options_of, rule_lines_into, scan_into,
-    tokens_into,
+    Answer, LoadedTables, Scan, TextFault, TokenStream, generate_into, load_tables, open_scan,
+    open_stream, options_of, rule_lines_into, scan_into, tokens_into,
 };
 use std::alloc::{AllocError, Global};
 use std::test::Fail;
@@ -99,6 +99,13 @@ fn repeated(
 /// A part of a text and how often it stands there, what stands after it, and the line, the kind and the place that are told.
 type Long = (&'static [u8], usize, &'static [u8], u32, u32, usize);
 
+/// Whether the text of a row is refused so.
+fn is_long_refused(alloc: Global, row: &Long) -> Result<bool, AllocError> {
+    let &(part, times, after, line, kind, place) = row;
+    let text = repeated(alloc, b"%%\n", part, times, after)?;
+    Ok(is_refused(alloc, &text, line, kind, place))
+}
+
 #[test]
 fn tells_each_limit_of_a_specification(rt: HostRuntime) -> Result<(), Fail> {
     const ROWS: &[Long] = &[
@@ -107,9 +114,8 @@ fn tells_each_limit_of_a_specification(rt: HostRuntime) -> Result<(), Fail> {
         (b"(", 65, b"a ;\n", 2, 113, 64),
         (b"a", 65_536, b" ;\n", 2, 114, 65_535),
     ];
-    for &(part, times, after, line, kind, place) in ROWS {
-        let text = repeated(rt.alloc(), b"%%\n", part, times, after)?;
-        assert!(rt; is_refused(rt.alloc(), &text, line, kind, place), "{kind}");
+    for row in ROWS {
+        assert!(rt; is_long_refused(rt.alloc(), row)?);
     }
     let many = conditions(rt.alloc(), 255)?;
     assert!(rt; is_refused(rt.alloc(), &many, 1, 22, 0));
@@ -155,9 +161,29 @@ fn opens_nothing(alloc: Global, bytes: &[u8]) -> bool {
     answer == Answer::Refused
 }
 
+/// Whether no stream of tokens is opened by these bytes.
+fn streams_nothing(alloc: Global, bytes: &[u8]) -> bool {
+    let mut stream = TokenStream::closed();
+    let answer = open_stream(alloc, &mut stream, bytes, true);
+    stream.close(alloc);
+    answer == Answer::Refused
+}
+
+/// Whether no table is loaded from these bytes.
+fn loads_nothing(alloc: Global, bytes: &[u8]) -> bool {
+    let mut tables = LoadedTables::unloaded();
+    let answer = load_tables(alloc, &mut tables, bytes);
+    tables.unload(alloc);
+    answer == Answer::Refused
+}
+
 /// Whether these bytes are told to be no table file.
 fn is_no_table(alloc: Global, bytes: &[u8]) -> bool {
-    scans_nothing(alloc, bytes) && lists_nothing(alloc, bytes) && opens_nothing(alloc, bytes)
+    scans_nothing(alloc, bytes)
+        && lists_nothing(alloc, bytes)
+        && opens_nothing(alloc, bytes)
+        && streams_nothing(alloc, bytes)
+        && loads_nothing(alloc, bytes)
 }
 
 /// The bytes with others from a place on.
@@ -167,22 +193,38 @@ fn changed(alloc: Global, bytes: &[u8], at: usize, put: &[u8]) -> Result<Vec<u8>
     repeated(alloc, before, put, 1, after)
 }
 
+/// Whether no front of a file is one.
+fn no_front_is_one(alloc: Global, file: &[u8]) -> bool {
+    let mut so = true;
+    for (n, _) in file.iter().enumerate() {
+        so = is_no_table(alloc, &file[..n]) && so;
+    }
+    so
+}
+
+/// Whether a file with other bytes from a place on is none.
+fn is_none_changed(alloc: Global, file: &[u8], at: usize, put: &[u8]) -> Result<bool, AllocError> {
+    let changed = changed(alloc, file, at, put)?;
+    Ok(is_no_table(alloc, &changed))
+}
+
+/// Whether a file with a byte more is none.
+fn is_none_longer(alloc: Global, file: &[u8]) -> Result<bool, AllocError> {
+    let longer = repeated(alloc, file, b"\0", 1, b"")?;
+    Ok(is_no_table(alloc, &longer))
+}
+
 /// A file that is cut short, one with a byte more, and one with another name, with a version that is none and with too many
 /// conditions, as docs/TABLE-FORMAT.md has these.
 #[test]
 fn tells_each_refusal_of_a_table_file(rt: HostRuntime) -> Result<(), Fail> {
-    let alloc = rt.alloc();
-    let file = made(alloc, b"%%\na ;\n")?.into_bytes();
-    assert!(rt; !is_no_table(alloc, &file));
-    for (n, _) in file.iter().enumerate() {
-        assert!(rt; is_no_table(alloc, &file[..n]), "{n}");
-    }
     const CHANGES: &[(usize, &[u8])] = &[(0, b"M"), (6, b"\0\x03"), (8, b"\0\0\x01\0")];
+    let file = made(rt.alloc(), b"%%\na ;\n")?;
+    let bytes = file.written();
+    assert!(rt; !is_no_table(rt.alloc(), bytes) && no_front_is_one(rt.alloc(), bytes));
     for &(at, put) in CHANGES {
-        let changed = changed(alloc, &file, at, put)?;
-        assert!(rt; is_no_table(alloc, &changed), "{at}");
+        assert!(rt; is_none_changed(rt.alloc(), bytes, at, put)?, "{at}");
     }
-    let longer = repeated(alloc, &file, b"\0", 1, b"")?;
-    assert!(rt; is_no_table(alloc, &longer));
+    assert!(rt; is_none_longer(rt.alloc(), bytes)?);
     Ok(())
 }

@@ -1,12 +1,11 @@
 //! Streams of tokens as a program in C calls them: the same tokens from pieces of any size and where they are listed, and what is
-//! answered before the first piece, after the end, after a fault, and of a stream that is closed.
+//! answered before the first piece, after the end and after a fault.
 use crate::building::made;
 use crate::c_rows::{DEFAULT, Row, SCANS, Scan};
 use crate::for_c::token;
 use liblex_calls::{
     Answer, LoadedTables, NextToken, TextToken, TokenStream, close_stream, end_stream, feed_stream,
     load_tables, next_token, open_stream, open_stream_loaded, text_into, tokens_into,
-    unload_tables,
 };
 use std::alloc::Global;
 use std::test::Fail;
@@ -69,7 +68,7 @@ fn answers(alloc: Global, stream: &mut TokenStream, wanted: Answer, ended: u8) -
         let mut status = 99;
         let answer = next_token(stream, &mut token, &mut status);
         so = so && answer == wanted && token == NO_TOKEN && status == ended;
-        so = so && (wanted == Answer::Closed || shows(alloc, stream, ""));
+        so = so && shows(alloc, stream, "");
     }
     so
 }
@@ -164,60 +163,85 @@ fn listed_tokens_are_those_of_a_stream(rt: HostRuntime) -> Result<(), Fail> {
     Ok(())
 }
 
-/// Whether more is wanted before the first piece, and a fault is told again, after which pieces count for nothing.
-fn stops_at_a_fault(alloc: Global, file: &[u8]) -> bool {
+/// What a program does with a stream, whose tokens have lines and columns.
+#[derive(Clone, Copy)]
+enum Step {
+    /// It feeds a piece, which is answered so.
+    Feed(&'static [u8], Answer),
+    /// It tells the end.
+    End,
+    /// Just these tokens come next.
+    Tokens(&'static [Row]),
+    /// This text is shown.
+    Text(&'static str),
+    /// No token comes next, but this answer, with status 0, twice.
+    Answer(Answer),
+}
+
+/// Whether it goes so.
+fn does(alloc: Global, stream: &mut TokenStream, step: Step) -> bool {
+    match step {
+        Step::Feed(piece, answer) => feed_stream(alloc, stream, piece) == answer,
+        Step::End => end_stream(alloc, stream) == Answer::Done,
+        Step::Tokens(rows) => count_told(alloc, stream, rows, 0, true) == rows.len(),
+        Step::Text(text) => shows(alloc, stream, text),
+        Step::Answer(answer) => answers(alloc, stream, answer, 0),
+    }
+}
+
+/// Whether a stream by this table file goes so.
+fn goes_so(alloc: Global, file: &[u8], steps: &[Step]) -> bool {
     let mut stream = TokenStream::closed();
-    let so = open_stream(alloc, &mut stream, file, true) == Answer::Done
-        && answers(alloc, &mut stream, Answer::More, 0)
-        && feed_stream(alloc, &mut stream, b"") == Answer::Done
-        && answers(alloc, &mut stream, Answer::More, 0)
-        && feed_stream(alloc, &mut stream, b"aba") == Answer::Done
-        && tells(alloc, &mut stream, (0, 0, 0, "a", 1, 1), true)
-        && answers(alloc, &mut stream, Answer::Stack, 0)
-        && feed_stream(alloc, &mut stream, b"a") == Answer::Stack
-        && end_stream(alloc, &mut stream) == Answer::Done
-        && answers(alloc, &mut stream, Answer::Stack, 0);
+    let mut so = open_stream(alloc, &mut stream, file, true) == Answer::Done;
+    for &step in steps {
+        so = does(alloc, &mut stream, step) && so;
+    }
     stream.close(alloc);
     so
 }
 
-#[test]
-fn a_fault_of_the_stack_is_told_again(rt: HostRuntime) -> Result<(), Fail> {
-    let file = made(rt.alloc(), b"%option stack\n%%\na ;\nb yy_pop_state();\n")?;
-    assert!(rt; stops_at_a_fault(rt.alloc(), file.written()));
-    Ok(())
-}
+/// More is wanted before the first piece. A fault is told again, and pieces behind it count for nothing.
+const STOPPING: &[Step] = &[
+    Step::Answer(Answer::More),
+    Step::Feed(b"", Answer::Done),
+    Step::Answer(Answer::More),
+    Step::Feed(b"aba", Answer::Done),
+    Step::Tokens(&[(0, 0, 0, "a", 1, 1)]),
+    Step::Answer(Answer::Stack),
+    Step::Feed(b"a", Answer::Stack),
+    Step::End,
+    Step::Answer(Answer::Stack),
+];
 
-/// Whether tokens that one piece decides come one by one, each with its text, where a piece and the end come between them.
-fn hands_on_between_pieces(alloc: Global, file: &[u8]) -> bool {
-    const FIRST: &[Row] = &[(0, 0, 0, "ab", 1, 1)];
-    const NEXT: &[Row] = &[(2, 2, 0, " ", 1, 3), (1, 3, 0, "12", 1, 4)];
-    const LAST: &[Row] = &[
+/// Tokens that one piece decides come one by one, each with its text, where a piece and the end come between them.
+const ONE_BY_ONE: &[Step] = &[
+    Step::Feed(b"ab 12\ncd 3", Answer::Done),
+    Step::Tokens(&[(0, 0, 0, "ab", 1, 1)]),
+    Step::Feed(b"4 ", Answer::Done),
+    Step::Text("ab"),
+    Step::Tokens(&[(2, 2, 0, " ", 1, 3), (1, 3, 0, "12", 1, 4)]),
+    Step::End,
+    Step::Text("12"),
+    Step::Tokens(&[
         (2, 5, 0, "\n", 1, 6),
         (0, 6, 0, "cd", 2, 1),
         (2, 8, 0, " ", 2, 3),
         (1, 9, 0, "34", 2, 4),
         (2, 11, 0, " ", 2, 6),
-    ];
-    let mut stream = TokenStream::closed();
-    let so = open_stream(alloc, &mut stream, file, true) == Answer::Done
-        && feed_stream(alloc, &mut stream, b"ab 12\ncd 3") == Answer::Done
-        && count_told(alloc, &mut stream, FIRST, 0, true) == 1
-        && feed_stream(alloc, &mut stream, b"4 ") == Answer::Done
-        && shows(alloc, &mut stream, "ab")
-        && count_told(alloc, &mut stream, NEXT, 0, true) == 2
-        && end_stream(alloc, &mut stream) == Answer::Done
-        && shows(alloc, &mut stream, "12")
-        && count_told(alloc, &mut stream, LAST, 0, true) == 5
-        && answers(alloc, &mut stream, Answer::Ended, 0);
-    stream.close(alloc);
-    so
-}
+    ]),
+    Step::Answer(Answer::Ended),
+];
 
 #[test]
-fn tokens_come_one_by_one_between_pieces(rt: HostRuntime) -> Result<(), Fail> {
-    let file = made(rt.alloc(), b"%%\n[a-z]+ ;\n[0-9]+ ;\n[ \\n] ;\n")?;
-    assert!(rt; hands_on_between_pieces(rt.alloc(), file.written()));
+fn streams_go_so(rt: HostRuntime) -> Result<(), Fail> {
+    const ROWS: &[(&[u8], &[Step])] = &[
+        (b"%option stack\n%%\na ;\nb yy_pop_state();\n", STOPPING),
+        (b"%%\n[a-z]+ ;\n[0-9]+ ;\n[ \\n] ;\n", ONE_BY_ONE),
+    ];
+    for &(text, steps) in ROWS {
+        let file = made(rt.alloc(), text)?;
+        assert!(rt; goes_so(rt.alloc(), file.written(), steps));
+    }
     Ok(())
 }
 
@@ -254,35 +278,6 @@ fn refused_streams(rt: HostRuntime) -> Result<(), Fail> {
     Ok(())
 }
 
-/// Whether each call of a stream that is closed answers so.
-fn is_closed(alloc: Global, stream: &mut TokenStream) -> bool {
-    let mut buffer = [7u8; 1];
-    let mut count = 99;
-    let answer = text_into(stream, &mut buffer, &mut count);
-    (answer, count, buffer[0]) == (Answer::Closed, 0, 7)
-        && feed_stream(alloc, stream, b"a") == Answer::Closed
-        && end_stream(alloc, stream) == Answer::Closed
-        && answers(alloc, stream, Answer::Closed, 0)
-}
-
-#[test]
-fn a_closed_stream_tells_that_it_is_closed(rt: HostRuntime) -> Result<(), Fail> {
-    let file = made(rt.alloc(), b"%%\n[a-z]+ ;\n")?;
-    let mut stream = TokenStream::closed();
-    let first = is_closed(rt.alloc(), &mut stream);
-    let opened = open_stream(rt.alloc(), &mut stream, file.written(), false);
-    let refused = open_stream(rt.alloc(), &mut stream, b"nothing", false);
-    let second = is_closed(rt.alloc(), &mut stream);
-    let again = open_stream(rt.alloc(), &mut stream, file.written(), false);
-    close_stream(rt.alloc(), &mut stream);
-    close_stream(rt.alloc(), &mut stream);
-    let third = is_closed(rt.alloc(), &mut stream);
-    stream.close(rt.alloc());
-    assert!(rt; opened == Answer::Done && refused == Answer::Refused && again == Answer::Done);
-    assert!(rt; first && second && third);
-    Ok(())
-}
-
 /// Whether a text is handed out in parts as there is room, as often as it is asked for.
 fn hands_out_parts(alloc: Global, stream: &mut TokenStream) -> bool {
     let mut buffer = [7u8; 4];
@@ -296,26 +291,34 @@ fn hands_out_parts(alloc: Global, stream: &mut TokenStream) -> bool {
     so && all == Answer::Done && count == 3 && buffer == *b"abc\x07"
 }
 
-#[test]
-fn a_loaded_table_serves_streams(rt: HostRuntime) -> Result<(), Fail> {
-    let file = made(rt.alloc(), b"%%\n[a-z]+ ;\n")?;
+/// Whether two streams by one table go on once it is unloaded, side by side: the first is fed, and its text handed out in parts.
+fn two_go_on(alloc: Global, first: &mut TokenStream, second: &mut TokenStream) -> bool {
+    let fed = feed_stream(alloc, first, b"abc 1") == Answer::Done;
+    let told = tells(alloc, first, (0, 0, 0, "abc", 1, 1), true);
+    let parts = hands_out_parts(alloc, first);
+    let none = answers(alloc, second, Answer::More, 0);
+    close_stream(alloc, second);
+    fed && told && parts && none
+}
+
+/// Whether a table that is loaded from this file serves two streams.
+fn serves_two(alloc: Global, file: &[u8]) -> bool {
     let mut tables = LoadedTables::unloaded();
     let mut first = TokenStream::closed();
     let mut second = TokenStream::closed();
-    let closed = open_stream_loaded(rt.alloc(), &mut first, &mut tables, true);
-    let loaded = load_tables(rt.alloc(), &mut tables, file.written());
-    let opened = open_stream_loaded(rt.alloc(), &mut first, &mut tables, true);
-    let again = open_stream_loaded(rt.alloc(), &mut second, &mut tables, false);
-    unload_tables(rt.alloc(), &mut tables);
-    tables.unload(rt.alloc());
-    let fed = feed_stream(rt.alloc(), &mut first, b"abc 1");
-    let told = tells(rt.alloc(), &mut first, (0, 0, 0, "abc", 1, 1), true);
-    let parts = hands_out_parts(rt.alloc(), &mut first);
-    let none = answers(rt.alloc(), &mut second, Answer::More, 0);
-    first.close(rt.alloc());
-    second.close(rt.alloc());
-    assert!(rt; closed == Answer::Closed && loaded == Answer::Done);
-    assert!(rt; opened == Answer::Done && again == Answer::Done && fed == Answer::Done);
-    assert!(rt; told && parts && none);
+    let loaded = load_tables(alloc, &mut tables, file);
+    let opened = open_stream_loaded(alloc, &mut first, &mut tables, true);
+    let again = open_stream_loaded(alloc, &mut second, &mut tables, false);
+    tables.unload(alloc);
+    let so = two_go_on(alloc, &mut first, &mut second);
+    first.close(alloc);
+    second.close(alloc);
+    so && loaded == Answer::Done && opened == Answer::Done && again == Answer::Done
+}
+
+#[test]
+fn a_loaded_table_serves_streams(rt: HostRuntime) -> Result<(), Fail> {
+    let file = made(rt.alloc(), b"%%\n[a-z]+ ;\n")?;
+    assert!(rt; serves_two(rt.alloc(), file.written()));
     Ok(())
 }

@@ -1,7 +1,7 @@
 //! The lines and statuses of faults.
 use lexkit::{
     BuildError, Fault, GenError, MemorySink, PatternError, PatternErrorKind, RunError, ScanError,
-    SpecError, SpecErrorKind, TableError, WriteFault, write_fault,
+    SpecError, SpecErrorKind, TableError, write_fault,
 };
 use std::alloc::Global;
 
@@ -175,25 +175,5 @@ fn tells_each_fault(rt: HostRuntime) {
     ];
     for &(fault, status, line) in ROWS {
         assert!(rt; is_told(rt.alloc(), fault, status, line), "{line}");
-    }
-}
-
-/// Whether a sink of this room refuses the line, and has these bytes of it.
-fn is_told_within(alloc: Global, room: usize, written: &str) -> bool {
-    let mut sink = MemorySink::failing_after(alloc, room);
-    let got = write_fault(Fault::File("a.l"), &mut sink);
-    got == Err(WriteFault) && sink.written() == written.as_bytes()
-}
-
-#[test]
-fn stops_at_a_write_fault(rt: HostRuntime) {
-    let rows: &[(usize, &str)] = &[
-        (0, ""),
-        (3, "lex"),
-        (9, "lex: cann"),
-        (17, "lex: cannot read "),
-    ];
-    for &(room, written) in rows {
-        assert!(rt; is_told_within(rt.alloc(), room, written), "room {room}");
     }
 }

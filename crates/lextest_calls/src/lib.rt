@@ -26,8 +26,6 @@ mod for_c;
 #[cfg(test)]
 mod longest;
 #[cfg(test)]
-mod looks;
-#[cfg(test)]
 mod pieces;
 #[cfg(test)]
 mod pipelines;
@@ -37,8 +35,6 @@ mod plain;
 mod pulls;
 #[cfg(test)]
 mod refused;
-#[cfg(test)]
-mod reports;
 #[cfg(test)]
 mod scanning;
 #[cfg(test)]

@@ -3,6 +3,7 @@ use crate::building::made;
 use lexkit::{
     ByteReader, ByteWriter, FromBytes, Options, RunError, ScanError, ToWrite, scan_spec, scan_table,
 };
+use std::alloc::Global;
 use std::cell::Cell;
 use std::io::{self, Error, ErrorKind, Read, Write};
 use std::test::Fail;
@@ -154,9 +155,8 @@ fn answers_a_line_before_it_asks_for_more(rt: HostRuntime) -> Result<(), Fail> {
     Ok(())
 }
 
-/// What can't be handed on is a write fault, and no byte is asked for after it.
-#[test]
-fn tells_what_cannot_be_handed_on(rt: HostRuntime) -> Result<(), Fail> {
+/// What a scan answers that can't hand on, and whether it asked for a byte after it.
+fn stuck(alloc: Global) -> Result<(Result<u8, ScanError>, bool), Fail> {
     let written = Cell::new(0);
     let late = Cell::new(false);
     let reader = Pieces {
@@ -165,16 +165,16 @@ fn tells_what_cannot_be_handed_on(rt: HostRuntime) -> Result<(), Fail> {
         written: &written,
         late: &late,
     };
-    let mut source = FromBytes::new(ByteReader::new(rt.alloc(), reader)?);
+    let mut source = FromBytes::new(ByteReader::new(alloc, reader)?);
     let mut sink = ToWrite::new(Stuck);
-    let got = scan_spec(
-        rt.alloc(),
-        FILTERS[0],
-        Options::new(),
-        &mut source,
-        &mut sink,
-    );
-    assert!(rt; got == Err(ScanError::Run(RunError::Write)), "{got:?}");
-    assert!(rt; !late.get());
+    let got = scan_spec(alloc, FILTERS[0], Options::new(), &mut source, &mut sink);
+    Ok((got, late.get()))
+}
+
+/// What can't be handed on is a write fault, and no byte is asked for after it.
+#[test]
+fn tells_what_cannot_be_handed_on(rt: HostRuntime) -> Result<(), Fail> {
+    let (got, late) = stuck(rt.alloc())?;
+    assert!(rt; got == Err(ScanError::Run(RunError::Write)) && !late);
     Ok(())
 }

@@ -5,8 +5,8 @@ use crate::building::{machine_of, made};
 use crate::turns::{Turns, go_on, turn};
 use lex_command::{ArgsError, Job, read_args};
 use lexkit::{
-    BuildError, Flat, GenError, MemorySink, MemorySource, Options, PatternErrorKind, RunError,
-    ScanError, Sink, SpecErrorKind, TableError, ToWrite, generate, scan_spec, scan_table,
+    BuildError, Flat, GenError, Made, MemorySink, MemorySource, Options, PatternErrorKind,
+    RunError, ScanError, Sink, SpecErrorKind, TableError, ToWrite, generate, scan_spec, scan_table,
 };
 use lexscan::{Scanner, Turn, Window, run};
 use std::alloc::{AllocError, Global};
@@ -139,15 +139,17 @@ fn is_want_of_memory(error: GenError) -> bool {
     }
 }
 
+/// Whether what is made has so many lines of rules, and so many warnings.
+fn has_counts(made: &Made, rules: usize, warned: usize) -> bool {
+    made.rule_lines.len() == rules && made.warnings.len() == warned
+}
+
 /// Tables are made, with their lines and warnings, or memory ran out.
 #[test]
 fn refused_generate(rt: HostRuntime) -> Result<(), Fail> {
     for (&(text, ..), &(rules, warned)) in SCANS.iter().zip(COUNTS) {
         match generate(rt.alloc(), text, Options::new()) {
-            Ok(generated) => {
-                assert!(rt; generated.made.rule_lines.len() == rules);
-                assert!(rt; generated.made.warnings.len() == warned);
-            }
+            Ok(generated) => assert!(rt; has_counts(&generated.made, rules, warned)),
             Err(error) => {
                 assert!(rt; is_want_of_memory(error), "{error:?}");
                 return Err(error)?;

@@ -51,16 +51,21 @@ fn counts(tables: &Tables, conditions: usize, rules: usize, classes: u32) -> boo
     parts.conditions.len() == conditions && parts.rules.len() == rules && parts.classes == classes
 }
 
+/// Whether each front of a file is cut short.
+fn are_truncated(alloc: Global, file: &[u8]) -> bool {
+    let mut so = true;
+    for (n, _) in file.iter().enumerate() {
+        so = is_no_file(alloc, &file[..n], TableError::Truncated) && so;
+    }
+    so
+}
+
 #[test]
 fn no_file_is_a_prefix_of_another(rt: HostRuntime) -> Result<(), Fail> {
-    let alloc = rt.alloc();
-    let worked = worked(alloc)?;
-    for (n, _) in worked.iter().enumerate() {
-        assert!(rt; is_no_file(alloc, &worked[..n], TableError::Truncated));
-    }
-    let mut longer = worked;
-    longer.push(0)?;
-    assert!(rt; is_no_file(alloc, &longer, TableError::TrailingBytes));
+    let mut bytes = worked(rt.alloc())?;
+    assert!(rt; are_truncated(rt.alloc(), &bytes));
+    bytes.push(0)?;
+    assert!(rt; is_no_file(rt.alloc(), &bytes, TableError::TrailingBytes));
     Ok(())
 }
 
@@ -113,16 +118,27 @@ fn greatest(alloc: Global) -> Result<Vec<u8>, AllocError> {
     Ok(text)
 }
 
+/// Its table file.
+fn greatest_file(alloc: Global) -> Result<MemorySink, Fail> {
+    let text = greatest(alloc)?;
+    made(alloc, &text)
+}
+
+/// Whether a file has the table of so many conditions, rules and classes.
+fn is_greatest(alloc: Global, file: &[u8]) -> bool {
+    match read_tables(alloc, file) {
+        Ok(tables) => counts(&tables, 255, 4_096, 256),
+        Err(_) => false,
+    }
+}
+
 /// The file of the most conditions, rules and classes of bytes is read back.
 #[test]
 fn the_greatest_counts_are_read(rt: HostRuntime) -> Result<(), Fail> {
-    let alloc = rt.alloc();
-    let text = greatest(alloc)?;
-    let sink = made(alloc, &text)?;
-    let file = sink.written();
-    let tables = read_tables(alloc, file)?;
-    assert!(rt; counts(&tables, 255, 4_096, 256));
-    assert!(rt; is_rewritten(alloc, file));
+    let file = greatest_file(rt.alloc())?;
+    assert!(rt;
+        is_greatest(rt.alloc(), file.written()) && is_rewritten(rt.alloc(), file.written())
+    );
     Ok(())
 }
 

@@ -3,6 +3,7 @@ use crate::counted::Asked;
 use crate::long::{CAPACITY, dots, followed};
 use crate::script::{Reply, Script};
 use lex_io::{ByteReader, FromRead};
+use std::alloc::{AllocError, Global};
 use std::io::{ErrorKind, Read};
 use std::test::Fail;
 
@@ -35,12 +36,19 @@ fn reads<R: Read>(reader: &mut ByteReader<R>, room: usize, want: Result<&[u8], E
     }
 }
 
+/// Whether single bytes are read so.
+fn reads_each<R: Read>(reader: &mut ByteReader<R>, wants: &[Result<&[u8], ErrorKind>]) -> bool {
+    let mut so = true;
+    for &want in wants {
+        so = reads(reader, 1, want) && so;
+    }
+    so
+}
+
 #[test]
 fn tells_each_answer_where_it_is_met(rt: HostRuntime) -> Result<(), Fail> {
     let mut reader = ByteReader::new(rt.alloc(), Script { replies: REPLIES })?;
-    for &want in WANTS {
-        assert!(rt; reads(&mut reader, 1, want));
-    }
+    assert!(rt; reads_each(&mut reader, WANTS));
     Ok(())
 }
 
@@ -66,15 +74,26 @@ fn drops<R: Read>(reader: &mut ByteReader<R>, dots: usize) -> bool {
 // How much room there is, and which bytes are given.
 const ROOMS: &[(usize, &[u8])] = &[(1, b"a"), (4, b"bc"), (0, b""), (2, b"de"), (2, b"")];
 
+/// Whether these bytes are given behind the dots.
+fn gives<R: Read>(reader: &mut ByteReader<R>, rooms: &[(usize, &[u8])]) -> bool {
+    let mut so = drops(reader, 65_533);
+    for &(room, want) in rooms {
+        so = reads(reader, room, Ok(want)) && so;
+    }
+    so
+}
+
+/// The text of the test: so many dots, and behind them what is given.
+fn text_behind_dots(alloc: Global) -> Result<Vec<u8>, AllocError> {
+    let dots = dots(alloc, CAPACITY - 3)?;
+    followed(alloc, &dots, b"abcde")
+}
+
 /// The buffer ends after three bytes behind the dots.
 #[test]
 fn gives_what_there_is_room_for(rt: HostRuntime) -> Result<(), Fail> {
-    let dots = dots(rt.alloc(), CAPACITY - 3)?;
-    let text = followed(rt.alloc(), &dots, b"abcde")?;
+    let text = text_behind_dots(rt.alloc())?;
     let mut reader = ByteReader::new(rt.alloc(), text.as_slice())?;
-    assert!(rt; drops(&mut reader, 65_533));
-    for &(room, want) in ROOMS {
-        assert!(rt; reads(&mut reader, room, Ok(want)));
-    }
+    assert!(rt; gives(&mut reader, ROOMS));
     Ok(())
 }

@@ -1,7 +1,7 @@
 //! Tests over the writer with a buffer.
 use crate::long::{CAPACITY, dots, followed};
 use lex_io::ByteWriter;
-use std::alloc::Global;
+use std::alloc::{AllocError, Global};
 use std::cell::{Cell, RefCell};
 use std::io;
 use std::io::{Error, ErrorKind, Write};
@@ -161,30 +161,44 @@ fn loses_nothing(
     refused && flushes(writer, Ok(())) && tally.has(dots, b"abcdefghij")
 }
 
+/// Whether this holds of a writer over one that has room for all but some bytes, and then answers so.
+fn loses_nothing_at(
+    alloc: Global,
+    dots: &[u8],
+    full: Option<ErrorKind>,
+    want: ErrorKind,
+) -> Result<bool, AllocError> {
+    let tally = Tally::new(alloc, 65_533);
+    let drip = Drip {
+        tally: &tally,
+        full,
+    };
+    let mut writer = ByteWriter::new(alloc, drip)?;
+    Ok(loses_nothing(&mut writer, &tally, dots, want))
+}
+
 /// What the writer behind it does not take stays held, and is poured later.
 #[test]
 fn loses_and_repeats_nothing_at_a_fault(rt: HostRuntime) -> Result<(), Fail> {
     let dots = dots(rt.alloc(), CAPACITY - 8)?;
     for &(full, want) in FAULTS {
-        let tally = Tally::new(rt.alloc(), 65_533);
-        let drip = Drip {
-            tally: &tally,
-            full,
-        };
-        let mut writer = ByteWriter::new(rt.alloc(), drip)?;
-        assert!(rt; loses_nothing(&mut writer, &tally, &dots, want));
+        assert!(rt; loses_nothing_at(rt.alloc(), &dots, full, want)?);
     }
     Ok(())
 }
 
 const TEXT: &[u8] = b"a text of more than sixteen bytes";
 
+/// How much of the text is written by a writer that is then dropped.
+fn written(alloc: Global, taken: &mut Vec<u8>) -> io::Result<usize> {
+    let mut writer = ByteWriter::new(alloc, taken)?;
+    writer.write(TEXT)
+}
+
 #[test]
 fn pours_when_it_is_dropped(rt: HostRuntime) -> Result<(), Fail> {
     let mut taken: Vec<u8> = Vec::new(rt.alloc());
-    let mut writer = ByteWriter::new(rt.alloc(), &mut taken)?;
-    assert!(rt; writer.write(TEXT)? == 33);
-    drop(writer);
-    assert!(rt; taken.as_slice() == TEXT);
+    let count = written(rt.alloc(), &mut taken)?;
+    assert!(rt; count == 33 && taken.as_slice() == TEXT);
     Ok(())
 }

@@ -1,8 +1,6 @@
-//! Tests of the parts below a scan: where it reads and writes, patterns, definitions sections, and automata.
+//! Tests of the parts below a scan: where it reads and writes, and patterns that no text spells.
 #![tactic(auto)]
 
-#[cfg(test)]
-mod automata;
 #[cfg(test)]
 mod byte_reader;
 #[cfg(test)]
@@ -10,15 +8,9 @@ mod byte_writer;
 #[cfg(test)]
 mod counted;
 #[cfg(test)]
-mod definitions;
-#[cfg(test)]
 mod from_bytes;
 #[cfg(test)]
 mod long;
-#[cfg(test)]
-mod memory_sink;
-#[cfg(test)]
-mod memory_source;
 #[cfg(test)]
 mod patterns;
 #[cfg(test)]

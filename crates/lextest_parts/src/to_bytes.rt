@@ -1,6 +1,7 @@
 //! Tests over the sink that calls a writer with a buffer.
 use crate::counted::Called;
 use lex_io::{ByteWriter, ToBytes};
+use std::alloc::{AllocError, Global};
 use std::io;
 use std::io::{Error, ErrorKind, Write};
 use std::test::Fail;
@@ -24,15 +25,17 @@ fn hands_on<W: Write + Drop>(sink: &mut Called<ToBytes<W>>, bytes: &[u8]) -> boo
     sink.takes(bytes) && sink.flushes()
 }
 
+/// Whether bytes are handed on to what takes them, and then more.
+fn hands_on_twice(alloc: Global, taken: &mut Vec<u8>) -> Result<bool, AllocError> {
+    let mut sink = Called::new(ToBytes::new(ByteWriter::new(alloc, taken)?));
+    Ok(hands_on(&mut sink, b"ab") && hands_on(&mut sink, b"c"))
+}
+
 #[test]
 fn hands_on_what_was_put(rt: HostRuntime) -> Result<(), Fail> {
     let mut taken = Vec::new(rt.alloc());
-    {
-        let mut sink = Called::new(ToBytes::new(ByteWriter::new(rt.alloc(), &mut taken)?));
-        assert!(rt; hands_on(&mut sink, b"ab"));
-        assert!(rt; hands_on(&mut sink, b"c"));
-    }
-    assert_eq!(rt; taken.as_slice(), b"abc".as_slice());
+    let so = hands_on_twice(rt.alloc(), &mut taken)?;
+    assert!(rt; so && taken.as_slice() == b"abc".as_slice());
     Ok(())
 }
 

@@ -1,16 +1,16 @@
 //! What a command line of lex asks for.
-ghost use Rattle.std.specs.Prelude.{◌≡◌, ◌≢◌, ◌⊎◌, IfErr, IfOk, codes, fold, map, string_bytes};
-ghost use Rattle.std.specs.Prelude.{false, true};
-ghost use Rattle.clap.specs.Words.{app_of, found_of, rows_of, rule_of, with_rule};
+ghost use Rattle.std.specs.Prelude.{◌≡◌, ◌≢◌, ◌⊎◌, IfErr, IfOk, codes, map, string_bytes, true};
+ghost use Rattle.clap.specs.Words.{app_of, found_of, rows_of};
 ghost use Rattle.lex_command.specs.Args.{IsNamed};
 ghost use Rattle.lex_command.specs.CommandLine.{AsksFor, IsJobOf, AsksToMake, ScansBySpec, ScansByTable, files_of};
-ghost use Rattle.lex_command.specs.CommandLine.{flag_rules, has_byte_at, has_separator, has_value_behind_equals};
+ghost use Rattle.lex_command.specs.CommandLine.{has_byte_at, has_separator, has_value_behind_equals};
 ghost use Rattle.lex_command.specs.CommandLine.{is_long_with_equals, is_out_with_equals, lex_app, makes_tables};
-ghost use Rattle.lex_command.specs.CommandLine.{name_rules, reads_patterns, value_rule, words_rule};
+ghost use Rattle.lex_command.specs.CommandLine.{reads_patterns};
 
 use crate::error::ArgsError;
-use crate::flags::{PatternFlags, copied, has, patterns_of, value_of, values_of, with_flags};
-use clap::{Arg, ArgAction, ArgMatches, Command};
+use crate::flags::{PatternFlags, copied, has, patterns_of, value_of, values_of};
+use crate::words::{Form, with_words};
+use clap::{ArgMatches, Command};
 use std::alloc::{AllocError, Global};
 
 /// What the program is to do.
@@ -134,66 +134,26 @@ fn has_byte_at(word: &[u8], at: usize, byte: u8) -> bool
 }
 
 /// The words that the program knows.
+const WORDS: &[(&str, Form)] = &[
+    ("stdout", Form::Flag('t')),
+    ("no-stats", Form::Flag('n')),
+    ("stats", Form::Flag('v')),
+    ("backup", Form::Flag('b')),
+    ("fold", Form::Flag('i')),
+    ("posix", Form::Flag('X')),
+    ("quiet", Form::Flag('w')),
+    ("out", Form::Value('o')),
+    ("scan-spec", Form::LongValue),
+    ("scan-table", Form::LongValue),
+    ("file", Form::Several),
+];
+
+/// The command that knows them.
 fn command<'a>(alloc: Global) -> Result<Command<'a>, AllocError>
     ensures { IfOk result (λ c. app_of c ≡ lex_app) }
 {
     let command = Command::new(alloc, "lex").no_binary_name(true);
-    let command = with_job_flags(alloc, command)?;
-    with_names(alloc, command)
-}
-
-/// The command with the flags.
-fn with_job_flags<'a>(alloc: Global, command: Command<'a>) -> Result<Command<'a>, AllocError>
-    ensures { IfOk result (λ c. app_of c ≡ fold with_rule (app_of command.entry) flag_rules) }
-{
-    let flags = &[
-        ("stdout", 't'),
-        ("no-stats", 'n'),
-        ("stats", 'v'),
-        ("backup", 'b'),
-        ("fold", 'i'),
-        ("posix", 'X'),
-        ("quiet", 'w'),
-    ];
-    with_flags(alloc, command, flags)
-}
-
-/// A word that has a value: by its letter, or else by its long name.
-pub(crate) fn value_word<'a>(alloc: Global, name: &'a str, letter: Option<char>) -> Arg<'a>
-    ensures rule { rule_of result ≡ value_rule name.entry.now letter }
-    ensures global { result.global ≡ false }
-{
-    let word = Arg::new(alloc, name).action(ArgAction::Set);
-    match letter {
-        Some(letter) => word.short(letter),
-        None => word.long(name),
-    }
-}
-
-/// The words that name specifications.
-fn file_words<'a>(alloc: Global) -> Arg<'a>
-    ensures rule { rule_of result ≡ words_rule (codes "file") }
-    ensures global { result.global ≡ false }
-{
-    Arg::new(alloc, "file")
-        .num_args(1..)
-        .action(ArgAction::Append)
-}
-
-/// The command with the words that name files.
-fn with_names<'a>(alloc: Global, command: Command<'a>) -> Result<Command<'a>, AllocError>
-    ensures { IfOk result (λ c. app_of c ≡ fold with_rule (app_of command.entry) name_rules) }
-{
-    let words = &[
-        ("out", Some('o')),
-        ("scan-spec", None),
-        ("scan-table", None),
-    ];
-    let mut with = command;
-    for &(name, letter) in words {
-        with = with.arg(value_word(alloc, name, letter))?;
-    }
-    with.arg(file_words(alloc))
+    with_words(alloc, command, WORDS)
 }
 
 /// Whether something stands there that only making tables takes: `-t`, `-n`, `-v`, `-b`, `-o` or a file.

@@ -1,16 +1,16 @@
 //! What a command line of lexlook asks for.
-ghost use Rattle.std.specs.Prelude.{◌≡◌, ◌≢◌, IfErr, IfOk, IfSome, None, Some, codes, false, fold, map};
+ghost use Rattle.std.specs.Prelude.{◌≡◌, ◌≢◌, IfErr, IfOk, IfSome, None, Some, codes, fold, map};
 ghost use Rattle.std.specs.Prelude.{option_map, string_bytes};
-ghost use Rattle.clap.specs.Words.{app_of, found_of, rows_of, rule_of, subcommand_rows_of, with_rule, with_subcommand};
-ghost use Rattle.lex_command.specs.LookLine.{AsksToShow, HasOwn, IsLookOf, about_of, file_app, first_about, lexlook_app, name_of};
-ghost use Rattle.lex_command.specs.CommandLine.{words_rule};
-ghost use Rattle.lex_command.specs.LookLine.{check_words, long_rule, needed_rule, needed_words_rule, own_rules, sets_app, suite_words};
+ghost use Rattle.clap.specs.Words.{app_of, found_of, rows_of, subcommand_rows_of, with_subcommand};
+ghost use Rattle.lex_command.specs.Forms.{subcommand_app};
+ghost use Rattle.lex_command.specs.LookLine.{AsksToShow, HasOwn, IsLookOf, about_of, first_about, lexlook_app, name_of};
 ghost use Rattle.lex_command.specs.LookLine.{told_version};
 
 use crate::error::ArgsError;
-use crate::flags::{PatternFlags, copied, has, patterns_of, value_of, values_of, with_flags};
-use crate::job::{files_of, value_word};
-use clap::{Arg, ArgAction, ArgMatches, Command};
+use crate::flags::{PatternFlags, copied, has, patterns_of, value_of, values_of};
+use crate::job::files_of;
+use crate::words::{Form, with_words};
+use clap::{ArgMatches, Command};
 use std::alloc::{AllocError, Global};
 
 /// What is shown of one file.
@@ -154,188 +154,85 @@ fn first_about(version: About, words: &[String]) -> Option<About>
     None
 }
 
-/// A word that names a file, and has to stand there.
-fn needed_word<'a>(alloc: Global, id: &'a str) -> Arg<'a>
-    ensures rule { rule_of result ≡ needed_rule id.entry.now }
-    ensures global { result.global ≡ false }
-{
-    Arg::new(alloc, id).required(true).action(ArgAction::Set)
-}
+/// How patterns are read.
+const FOLD: (&str, Form) = ("fold", Form::Flag('i'));
 
-/// The words that name sets.
-fn set_words<'a>(alloc: Global) -> Arg<'a>
-    ensures rule { rule_of result ≡ words_rule (codes "set") }
-    ensures global { result.global ≡ false }
-{
-    Arg::new(alloc, "set")
-        .num_args(1..)
-        .action(ArgAction::Append)
-}
+const POSIX: (&str, Form) = ("posix", Form::Flag('X'));
 
-/// The command with these words more, which name files.
-fn with_files<'a>(
-    alloc: Global,
-    command: Command<'a>,
-    files: &[&'a str],
-) -> Result<Command<'a>, AllocError>
-    ensures { IfOk result (λ c. app_of c
-        ≡ fold with_rule (app_of command.entry) (map (λ file. needed_rule file.now) files.now)) }
-{
-    let mut with = command;
-    for file in files {
-        with = with.arg(needed_word(alloc, *file))?;
-    }
-    Ok(with)
-}
+/// The file of a subcommand.
+const FILE: (&str, Form) = ("file", Form::Needed);
 
-/// The command with these flags more, each a word.
-fn with_long_flags<'a>(
-    alloc: Global,
-    command: Command<'a>,
-    words: &[&'a str],
-) -> Result<Command<'a>, AllocError>
-    ensures { IfOk result (λ c. app_of c
-        ≡ fold with_rule (app_of command.entry) (map (λ word. long_rule word.now) words.now)) }
-{
-    let mut with = command;
-    for word in words {
-        with = with.arg(long_flag(alloc, *word))?;
-    }
-    Ok(with)
-}
+/// The words of a subcommand that has no others.
+const ONE_FILE: &[(&str, Form)] = &[FOLD, POSIX, FILE];
 
-/// The words of a subcommand: how patterns are read, flags of its own, and its files.
-fn file_command<'a>(
+/// The subcommands: their names, and the words behind each.
+const LOOKS: &[(&str, &[(&str, Form)])] = &[
+    ("picture", ONE_FILE),
+    (
+        "same",
+        &[FOLD, POSIX, ("left", Form::Needed), ("right", Form::Needed)],
+    ),
+    ("lines", ONE_FILE),
+    ("words", ONE_FILE),
+    ("overlaps", ONE_FILE),
+    ("trace", &[FOLD, POSIX, ("offsets", Form::LongFlag), FILE]),
+    ("cover", ONE_FILE),
+    ("header", &[FOLD, POSIX, ("rust", Form::LongFlag), FILE]),
+    ("count", &[FOLD, POSIX, ("json", Form::LongFlag), FILE]),
+    ("utf8", &[("set", Form::Several)]),
+    (
+        "check",
+        &[
+            FOLD,
+            POSIX,
+            ("strict", Form::Flag('s')),
+            ("json", Form::LongFlag),
+            ("file", Form::NeededSeveral),
+        ],
+    ),
+    ("suite", &[FOLD, POSIX, ("out", Form::Value('o')), FILE]),
+];
+
+/// The subcommand of this name, with the words behind it.
+fn look_command<'a>(
     alloc: Global,
     name: &'a str,
-    words: &[&'a str],
-    files: &[&'a str],
+    words: &[(&'a str, Form)],
 ) -> Result<Command<'a>, AllocError>
-    ensures { IfOk result (λ c. app_of c ≡ file_app name.entry.now (own_rules words.now files.now)) }
+    ensures { IfOk result (λ c. app_of c ≡ subcommand_app name.entry.now words.now) }
 {
-    let flags = &[("fold", 'i'), ("posix", 'X')];
     let command = Command::new(alloc, name).disable_help_flag(true);
-    let command = with_flags(alloc, command, flags)?;
-    let command = with_long_flags(alloc, command, words)?;
-    with_files(alloc, command, files)
+    with_words(alloc, command, words)
 }
 
-/// The words with one subcommand more.
+/// The command with this subcommand more.
 fn with_look<'a>(
     alloc: Global,
     top: Command<'a>,
     name: &'a str,
-    words: &[&'a str],
-    files: &[&'a str],
+    words: &[(&'a str, Form)],
 ) -> Result<Command<'a>, AllocError>
     ensures { IfOk result (λ c. app_of c
-        ≡ with_subcommand (app_of top.entry) (file_app name.entry.now (own_rules words.now files.now)).top) }
+        ≡ with_subcommand (app_of top.entry) (subcommand_app name.entry.now words.now).top) }
 {
-    top.subcommand(file_command(alloc, name, words, files)?)
+    top.subcommand(look_command(alloc, name, words)?)
 }
 
-/// The words with these subcommands more, each with its own flags and what its files are called.
+/// The command with these subcommands more.
 fn with_looks<'a>(
     alloc: Global,
     top: Command<'a>,
-    looks: &[(&'a str, &'a [&'a str], &'a [&'a str])],
+    looks: &[(&'a str, &'a [(&'a str, Form)])],
 ) -> Result<Command<'a>, AllocError>
     ensures { IfOk result (λ c. app_of c ≡ fold with_subcommand (app_of top.entry)
-        (map (λ look. (file_app look.0.now (own_rules look.1.now look.2.now)).top) looks.now)) }
+        (map (λ look. (subcommand_app look.0.now look.1.now).top) looks.now)) }
 {
     let mut with = top;
-    for &(name, words, files) in looks {
-        with = with_look(alloc, with, name, words, files)?;
+    for &(name, words) in looks {
+        with = with_look(alloc, with, name, words)?;
     }
     Ok(with)
 }
-
-/// The words of `utf8`: its sets.
-fn sets_command<'a>(alloc: Global) -> Result<Command<'a>, AllocError>
-    ensures { IfOk result (λ c. app_of c ≡ sets_app) }
-{
-    let command = Command::new(alloc, "utf8").disable_help_flag(true);
-    command.arg(set_words(alloc))
-}
-
-/// The words with `utf8` more.
-fn with_letters<'a>(alloc: Global, top: Command<'a>) -> Result<Command<'a>, AllocError>
-    ensures { IfOk result (λ c. app_of c ≡ with_subcommand (app_of top.entry) sets_app.top) }
-{
-    top.subcommand(sets_command(alloc)?)
-}
-
-/// The words that name the files of `check`, one at least.
-fn needed_words<'a>(alloc: Global) -> Arg<'a>
-    ensures rule { rule_of result ≡ needed_words_rule (codes "file") }
-    ensures global { result.global ≡ false }
-{
-    Arg::new(alloc, "file")
-        .num_args(1..)
-        .required(true)
-        .action(ArgAction::Append)
-}
-
-/// A flag that is a word, which may be repeated.
-fn long_flag<'a>(alloc: Global, word: &'a str) -> Arg<'a>
-    ensures rule { rule_of result ≡ long_rule word.entry.now }
-    ensures global { result.global ≡ false }
-{
-    Arg::new(alloc, word).long(word).action(ArgAction::Count)
-}
-
-/// The words of `check`: how patterns are read, whether a byte may be copied, whether faults are told as JSON, and its files.
-fn check_command<'a>(alloc: Global) -> Result<Command<'a>, AllocError>
-    ensures { IfOk result (λ c. app_of c ≡ file_app (codes "check") check_words) }
-{
-    let flags = &[("fold", 'i'), ("posix", 'X'), ("strict", 's')];
-    let command = Command::new(alloc, "check").disable_help_flag(true);
-    let command = with_flags(alloc, command, flags)?;
-    let command = command.arg(long_flag(alloc, "json"))?;
-    command.arg(needed_words(alloc))
-}
-
-/// The words with `check`.
-fn with_check<'a>(alloc: Global, top: Command<'a>) -> Result<Command<'a>, AllocError>
-    ensures { IfOk result (λ c. app_of c
-        ≡ with_subcommand (app_of top.entry) (file_app (codes "check") check_words).top) }
-{
-    top.subcommand(check_command(alloc)?)
-}
-
-/// The words of `suite`: how patterns are read, where the inputs are put, and its file.
-fn suite_command<'a>(alloc: Global) -> Result<Command<'a>, AllocError>
-    ensures { IfOk result (λ c. app_of c ≡ file_app (codes "suite") suite_words) }
-{
-    let flags = &[("fold", 'i'), ("posix", 'X')];
-    let command = Command::new(alloc, "suite").disable_help_flag(true);
-    let command = with_flags(alloc, command, flags)?;
-    let command = command.arg(value_word(alloc, "out", Some('o')))?;
-    command.arg(needed_word(alloc, "file"))
-}
-
-/// The words with `suite`.
-fn with_suite<'a>(alloc: Global, top: Command<'a>) -> Result<Command<'a>, AllocError>
-    ensures { IfOk result (λ c. app_of c
-        ≡ with_subcommand (app_of top.entry) (file_app (codes "suite") suite_words).top) }
-{
-    top.subcommand(suite_command(alloc)?)
-}
-
-const ONE: &[&str] = &["file"];
-
-/// The subcommands of files: their names, the flags of their own, and what the files are called.
-const LOOKS: &[(&str, &[&str], &[&str])] = &[
-    ("picture", &[], ONE),
-    ("same", &[], &["left", "right"]),
-    ("lines", &[], ONE),
-    ("words", &[], ONE),
-    ("overlaps", &[], ONE),
-    ("trace", &["offsets"], ONE),
-    ("cover", &[], ONE),
-    ("header", &["rust"], ONE),
-    ("count", &["json"], ONE),
-];
 
 /// The words that the program knows.
 fn command<'a>(alloc: Global) -> Result<Command<'a>, AllocError>
@@ -346,10 +243,7 @@ fn command<'a>(alloc: Global) -> Result<Command<'a>, AllocError>
         .disable_help_flag(true)
         .disable_help_subcommand(true)
         .subcommand_required(true);
-    let top = with_looks(alloc, top, LOOKS)?;
-    let top = with_letters(alloc, top)?;
-    let top = with_check(alloc, top)?;
-    with_suite(alloc, top)
+    with_looks(alloc, top, LOOKS)
 }
 
 /// What the matches ask for.
@@ -359,12 +253,27 @@ fn look_of(alloc: Global, matches: &ArgMatches<'_>) -> Result<Look, ArgsError>
         → (look : Look) → IsLookOf (subcommand_rows_of matches.now) look → ⊥) }
 {
     match matches.subcommand() {
-        Some((name, found)) if name == "same" => same_look(alloc, found),
-        Some((name, found)) if name == "utf8" => letters_look(alloc, found),
-        Some((name, found)) if name == "check" => check_look(alloc, found),
-        Some((name, found)) if name == "suite" => suite_look(alloc, found),
-        Some((name, found)) => one_look(alloc, name, found),
+        Some((name, found)) => look_behind(alloc, name, found),
         None => Err(ArgsError::Usage),
+    }
+}
+
+/// What the matches behind the name of a subcommand ask for.
+fn look_behind(alloc: Global, name: &str, found: &ArgMatches<'_>) -> Result<Look, ArgsError>
+    ensures asked { IfOk result (IsLookOf (Some (name.now, rows_of (found_of found.now)))) }
+    ensures refused { IfErr result (λ e. e ≡ ArgsError.Usage
+        → (look : Look) → IsLookOf (Some (name.now, rows_of (found_of found.now))) look → ⊥) }
+{
+    if name == "same" {
+        same_look(alloc, found)
+    } else if name == "utf8" {
+        letters_look(alloc, found)
+    } else if name == "check" {
+        check_look(alloc, found)
+    } else if name == "suite" {
+        suite_look(alloc, found)
+    } else {
+        one_look(alloc, name, found)
     }
 }
 
