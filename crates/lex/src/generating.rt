@@ -10,7 +10,7 @@ use std::fs::File;
 use std::io;
 
 /// Where the table file goes, and what is written beside it.
-#[derive(Drop)]
+#[derive(Debug, Drop)]
 pub struct Outputs {
     /// The table file's name; lex.yy.tab where there is none.
     pub table: Option<String>,
@@ -42,22 +42,12 @@ pub fn make(
     requires few_states { options.limits.states ≤ MAX_STATES }
 {
     let (made, backup) = made_of(rt, text, options, outputs.backup)?;
-    write_outputs(rt, &made, &backup, outputs)
-}
-
-/// Writes them in their order.
-fn write_outputs(
-    rt: &HostRuntime,
-    made: &Made,
-    backup: &[BackUp],
-    outputs: &Outputs,
-) -> Result<(), Failure> {
     if !outputs.quiet {
         warn(rt, &made.warnings)?;
     }
     write_table(rt, &made.tables, outputs)?;
     if outputs.backup {
-        report(rt, backup)?;
+        report(rt, &backup)?;
     }
     if outputs.stats {
         count(rt, &made.stats, outputs.to_stdout)?;

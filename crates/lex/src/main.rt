@@ -106,27 +106,9 @@ fn scan_by_spec(
     scan(rt, By::Made(made.tables))
 }
 
-/// Scans standard input by the table in a file.
-fn scan_by_table(rt: &HostRuntime, file: String) -> Result<u8, Failure> {
-    let bytes = read_table_file(rt, file)?;
-    scan(rt, By::Table(bytes.as_slice()))
-}
-
-/// Makes tables of the specification that files are together, and writes what is asked for.
-fn make_tables(
-    rt: &HostRuntime,
-    files: &[String],
-    patterns: PatternFlags,
-    outputs: &Outputs,
-) -> Result<u8, Failure> {
-    let text = read_specification(rt, files)?;
-    make(rt, text.as_slice(), options_of(patterns), outputs)?;
-    Ok(0)
-}
-
-/// Does a job, and answers with the status of the program.
-fn carry_out(rt: &HostRuntime, job: Job) -> Result<u8, Failure> {
-    match job {
+/// Does what the command line asks for, and answers with the status of the program.
+fn run(rt: &HostRuntime) -> Result<u8, Failure> {
+    match job_of(rt)? {
         Job::Generate {
             files,
             out,
@@ -136,6 +118,7 @@ fn carry_out(rt: &HostRuntime, job: Job) -> Result<u8, Failure> {
             patterns,
             quiet,
         } => {
+            let text = read_specification(rt, files.as_slice())?;
             let outputs = Outputs {
                 table: out,
                 to_stdout: stdout,
@@ -143,20 +126,19 @@ fn carry_out(rt: &HostRuntime, job: Job) -> Result<u8, Failure> {
                 backup,
                 quiet,
             };
-            make_tables(rt, files.as_slice(), patterns, &outputs)
+            make(rt, text.as_slice(), options_of(patterns), &outputs)?;
+            Ok(0)
         }
         Job::ScanSpec {
             file,
             patterns,
             quiet,
         } => scan_by_spec(rt, file, patterns, quiet),
-        Job::ScanTable { file } => scan_by_table(rt, file),
+        Job::ScanTable { file } => {
+            let bytes = read_table_file(rt, file)?;
+            scan(rt, By::Table(bytes.as_slice()))
+        }
     }
-}
-
-/// Does what the command line asks for.
-fn run(rt: &HostRuntime) -> Result<u8, Failure> {
-    carry_out(rt, job_of(rt)?)
 }
 
 /// Runs, and reports what ended the run before its work was done.

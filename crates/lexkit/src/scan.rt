@@ -45,10 +45,12 @@ pub fn run_table<S: Source, K: Sink>(
     ensures handed_on { RunHandedOn (K.flushed sink.new) result }
 {
     if table.has_quiet_rule() {
-        run(alloc, &table.quiet(), source, sink, MAX_READS)
-    } else {
-        run(alloc, table, source, sink, MAX_READS)
+        // Where memory for it is refused, the scan goes over the table as it is.
+        if let Ok(quiet) = table.quiet(alloc) {
+            return run(alloc, &quiet, source, sink, MAX_READS);
+        }
     }
+    run(alloc, table, source, sink, MAX_READS)
 }
 
 /// Scans the source by the specification that a text spells, and writes to the sink. It answers the status that the

@@ -1,13 +1,13 @@
 -- Which rules have REJECT where those that only reject are left out.
-use Rattle.std.proofs.Common.{◌≡◌, ℕ, zero, suc, ◌<◌, Bool, true, false, ◌||◌, List, [], ◌∷◌, length, take, get_or, ◌+◌, ◌⊎◌, inl, inr, refl, ◌∙◌, subst, arith}
+use Rattle.std.proofs.Common.{◌≡◌, ℕ, zero, suc, ◌<◌, Bool, true, false, ◌||◌, List, [], ◌∷◌, length, get_or, inl, inr, refl, sym, ◌∙◌, subst, arith}
 use Rattle.std.specs.Prelude.{slice_get, ◌&&◌, not, if◌then◌else◌}
-use Rattle.std.proofs.lemmas.Bool.{or_parts, false≢true}
+use Rattle.std.proofs.lemmas.Bool.{and_parts, or_parts, false≢true}
 use Rattle.lex_semantics.specs.Text.{Among}
 use Rattle.lex_semantics.specs.Spec.{Cut, Head, Statement, has_reject}
 use Rattle.lex_semantics.specs.Machine.{Machine, Keeps}
 use Rattle.lex_machine.specs.Quiets.{only_rejects, quiet, NoneFits}
 use Rattle.lextab_packed.specs.Table.{RuleOfTable}
-use Rattle.lextab_packed.specs.Quiets.{acts_and_rejects, some_rule_acts_and_rejects}
+use Rattle.lextab_packed.specs.Rejections.{acts_and_rejects, some_rule_acts_and_rejects, all_only_reject}
 use Rattle.lextab_packed.proofs.Finding.{statements_at}
 
 abbrev without : List Statement → List Statement
@@ -46,22 +46,15 @@ keeps_none false cut n k is h = absurd (false≢true is)
 pub only_quiet : (M : Machine) (s : ℕ) → ((i : ℕ) → Among (M.accepts s) i → only_rejects (M.statements i) ≡ true) → NoneFits (quiet M) s
 only_quiet M s h i a n k keeps = keeps_none (only_rejects (M.statements i)) (M.cut i) n k (h i a) keeps
 
--- the rules at the front of a list
+-- each of them
+pub all_of : (M : Machine) (rules : List ℕ) → all_only_reject M rules ≡ true → (i : ℕ) → Among rules i → only_rejects (M.statements i) ≡ true
+all_of M [] h i a = absurd a
+all_of M (r ∷ rs) h i (inl e) = subst (λ j. only_rejects (M.statements j) ≡ true) (sym e) (and_parts (only_rejects (M.statements r)) (all_only_reject M rs) h).0
+all_of M (r ∷ rs) h i (inr a) = all_of M rs (and_parts (only_rejects (M.statements r)) (all_only_reject M rs) h).1 i a
+
+-- an element of a list
 
 pub among_at : (xs : List ℕ) (i : ℕ) → i < length xs → Among xs (get_or xs i 0)
 among_at [] i lt = absurd (omega (arith, lt))
 among_at (x ∷ xs) zero lt = inl refl
 among_at (x ∷ xs) (suc i) lt = inr (among_at xs i (omega (arith, lt)))
-
-front_or : (xs : List ℕ) (k i : ℕ) → k < length xs → Among (take (suc k) xs) i → Among (take k xs) i ⊎ (i ≡ get_or xs k 0)
-front_or [] k i lt a = absurd (omega (arith, lt))
-front_or (x ∷ xs) zero i lt (inl e) = inr e
-front_or (x ∷ xs) zero i lt (inr a) = absurd a
-front_or (x ∷ xs) (suc k) i lt (inl e) = inl (inl e)
-front_or (x ∷ xs) (suc k) i lt (inr a) = elim (front_or xs k i (omega (arith, lt)) a) [
-  | inl b ↦ inl (inr b)
-  | inr e ↦ inr e
-]
-
-pub among_front : (xs : List ℕ) (k i : ℕ) → k < length xs → Among (take (k + 1) xs) i → Among (take k xs) i ⊎ (i ≡ get_or xs k 0)
-among_front xs k i lt a = (let one : k + 1 ≡ suc k = omega arith in front_or xs k i lt (subst (λ n. Among (take n xs) i) one a))

@@ -11,4 +11,5 @@ pub mod Leaps
 pub mod Live
 pub mod Inverse
 pub mod Spreading
+pub mod Rejections
 pub mod Quiets

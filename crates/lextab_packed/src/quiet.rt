@@ -1,23 +1,29 @@
 //! A flat table in which rules that do nothing but REJECT fit no text.
-ghost use Rattle.std.specs.Prelude.{◌≡◌, ◌<◌, map};
+ghost use Rattle.std.specs.Prelude.{◌≡◌, ℕ, ◌<◌, map, length, slice_get, Some, IfOk};
+ghost use Rattle.lex_semantics.specs.Text.{Among};
 ghost use Rattle.lex_semantics.specs.Machine.{rules_of_machine};
 ghost use Rattle.lex_semantics.specs.ScanLaws.{SameScan};
 ghost use Rattle.lex_machine.specs.Quiets.{only_rejects, quiet};
 ghost use Rattle.lextab_packed.specs.FlatViews.{tables_of};
 ghost use Rattle.lextab_packed.specs.Machines.{table_machine, table_parts, table_states};
-ghost use Rattle.lextab_packed.specs.Quiets.{acts_and_rejects, some_rule_acts_and_rejects, some_rule_only_rejects};
-ghost use Rattle.lextab_packed.specs.Quiets.{quiet_machine, quiet_machine_laws, quiet_machine_below};
+ghost use Rattle.lextab_packed.specs.Rejections.{acts_and_rejects, all_only_reject};
+ghost use Rattle.lextab_packed.specs.Rejections.{some_rule_acts_and_rejects, some_rule_only_rejects};
 ghost use Rattle.lextab_packed.specs.Views.{table_rule_of};
 
 use crate::flat::Flat;
 use crate::parts::TableRule;
 use lex_machine::{Cut, EndAction, Gist, Machine, Statement, Way, has_reject, only_rejects};
+use std::alloc::{AllocError, Global};
 
 /// A flat table in which rules that do nothing but REJECT fit no text. It makes the same turns as the table. Where no
-/// other rule has REJECT, a scan need not look for the matches that are given up.
-#[derive(Clone, Copy)]
+/// other rule has REJECT, a scan need not look for the matches that are given up. It takes a byte a state.
+#[derive(Drop)]
 pub struct Quiet<'a> {
     flat: &'a Flat,
+    silent: Vec<bool>,
+    ghost column: { length silent.items ≡ table_states (tables_of flat.now) },
+    ghost told: { (s : ℕ) → s < table_states (tables_of flat.now) → slice_get silent.items s
+        ≡ Some (all_only_reject (table_machine (tables_of flat.now)) ((table_machine (tables_of flat.now)).accepts s)) },
 }
 
 /// Whether some rule does nothing but REJECT.
@@ -52,6 +58,8 @@ fn any_acts_and_rejects(rules: &[TableRule]) -> bool
 }
 
 impl Flat {
+    ghost use Rattle.lextab_packed.specs.Quiets.{quiet_machine};
+
     /// Whether some rule does nothing but REJECT.
     pub fn has_quiet_rule(&self) -> bool
         ensures { result ≡ some_rule_only_rejects (map table_rule_of (table_parts (tables_of self.now)).rules.items) }
@@ -59,27 +67,47 @@ impl Flat {
         any_only_rejects(&self.tables.parts.rules)
     }
 
-    /// The table as the machine in which such rules fit no text. It makes the same turns.
-    pub fn quiet(&self) -> Quiet<'_>
-        ensures machine { quiet_machine result ≡ quiet (table_machine (tables_of self.now)) }
-        ensures scan { SameScan (rules_of_machine (quiet_machine result))
-            (rules_of_machine (table_machine (tables_of self.now))) }
+    /// Whether each of these rules does nothing but REJECT.
+    fn all_only_reject(&self, rules: &[u32]) -> bool
+        requires { (i : ℕ) → Among rules.now i → i < (table_machine (tables_of self.now)).count }
+        ensures { result ≡ all_only_reject (table_machine (tables_of self.now)) rules.now }
     {
-        Quiet { flat: self }
+        for rule in rules {
+            if !only_rejects(self.rule(*rule).1) {
+                return false;
+            }
+        }
+        true
     }
-}
 
-impl Quiet<'_> {
-    /// Whether the rule does nothing but REJECT.
-    fn only_rejects(&self, rule: u32) -> bool
-        requires { rule < (table_machine (tables_of self.now.flat.now)).count }
-        ensures { result ≡ only_rejects ((table_machine (tables_of self.now.flat.now)).statements rule) }
+    /// Of each state, whether each rule that it accepts does nothing but REJECT.
+    fn silent_states(&self, alloc: Global) -> Result<Vec<bool>, AllocError>
+        ensures len { IfOk result (λ v. length v.items ≡ table_states (tables_of self.now)) }
+        ensures each { IfOk result (λ v. (s : ℕ) → s < table_states (tables_of self.now) → slice_get v.items s
+            ≡ Some (all_only_reject (table_machine (tables_of self.now)) ((table_machine (tables_of self.now)).accepts s))) }
     {
-        only_rejects(self.flat.rule(rule).1)
+        let states = self.tables.parts.rows.len();
+        let mut silent = Vec::with_capacity(alloc, states)?;
+        for state in 0..states {
+            silent.push(self.all_only_reject(self.accepts(state as u32)))?;
+        }
+        Ok(silent)
+    }
+
+    /// The table as the machine in which such rules fit no text. It makes the same turns.
+    pub fn quiet(&self, alloc: Global) -> Result<Quiet<'_>, AllocError>
+        ensures machine { IfOk result (λ q. quiet_machine q ≡ quiet (table_machine (tables_of self.now))) }
+        ensures scan { IfOk result (λ q. SameScan (rules_of_machine (quiet_machine q))
+            (rules_of_machine (table_machine (tables_of self.now)))) }
+    {
+        let silent = self.silent_states(alloc)?;
+        Ok(Quiet { flat: self, silent })
     }
 }
 
 impl Machine for Quiet<'_> {
+    ghost use Rattle.lextab_packed.specs.Quiets.{quiet_machine, quiet_machine_laws, quiet_machine_below};
+
     ghost machine = { λ q. quiet_machine q };
 
     ghost states = { λ q. table_states (tables_of q.flat.now) };
@@ -120,12 +148,7 @@ impl Machine for Quiet<'_> {
 
     /// Whether each rule that the state accepts does nothing but REJECT.
     fn fits_none(&self, state: u32) -> bool {
-        for rule in self.flat.accepts(state) {
-            if !self.only_rejects(*rule) {
-                return false;
-            }
-        }
-        true
+        self.silent[state as usize]
     }
 
     /// How much of a match of a rule is the text, and what is done: none and nothing where the rule only rejects.

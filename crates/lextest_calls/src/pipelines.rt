@@ -156,7 +156,7 @@ fn answers_a_line_before_it_asks_for_more(rt: HostRuntime) -> Result<(), Fail> {
 }
 
 /// What a scan answers that can't hand on, and whether it asked for a byte after it.
-fn stuck(alloc: Global) -> Result<(Result<u8, ScanError>, bool), Fail> {
+fn handed_on_to_nothing(alloc: Global) -> Result<(Result<u8, ScanError>, bool), Fail> {
     let written = Cell::new(0);
     let late = Cell::new(false);
     let reader = Pieces {
@@ -174,7 +174,7 @@ fn stuck(alloc: Global) -> Result<(Result<u8, ScanError>, bool), Fail> {
 /// What can't be handed on is a write fault, and no byte is asked for after it.
 #[test]
 fn tells_what_cannot_be_handed_on(rt: HostRuntime) -> Result<(), Fail> {
-    let (got, late) = stuck(rt.alloc())?;
+    let (got, late) = handed_on_to_nothing(rt.alloc())?;
     assert!(rt; got == Err(ScanError::Run(RunError::Write)) && !late);
     Ok(())
 }

@@ -1,5 +1,5 @@
 use Rattle.std.proofs.Common.{◌≡◌, drop, map}
-use Rattle.lextab_packed.specs.Quiets.{some_rule_acts_and_rejects}
+use Rattle.lextab_packed.specs.Rejections.{some_rule_acts_and_rejects}
 use Rattle.lextab_packed.specs.Views.{table_rule_of}
 use Rattle.lextab_packed.proofs.quiet.any_acts_and_rejects.Given as goal
 

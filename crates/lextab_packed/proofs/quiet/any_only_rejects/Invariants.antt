@@ -1,5 +1,5 @@
 use Rattle.std.proofs.Common.{◌≡◌, drop, map}
-use Rattle.lextab_packed.specs.Quiets.{some_rule_only_rejects}
+use Rattle.lextab_packed.specs.Rejections.{some_rule_only_rejects}
 use Rattle.lextab_packed.specs.Views.{table_rule_of}
 use Rattle.lextab_packed.proofs.quiet.any_only_rejects.Given as goal
 

@@ -1,5 +1,5 @@
 use Rattle.std.proofs.Common.{◌≡◌, Bool, true, false, List, map, sym, ◌∙◌, subst}
-use Rattle.lextab_packed.specs.Quiets.{some_rule_acts_and_rejects}
+use Rattle.lextab_packed.specs.Rejections.{some_rule_acts_and_rejects}
 use Rattle.lextab_packed.specs.Views.{table_rule_of}
 use Rattle.lextab_packed.specs.declared.parts.TableRule.{TableRule}
 use Rattle.lextab_packed.proofs.Quieting.{none_loud, some_loud}
