@@ -18,12 +18,11 @@ use Rattle.lex_semantics.proofs.ResultsAre.{results_are}
 use Rattle.lex_semantics.proofs.Local.{settle_same}
 use Rattle.lex_semantics.proofs.Once.{one_candidates}
 use Rattle.lex_semantics.proofs.MachineRun.{machine_candidates_exist}
-use Rattle.lex_machine.specs.declared.glance.Way.{Way}
 use Rattle.lex_machine.specs.declared.glance.Gist.{Gist}
 use Rattle.lex_machine.specs.declared.glance.Gist.TheVariants as G
 use Rattle.lex_machine.specs.Views.{statement_of}
-use Rattle.lex_machine.specs.Glances.{are_simple, FirstDoes, Gists, Leads}
-use Rattle.lex_machine.specs.Quiets.{only_rejects, quiet, NoneFits}
+use Rattle.lex_machine.specs.Glances.{are_simple, FirstDoes, Gists}
+use Rattle.lex_machine.specs.Quiets.{only_rejects, quiet}
 
 -- the laws
 
@@ -44,10 +43,6 @@ quiet_laws M laws = record {
 
 pub quiet_below : (M : Machine) (n : ℕ) → StaysBelow M n → StaysBelow (quiet M) n
 quiet_below M n h = record { dead = h.dead; start = h.start; next = h.next; accepts = h.accepts }
-
--- a state that accepts nothing
-pub none_accepted : (M : Machine) (s : ℕ) → M.accepts s ≡ [] → NoneFits M s
-none_accepted M s none i a = absurd (subst (λ l. Among l i) none a)
 
 -- what is told at a glance stays
 
@@ -88,17 +83,6 @@ quiet_gist M s G.Echo h = loud_action M s (Echo ∷ []) refl h
 quiet_gist M s (G.Print bytes) h = loud_action M s (Print bytes.now ∷ []) refl h
 quiet_gist M s (G.Begin c) h = loud_action M s (Begin c ∷ []) refl h
 quiet_gist M s (G.Several ss) h = (h.0, loud_action M s (map statement_of ss.now) (simple_loud (map statement_of ss.now) h.0) h.1)
-
-pub quiet_way : (M : Machine) (first : ℕ) (bytes : List ℕ) (w : Way) → Leads M first bytes w → Leads (quiet M) first bytes w
-quiet_way M first bytes w h = record {
-  some = h.some;
-  inside = h.inside;
-  state_is = h.state_is;
-  before_is = h.before_is;
-  asked = h.asked;
-  stops = h.stops;
-  gist_is = quiet_gist M w.state w.gist h.gist_is;
-}
 
 -- a turn goes over to other rules, where a match does
 

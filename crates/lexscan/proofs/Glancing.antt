@@ -13,7 +13,7 @@ use Rattle.lexscan_matching.specs.Glanced.{IsGlancedMatch, written_by}
 use Rattle.lexscan_matching.specs.Descends.{Conditions, matches_of, Takes}
 use Rattle.lexscan_matching.specs.Picks.{path_of}
 use Rattle.lexscan_matching.proofs.Barrens.{true_burst}
-use Rattle.lexscan_window.specs.Memos.{AreTrue, TellsWalk}
+use Rattle.lexscan_window.specs.Memos.{AreTrue}
 use Rattle.lexscan_window.specs.Places.{kept_before}
 use Rattle.lexscan_window.specs.Window.{Held, last_of}
 use Rattle.lexscan_window.specs.declared.error.RunError.{RunError}
@@ -274,20 +274,6 @@ shows_is s w few = ap (λ f. record s { state = record s.state { reading = recor
 module _ (M : Machine) (old : Scan) (window : Held) (same : window.bytes ≡ old.state.reading.window.bytes) where
   abbrev again : (n : ℕ) (before out : List ℕ) → TurnInvariant M n before out old.state → TurnInvariant M n before out (showing old window).state
   again n before out h = record { works = h.works; start = h.start; scanned = h.scanned; text = h.text; covered = h.covered; held = same ∙ h.held; line = h.line; taken = h.taken }
-
-  pub going_still : IsGoing old → IsGoing (showing old window)
-  going_still h = record { working = h.working; going = h.going }
-
-  pub kept_still : ScanInvariant M old → ScanInvariant M (showing old window)
-  kept_still h = record {
-    condition = h.condition;
-    inside = omega (arith, h.inside, ap length same);
-    stack = h.stack;
-    marks = λ works. λ m a. let k = h.marks works m a in (
-      k.0,
-      λ i e. subst (λ l. TellsWalk M old.state.reading.at_end m (drop i l)) (sym same) (k.1 i (omega (arith, e, ap length same))),
-    );
-  }
 
   pub reachable_still : IsReachable M old.state → IsReachable M (showing old window).state
   reachable_still h denied = h (λ n before out i. denied n before out (again n before out i))
