@@ -2,4 +2,5 @@ pub mod Views
 pub mod Literals
 pub mod Glances
 pub mod Quiets
+pub mod Singles
 pub mod QuietExamples

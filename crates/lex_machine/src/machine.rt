@@ -4,6 +4,7 @@ ghost use Rattle.lex_semantics.specs.Machine.{Machine as MachineModel};
 ghost use Rattle.lex_machine.specs.Views.{statement_of, end_action_of, cut_of};
 ghost use Rattle.lex_machine.specs.Glances.{Leads, Gists};
 ghost use Rattle.lex_machine.specs.Quiets.{NoneFits};
+ghost use Rattle.lex_machine.specs.Singles.{IsDropped, IsCopied, Singles};
 ghost use Rattle.lex_semantics.specs.MachineLaws.{MachineLaws, StaysBelow, NoReject, SomeReject};
 
 use crate::action::{EndAction, Statement};
@@ -94,5 +95,38 @@ pub trait Machine {
     {
         let _state = state;
         Gist::Any
+    }
+
+    /// Whether most bytes are matches by themselves in a condition, which a scan drops or copies. It is asked before the
+    /// next two, and says only what pays.
+    fn has_singles(&self, condition: u8) -> bool
+        requires { condition < (machine self.now).conditions }
+    {
+        let _condition = condition;
+        false
+    }
+
+    /// Some of the first bytes, each a match by itself that is dropped: how many are passed.
+    fn dropped(&self, condition: u8, first: u32, bytes: &[u8]) -> usize
+        requires condition { condition < (machine self.now).conditions }
+        requires first { first < states self.now }
+        ensures { Singles IsDropped (machine self.now) condition first bytes.now result }
+    {
+        let _condition = condition;
+        let _first = first;
+        let _bytes = bytes;
+        0
+    }
+
+    /// Some of the first bytes, each a match by itself that is copied: how many are passed.
+    fn copied(&self, condition: u8, first: u32, bytes: &[u8]) -> usize
+        requires condition { condition < (machine self.now).conditions }
+        requires first { first < states self.now }
+        ensures { Singles IsCopied (machine self.now) condition first bytes.now result }
+    {
+        let _condition = condition;
+        let _first = first;
+        let _bytes = bytes;
+        0
     }
 }
