@@ -1,5 +1,5 @@
 -- What is told of a match, and what several statements do.
-use Rattle.std.proofs.Common.{◌≡◌, ℕ, ◌+◌, ◌≤◌, ◌<◌, true, false, List, [], ◌∷◌, ◌++◌, length, take, get_or, inl, inr, refl, sym, ◌∙◌, ap, subst, arith}
+use Rattle.std.proofs.Common.{◌≡◌, ℕ, ◌+◌, ◌<◌, true, false, List, [], ◌∷◌, ◌++◌, length, take, get_or, inl, inr, refl, sym, ◌∙◌, ap, subst, arith}
 use Rattle.std.proofs.lemmas.Bool.{cases_lt}
 use Rattle.std.proofs.lemmas.List.{append-nil, append_assoc, take-take}
 use Rattle.lex_semantics.specs.Text.{BeginsWith}
@@ -22,21 +22,12 @@ use Rattle.lexscan_matching.proofs.Growing.{take_one_more}
 pub walk_more : (M : Machine) (first : ℕ) (bytes : List ℕ) (n : ℕ) → n < length bytes → walk M first (take (n + 1) bytes) ≡ M.next (walk M first (take n bytes)) (get_or bytes n 0)
 walk_more M first bytes n lt = ap (walk M first) (take_one_more n bytes lt) ∙ walk-append M first (take n bytes) (get_or bytes n 0 ∷ [])
 
-none_more : (M : Machine) (first : ℕ) (bytes : List ℕ) (few n : ℕ) → NoneAfter M first bytes few n → M.accepts (walk M first (take (n + 1) bytes)) ≡ [] → NoneAfter M first bytes few (n + 1)
+-- no rule is accepted after one byte more
+pub none_more : (M : Machine) (first : ℕ) (bytes : List ℕ) (few n : ℕ) → NoneAfter M first bytes few n → M.accepts (walk M first (take (n + 1) bytes)) ≡ [] → NoneAfter M first bytes few (n + 1)
 none_more M first bytes few n none last i more le = elim (cases_lt i (n + 1)) [
   | inl lt ↦ none i more (omega (arith, lt))
   | inr not ↦ (let e : n + 1 ≡ i = omega (arith, le, not) in subst (λ k. M.accepts (walk M first (take k bytes)) ≡ []) e last)
 ]
-
--- no rule is accepted after one byte more
-pub tells_none : (M : Machine) (first : ℕ) (bytes : List ℕ) (n : ℕ) (longest : GlancedMatch) → IsGlancedMatch M first bytes n longest → M.accepts (walk M first (take (n + 1) bytes)) ≡ [] → IsGlancedMatch M first bytes (n + 1) longest
-tells_none M first bytes n longest (inl (some, le, none, gist)) last = inl (some, omega (arith, le), none_more M first bytes longest.keep n none last, gist)
-tells_none M first bytes n longest (inr (inl (one, echo, none))) last = inr (inl (one, echo, none_more M first bytes 0 n none last))
-tells_none M first bytes n longest (inr (inr any)) last = inr (inr any)
-
--- this is known of the first rule after the last byte
-pub tells_here : (M : Machine) (first : ℕ) (bytes : List ℕ) (n : ℕ) (gist : Gist) → 1 ≤ n → Gists M (walk M first (take n bytes)) gist → IsGlancedMatch M first bytes n (record { gist = gist; keep = n })
-tells_here M first bytes n gist some known = inl (some, omega arith, λ i more le. absurd (omega (arith, more, le)), known)
 
 none_front : (M : Machine) (first : ℕ) (bytes : List ℕ) (few n : ℕ) → NoneAfter M first (take n bytes) few n → NoneAfter M first bytes few n
 none_front M first bytes few n none i more le = subst (λ l. M.accepts (walk M first l) ≡ []) (take-take i n bytes le) (none i more le)

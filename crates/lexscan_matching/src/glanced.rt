@@ -31,21 +31,28 @@ fn longest_match_again<'m, M: Machine>(machine: &'m M, first: u32, bytes: &[u8])
     ensures { IsGlancedMatch (M.machine machine.now) first bytes.now (length bytes.now) result }
 {
     let mut state = first;
-    let mut longest = GlancedMatch {
-        gist: Gist::Echo,
-        keep: 1,
-    };
+    // The state after the longest part that a rule takes, and how many bytes that has, if there is one.
+    let mut longest = first;
+    let mut keep = 0usize;
     let mut count = 0usize;
     'bytes: while count < bytes.len() {
         state = machine.step(state, bytes[count]);
         count += 1;
-        let gist = machine.gist(state);
-        // Where no rule is accepted a shorter match stays the longest.
-        if !matches!(gist, Gist::NoRule) {
-            longest = GlancedMatch { gist, keep: count };
+        if !machine.accepts(state).is_empty() {
+            longest = state;
+            keep = count;
         }
     }
-    longest
+    if keep == 0 {
+        return GlancedMatch {
+            gist: Gist::Echo,
+            keep: 1,
+        };
+    }
+    GlancedMatch {
+        gist: machine.gist(longest),
+        keep,
+    }
 }
 
 /// What is told of the match of a walk: by its last state, by the one before it, or, where it is a short one, by

@@ -1,6 +1,6 @@
 use Rattle.std.proofs.Common.{length, take, ◌-◌, ◌≡◌, ◌<◌, ◌≤◌}
 use Rattle.lex_semantics.specs.Machine.{walk}
-use Rattle.lexscan_matching.specs.Glanced.{IsGlancedMatch}
+use Rattle.lexscan_matching.specs.Glanced.{NoneAfter}
 use Rattle.lexscan_matching.proofs.glanced.longest_match_again.Given as goal
 
 abbrev pub invariant-bytes : goal.invariant-bytes
@@ -8,9 +8,12 @@ invariant-bytes g l =
     let M = g.M.Machine.machine l.machine in
     record {
       inside : l.count ≤ length l.bytes;
+      few : l.keep ≤ l.count;
       known : l.state < g.M.Machine.states l.machine;
+      known_longest : l.longest < g.M.Machine.states l.machine;
       state_is : l.state ≡ walk M l.first (take l.count l.bytes);
-      tells : IsGlancedMatch M l.first l.bytes l.count l.longest;
+      longest_is : l.longest ≡ walk M l.first (take l.keep l.bytes);
+      none : NoneAfter M l.first l.bytes l.keep l.count;
     }
 
 abbrev pub decreases-bytes : goal.decreases-bytes
