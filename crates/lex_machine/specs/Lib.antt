@@ -4,3 +4,4 @@ pub mod Glances
 pub mod Quiets
 pub mod Singles
 pub mod QuietExamples
+pub mod SingleExamples

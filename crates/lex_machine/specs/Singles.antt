@@ -16,7 +16,8 @@ IsCopied M first byte =
     (M.goes_on (M.next first byte) ≡ false)
     × (FirstDoes M (M.next first byte) (S.Echo ∷ []) ⊎ (M.accepts (M.next first byte) ≡ []))
 
--- So many of the first bytes are of this kind, and after each of them a match of the condition starts in the same state.
+-- So many of the first bytes are of this kind, and after each of them a match of the condition starts in the same
+-- state.
 abbrev pub Singles : (Machine → ℕ → ℕ → Type 0) → Machine → ℕ → ℕ → List ℕ → ℕ → Type 0
 Singles Is M condition first bytes count =
     (count ≤ length bytes)

@@ -4,7 +4,7 @@ use Rattle.std.proofs.lemmas.List.{length-take-le}
 use Rattle.std.proofs.lemmas.Option.{slice_get_within}
 use Rattle.lex_semantics.proofs.Texts.{is_text_take}
 use Rattle.lexlook_specs.specs.Copied.{AreCopied, CopiesByte, IsFirstCopied}
-use Rattle.lexlook_specs.specs.Matches.{RuleMatches, IsInput, IsCopied, TakesText}
+use Rattle.lexlook_specs.specs.Matches.{RuleMatches, IsInput, CopiesFirst, TakesText}
 use Rattle.lexlook_specs.specs.Overlaps.{AreHomes, AreOverlaps, IsHome, IsOverlap, IsShared, SharesText}
 use Rattle.lexlook_specs.specs.declared.words.overlapping.Home.{Home}
 use Rattle.lexlook_specs.specs.declared.words.overlapping.Home.TheVariants.{Nowhere, AtLineStart, Anywhere}
@@ -42,10 +42,10 @@ module _ (m n : RuleMatches) (a : AreAlike m n) where
     some = (let e = length-take-le k y few in omega (arith, e, some));
   }
 
-  to_copied : (c : ℕ) (line : Bool) (y : List ℕ) → IsInput m c y → IsCopied m c line y → IsCopied n c line y
+  to_copied : (c : ℕ) (line : Bool) (y : List ℕ) → IsInput m c y → CopiesFirst m c line y → CopiesFirst n c line y
   to_copied c line y h copied = λ k some few i f. sym (a.gives_up i) ∙ copied k some few i ((a.fits c line (take k y) i (front_input c k y h some few)).1 f)
 
-  from_copied : (c : ℕ) (line : Bool) (y : List ℕ) → IsInput m c y → IsCopied n c line y → IsCopied m c line y
+  from_copied : (c : ℕ) (line : Bool) (y : List ℕ) → IsInput m c y → CopiesFirst n c line y → CopiesFirst m c line y
   from_copied c line y h copied = λ k some few i f. a.gives_up i ∙ copied k some few i ((a.fits c line (take k y) i (front_input c k y h some few)).0 f)
 
   to_first : (P Q : ℕ → Bool → List ℕ → Type 0) → ((c : ℕ) (line : Bool) (w : List ℕ) → IsInput m c w → P c line w ↔ Q c line w) → (q : ShownText) → IsFirst m P q → IsFirst n Q q

@@ -8,7 +8,7 @@ use Rattle.lexauto_dfa.specs.declared.dfa.Parts.{Parts}
 use Rattle.lexauto_reports.specs.BackWords.{Precedes, NotAfter}
 use Rattle.lexauto_reports.specs.Searching.{at, AreFound}
 use Rattle.lexauto_reports.proofs.Orders.{before_trans}
-use Rattle.lexlook_specs.specs.Matches.{RuleMatches, IsInput, IsGivenUp, IsCopied, TakesOf, matches_in}
+use Rattle.lexlook_specs.specs.Matches.{RuleMatches, IsInput, IsGivenUp, CopiesFirst, TakesOf, matches_in}
 use Rattle.lexlook_specs.specs.Matches as M
 use Rattle.lexlook_specs.specs.Copied.{CopiesByte, IsFirstCopied}
 use Rattle.lexlook_specs.specs.Words.{IsFirst, IsNotLater, StartsFirst, AreTakers, TellsDefault}
@@ -126,16 +126,16 @@ module _ (p : Parts) (a : IsAutomaton p) (rejects : List Bool) where
     }
 
   -- a text that is copied begins with a byte that is given up
-  pub copied_byte : (c : ℕ) (line : Bool) (x : ℕ) (v : List ℕ) → IsCopied (matches_in p rejects) c line (x ∷ v) → MeetsAfter p rejects (x ∷ []) Copies c line
+  pub copied_byte : (c : ℕ) (line : Bool) (x : ℕ) (v : List ℕ) → CopiesFirst (matches_in p rejects) c line (x ∷ v) → MeetsAfter p rejects (x ∷ []) Copies c line
   copied_byte c line x v copied = (given_up_is c line (x ∷ [])).0 (subst (IsGivenUp (matches_in p rejects) c line) (let e : take 1 (x ∷ v) ≡ x ∷ [] = refl in e) (copied 1 (omega arith) (omega arith)))
 
-  pub one_byte : (c b : ℕ) (line : Bool) → MeetsAfter p rejects (b ∷ []) Copies c line → IsCopied (matches_in p rejects) c line (b ∷ [])
+  pub one_byte : (c b : ℕ) (line : Bool) → MeetsAfter p rejects (b ∷ []) Copies c line → CopiesFirst (matches_in p rejects) c line (b ∷ [])
   one_byte c b line m = λ n some few. (let e : n ≡ 1 = omega (arith, some, few) in subst (λ k. IsGivenUp (matches_in p rejects) c line (take k (b ∷ []))) (sym e) ((given_up_is c line (b ∷ [])).1 m))
 
   pub no_copied : (d : ℕ) → ((b : ℕ) → b < 256 → CopiesByte (matches_in p rejects) d b → ⊥) → TellsDefault (matches_in p rejects) d None
   no_copied d none = λ c line w h copied. no c line w h copied.0 copied.1
     where
-      no : (c : ℕ) (line : Bool) (w : List ℕ) → IsInput (matches_in p rejects) c w → c ≡ d → IsCopied (matches_in p rejects) c line w → ⊥
+      no : (c : ℕ) (line : Bool) (w : List ℕ) → IsInput (matches_in p rejects) c w → c ≡ d → CopiesFirst (matches_in p rejects) c line w → ⊥
       no c line [] h same copied = let s = h.some in omega (arith, s)
       no c line (x ∷ v) h same copied = none x h.text.0 (subst (λ k. CopiesByte (matches_in p rejects) k x) same (line, one_byte c x line (copied_byte c line x v copied)))
 
@@ -152,30 +152,30 @@ module _ (p : Parts) (a : IsAutomaton p) (rejects : List Bool) where
         text = subst IsText (sym same_w) (byte, tt);
         some = subst (λ (w : List ℕ). 1 ≤ length w) (sym same_w) (omega arith);
       };
-      holds = (same_c, subst (λ w. IsCopied (matches_in p rejects) q.condition q.line_start w) (sym same_w) (subst (λ c. IsCopied (matches_in p rejects) c q.line_start (b ∷ [])) (sym same_c) (one_byte d b q.line_start (there q.line_start refl copies.0 copies.1))));
+      holds = (same_c, subst (λ w. CopiesFirst (matches_in p rejects) q.condition q.line_start w) (sym same_w) (subst (λ c. CopiesFirst (matches_in p rejects) c q.line_start (b ∷ [])) (sym same_c) (one_byte d b q.line_start (there q.line_start refl copies.0 copies.1))));
       first = λ c line w h copied. not_later c line w h copied.0 copied.1;
     },
     ap length same_w,
   )
     where
-      there : (l : Bool) → q.line_start ≡ l → (k : Bool) → IsCopied (matches_in p rejects) d k (b ∷ []) → MeetsAfter p rejects (b ∷ []) Copies d l
+      there : (l : Bool) → q.line_start ≡ l → (k : Bool) → CopiesFirst (matches_in p rejects) d k (b ∷ []) → MeetsAfter p rejects (b ∷ []) Copies d l
       there false e k copied = within e
       there true e true copied = copied_byte d true b [] copied
       there true e false copied = absurd (begins e (copied_byte d false b [] copied))
 
-      starts : (l : Bool) → IsCopied (matches_in p rejects) d l (b ∷ []) → q.line_start ≡ true → l ≡ true
+      starts : (l : Bool) → CopiesFirst (matches_in p rejects) d l (b ∷ []) → q.line_start ≡ true → l ≡ true
       starts true copied e = refl
       starts false copied e = absurd (begins e (copied_byte d false b [] copied))
 
-      not_later : (c : ℕ) (line : Bool) (w : List ℕ) → IsInput (matches_in p rejects) c w → c ≡ d → IsCopied (matches_in p rejects) c line w → IsNotLater q c line w
+      not_later : (c : ℕ) (line : Bool) (w : List ℕ) → IsInput (matches_in p rejects) c w → c ≡ d → CopiesFirst (matches_in p rejects) c line w → IsNotLater q c line w
       not_later c line [] h is copied = let s = h.some in absurd (omega (arith, s))
       not_later c line (y ∷ z ∷ w) h is copied = let n = ap length same_w in inl (inl (omega (arith, n)))
       not_later c line (y ∷ []) h is copied =
-          let here : IsCopied (matches_in p rejects) d line (y ∷ []) = subst (λ k. IsCopied (matches_in p rejects) k line (y ∷ [])) is copied in
+          let here : CopiesFirst (matches_in p rejects) d line (y ∷ []) = subst (λ k. CopiesFirst (matches_in p rejects) k line (y ∷ [])) is copied in
           elim (cases_lt y b) [
             | inl lt ↦ absurd (none y lt (line, here))
             | inr le ↦ elim (cases_eq b y) [
-              | inl same ↦ inr (same_w ∙ ap (λ k. k ∷ []) same, inr (same_c ∙ sym is, starts line (subst (λ k. IsCopied (matches_in p rejects) d line (k ∷ [])) (sym same) here)))
+              | inl same ↦ inr (same_w ∙ ap (λ k. k ∷ []) same, inr (same_c ∙ sym is, starts line (subst (λ k. CopiesFirst (matches_in p rejects) d line (k ∷ [])) (sym same) here)))
               | inr other ↦ inl (subst (λ v. Precedes v (y ∷ [])) (sym same_w) (inr (refl, inl (omega (arith, le, other)))))
             ]
           ]

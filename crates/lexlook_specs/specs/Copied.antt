@@ -1,11 +1,11 @@
 -- What the default rule copies in each condition. (flex tells by -s that the default rule can be matched; of each
 -- condition it is this project's.)
 use Rattle.std.specs.Prelude.{◌≡◌, ℕ, ◌<◌, Bool, List, [], ◌∷◌, length, Option, Some, None, slice_get}
-use Rattle.lexlook_specs.specs.Matches.{RuleMatches, IsCopied}
+use Rattle.lexlook_specs.specs.Matches.{RuleMatches, CopiesFirst}
 
 -- the default rule copies this byte in the condition, at the start of a line or not
 abbrev pub CopiesByte : RuleMatches → ℕ → ℕ → Type 0
-CopiesByte m c b = (line : Bool) × IsCopied m c line (b ∷ [])
+CopiesByte m c b = (line : Bool) × CopiesFirst m c line (b ∷ [])
 
 -- the first byte that it copies in the condition, if it copies any
 abbrev pub IsFirstCopied : RuleMatches → ℕ → Option ℕ → Type 0

@@ -55,5 +55,5 @@ IsGivenUp m c line w = (i : ℕ) → m.fits c line w i → m.gives_up i ≡ true
 
 -- The default rule copies the first byte of the text: no rule keeps a front of it. (POSIX, lex, Actions in lex: input
 -- that matches no pattern is copied.)
-abbrev pub IsCopied : RuleMatches → ℕ → Bool → List ℕ → Type 0
-IsCopied m c line y = (n : ℕ) → 1 ≤ n → n ≤ length y → IsGivenUp m c line (take n y)
+abbrev pub CopiesFirst : RuleMatches → ℕ → Bool → List ℕ → Type 0
+CopiesFirst m c line y = (n : ℕ) → 1 ≤ n → n ≤ length y → IsGivenUp m c line (take n y)

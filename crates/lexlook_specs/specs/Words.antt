@@ -3,7 +3,7 @@
 use Rattle.std.specs.Prelude.{◌≡◌, ◌⊎◌, ◌↔◌, ℕ, ◌<◌, Bool, true, List, length, Option, Some, None, slice_get}
 use Rattle.lex_semantics.specs.Text.{Among, Ascending}
 use Rattle.lexauto_reports.specs.BackWords.{Precedes}
-use Rattle.lexlook_specs.specs.Matches.{RuleMatches, IsInput, TakesText, TakesOf, IsCopied}
+use Rattle.lexlook_specs.specs.Matches.{RuleMatches, IsInput, TakesText, TakesOf, CopiesFirst}
 use Rattle.lexlook_specs.specs.declared.words.finding.ShownText.{ShownText}
 use Rattle.lexlook_specs.specs.declared.words.finding.Word.{Word}
 use Rattle.lexlook_specs.specs.declared.words.finding.Word.TheVariants.{Taken, Never}
@@ -36,7 +36,7 @@ IsWordOf m i (Never js) = AreTakers m i js.items
 
 -- the default rule copies the first byte of the text, in this condition
 abbrev pub IsCopiedIn : RuleMatches → ℕ → ℕ → Bool → List ℕ → Type 0
-IsCopiedIn m d c line w = (c ≡ d) × IsCopied m c line w
+IsCopiedIn m d c line w = (c ≡ d) × CopiesFirst m c line w
 
 -- what is told of the default rule in a condition: the first text of which it copies a byte there, which is one byte
 -- long

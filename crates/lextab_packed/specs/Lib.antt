@@ -8,6 +8,7 @@ pub mod Flats
 pub mod FlatViews
 pub mod Runs
 pub mod Leaps
+pub mod Singles
 pub mod Live
 pub mod Inverse
 pub mod Spreading

@@ -5,7 +5,9 @@ ghost use Rattle.std.specs.Option.{ForSome};
 ghost use Rattle.lex_machine.specs.Glances.{Leads, Gists};
 ghost use Rattle.lex_semantics.specs.Limits.{max_states};
 ghost use Rattle.lextab_packed.specs.Flats.{as_target, marked_target, kind_of};
+ghost use Rattle.lex_machine.specs.Singles.{IsDropped, IsCopied};
 ghost use Rattle.lextab_packed.specs.Leaps.{OthersStay};
+ghost use Rattle.lextab_packed.specs.Singles.{OthersDrop, AllTellSingles, AllTellSingles-prop, FirstAre};
 ghost use Rattle.lextab_packed.specs.Runs.{Stays, IsRun};
 ghost use Rattle.lextab_packed.specs.declared.kinds.Kind.{Kind};
 ghost use Rattle.lextab_packed.specs.Steps.{step_of};
@@ -15,6 +17,7 @@ ghost use Rattle.lextab_packed.specs.Machines.{table_machine, table_parts, table
 use crate::kinds::{Kind, kinds_of};
 use crate::leaps::{Leavers, leaps_of, pass_over};
 use crate::rows::flat_rows;
+use crate::singles::{Most, is_copied, is_dropped, most_of};
 use crate::steps::{STOP, STOP_ECHO, STOP_OTHER, STOP_SILENT, mark_rows};
 use crate::tables::Tables;
 use lex_machine::{Cut, EndAction, Gist, Machine, Statement, Way};
@@ -30,6 +33,7 @@ pub struct Flat {
     rows: Vec<u32>,
     kinds: Vec<Kind>,
     leaps: Vec<Option<Leavers>>,
+    most: Vec<Most>,
     ghost sizes: { length rows.items ≡ 256 * length tables.parts.rows.items },
     ghost targets: { (s b : ℕ) → s < length tables.parts.rows.items → b < 256
         → slice_index rows.items (256 * s + b) ≡ marked_target tables s b },
@@ -39,6 +43,9 @@ pub struct Flat {
     ghost leap_column: { length leaps.items ≡ length tables.parts.rows.items },
     ghost leap_told: { (s : ℕ) → s < length tables.parts.rows.items
         → ForSome (get_or leaps.items s None) (λ leavers. OthersStay rows.items (256 * s) leavers) },
+    ghost most_column: { length most.items ≡ (table_machine tables).conditions },
+    ghost most_told: { AllTellSingles (table_machine tables) rows.items most.items } by { AllTellSingles-prop (table_machine tables)
+        rows.items most.items },
 }
 
 impl Flat {
@@ -64,11 +71,13 @@ impl Flat {
         let mut rows = rows;
         mark_rows(alloc, &tables, &kinds, &mut rows)?;
         let leaps = leaps_of(alloc, &rows, kinds.len())?;
+        let most = most_of(alloc, &tables, &rows)?;
         Ok(Flat {
             tables,
             rows,
             kinds,
             leaps,
+            most,
         })
     }
 
@@ -128,6 +137,50 @@ impl Flat {
             end += 1;
         }
         end
+    }
+
+    /// How many of the first bytes are dropped, found many at a time where few bytes are not.
+    #[inline(always)]
+    fn leap_dropped(&self, first: u32, kept: Option<Leavers>, bytes: &[u8]) -> usize
+        requires first { first < table_states self.now.tables }
+        requires kept { ForSome kept (λ l. OthersDrop self.now.rows.items (256 * first) l) }
+        ensures { FirstAre (IsDropped (table_machine self.now.tables) first) bytes.now result }
+    {
+        match kept {
+            Some(kept) => pass_over(kept, bytes, 0),
+            None => 0,
+        }
+    }
+
+    /// How many of the first bytes are dropped, each where a match starts in this state.
+    #[inline(never)]
+    fn first_dropped(&self, first: u32, kept: Option<Leavers>, bytes: &[u8]) -> usize
+        requires first { first < table_states self.now.tables }
+        requires kept { ForSome kept (λ l. OthersDrop self.now.rows.items (256 * first) l) }
+        ensures { FirstAre (IsDropped (table_machine self.now.tables) first) bytes.now result }
+    {
+        let mut count = self.leap_dropped(first, kept, bytes);
+        'run: while count < bytes.len()
+            && is_dropped(self.target(256 * first as usize, bytes[count]))
+        {
+            count += 1;
+        }
+        count
+    }
+
+    /// How many of the first bytes are copied, each where a match starts in this state.
+    #[inline(never)]
+    fn first_copied(&self, first: u32, bytes: &[u8]) -> usize
+        requires { first < table_states self.now.tables }
+        ensures { FirstAre (IsCopied (table_machine self.now.tables) first) bytes.now result }
+    {
+        let mut count = 0usize;
+        'run: while count < bytes.len()
+            && is_copied(self.target(256 * first as usize, bytes[count]))
+        {
+            count += 1;
+        }
+        count
     }
 
     /// What is told of the state that a marked target is, at which the machine stops.
@@ -249,6 +302,31 @@ impl Machine for Flat {
     #[inline(always)]
     fn gist(&self, state: u32) -> Gist<'_> {
         gist_of(&self.tables, self.kinds[state as usize])
+    }
+
+    /// Whether most bytes of a text are dropped or copied in a condition, each a match by itself.
+    #[inline(always)]
+    fn has_singles(&self, condition: u8) -> bool {
+        match self.most[usize::from(condition)] {
+            Most::Other => false,
+            Most::Dropped(_, _) | Most::Copied(_) => true,
+        }
+    }
+
+    /// How many of the first bytes are dropped, where a match of the condition starts, if most are dropped there.
+    fn dropped(&self, condition: u8, first: u32, bytes: &[u8]) -> usize {
+        match self.most[usize::from(condition)] {
+            Most::Dropped(start, kept) if start == first => self.first_dropped(first, kept, bytes),
+            _ => 0,
+        }
+    }
+
+    /// How many of the first bytes are copied, where a match of the condition starts, if most are copied there.
+    fn copied(&self, condition: u8, first: u32, bytes: &[u8]) -> usize {
+        match self.most[usize::from(condition)] {
+            Most::Copied(start) if start == first => self.first_copied(first, bytes),
+            _ => 0,
+        }
     }
 }
 

@@ -38,6 +38,20 @@ fn byte_or(place: usize, other: u8) -> u8
     if place < 256 { place as u8 } else { other }
 }
 
+/// Three bytes, or fewer where a number is past the last byte.
+pub(crate) fn leavers_at(a: usize, b: usize, c: usize) -> Leavers
+    ensures first { a < 256 → result.a ≡ a }
+    ensures second { b < 256 → result.b ≡ b }
+    ensures third { c < 256 → result.c ≡ c }
+{
+    let first = byte_or(a, 0);
+    Leavers {
+        a: first,
+        b: byte_or(b, first),
+        c: byte_or(c, first),
+    }
+}
+
 /// The bytes that lead from a state to another, by the row of the state, if they are no more than three.
 fn leavers_of(rows: &[u32], place: u32) -> Option<Leavers>
     requires { place + 256 ≤ length rows.now }
@@ -49,12 +63,7 @@ fn leavers_of(rows: &[u32], place: u32) -> Option<Leavers>
     if next_leaver(rows, place, (c + 1).min(256)) < 256 {
         return None;
     }
-    let first = byte_or(a, 0);
-    Some(Leavers {
-        a: first,
-        b: byte_or(b, first),
-        c: byte_or(c, first),
-    })
+    Some(leavers_at(a, b, c))
 }
 
 /// The same for each state.

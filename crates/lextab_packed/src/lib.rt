@@ -12,14 +12,16 @@
 //! - `machine`: what a table answers a scanner.
 //! - `kinds`: what is known of the first rule that each state accepts.
 //! - `leaps`: states that at most three bytes lead away from; runs of the others are passed 16 bytes at a time.
+//! - `singles`: conditions in which most bytes of a text are matches by themselves, which are dropped or copied.
 //! - `flat`: a table with a row of 256 marked targets for each state, so that a step is one look-up. It is the machine
 //!   of a scan.
 //! - `quiet`: a flat table in which rules that do nothing but REJECT fit no text, so that their matches are not looked
 //!   for.
 //!
 //! It promises that a table keeps to `IsTable`, and is a machine by its laws; and that the flat one is the same
-//! machine. How live states are found may change alone. So may the marks of `flat` and the kinds, under the trait's
-//! contract: they are how a scan sees at a glance what a match does. The parts may not: they are the fields of the file.
+//! machine. How live states are found may change alone. So may the marks of `flat`, the kinds, and what is told of singles,
+//! under the trait's contract: they are how a scan sees at a glance what a match does. The parts may not: they are the
+//! fields of the file.
 //!
 //! Decided here:
 //! - Which states are live is found backwards: from the states that accept to those that lead to them, each taken once.
@@ -43,6 +45,7 @@ mod machine;
 mod parts;
 mod quiet;
 mod rows;
+mod singles;
 mod steps;
 mod tables;
 

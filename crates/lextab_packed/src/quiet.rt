@@ -182,4 +182,20 @@ impl Machine for Quiet<'_> {
     fn gist(&self, state: u32) -> Gist<'_> {
         self.flat.gist(state)
     }
+
+    /// Whether most bytes are dropped or copied in a condition, as the table tells it.
+    #[inline(always)]
+    fn has_singles(&self, condition: u8) -> bool {
+        self.flat.has_singles(condition)
+    }
+
+    /// How many of the first bytes are dropped, as the table tells it.
+    fn dropped(&self, condition: u8, first: u32, bytes: &[u8]) -> usize {
+        self.flat.dropped(condition, first, bytes)
+    }
+
+    /// How many of the first bytes are copied, as the table tells it.
+    fn copied(&self, condition: u8, first: u32, bytes: &[u8]) -> usize {
+        self.flat.copied(condition, first, bytes)
+    }
 }

@@ -117,4 +117,20 @@ impl Machine for Rules {
     fn gist(&self, state: u32) -> Gist<'_> {
         self.flat().gist(state)
     }
+
+    /// Whether most bytes of a text are matches by themselves in a condition.
+    #[inline(always)]
+    fn has_singles(&self, condition: u8) -> bool {
+        self.flat().has_singles(condition)
+    }
+
+    /// How many of the first bytes are dropped, each a match by itself.
+    fn dropped(&self, condition: u8, first: u32, bytes: &[u8]) -> usize {
+        self.flat().dropped(condition, first, bytes)
+    }
+
+    /// How many of the first bytes are copied, each a match by itself.
+    fn copied(&self, condition: u8, first: u32, bytes: &[u8]) -> usize {
+        self.flat().copied(condition, first, bytes)
+    }
 }
