@@ -108,6 +108,14 @@ impl<W: Write + Drop> ByteWriter<W> {
         result
     }
 
+    /// How many more bytes there is room for.
+    #[inline(always)]
+    pub(crate) fn room(&self) -> usize
+        ensures { result ≡ room_in self.now }
+    {
+        self.held.room()
+    }
+
     /// Holds the bytes, if there is room for them. Else it does nothing.
     #[inline(always)]
     pub(crate) fn hold(&mut self, bytes: &[u8]) -> bool

@@ -1,7 +1,7 @@
 //! A sink over memory, mostly for tests: it keeps what it is given, and may fail once, at a stated place. `null_sink`
 //! has one that keeps nothing.
 ghost use Rattle.std.specs.Prelude.{◌≡◌, ℕ, ◌+◌, ◌-◌, ◌^◌, ◌<◌, ◌≤◌, Bool, true, false};
-ghost use Rattle.std.specs.Prelude.{List, [], ◌++◌, length, None, Some, OnOk, ◌↔◌};
+ghost use Rattle.std.specs.Prelude.{List, [], ◌++◌, length, take, None, Some, OnOk, ◌↔◌};
 ghost use Rattle.std.specs.Result.{IsErr};
 ghost use Rattle.lex_io.specs.Sink.{Appended, fault_count};
 ghost use Rattle.lex_io.specs.Growing.{Grows, Grows-nil, Grows-trans};
@@ -120,7 +120,7 @@ impl MemorySink {
 }
 
 impl Sink for MemorySink {
-    ghost use Rattle.lex_io.specs.MemorySinks.{written_of, room_of, flush_fails, is_flushed, failures_of, left};
+    ghost use Rattle.lex_io.specs.MemorySinks.{written_of, room_of, flush_fails, is_flushed, failures_of, fitting, left};
 
     ghost wrote = { λ s xs t. Grows (written_of s) (written_of t) xs };
 
@@ -168,6 +168,29 @@ impl Sink for MemorySink {
         self.flush_fails = false;
         self.failures += 1;
         Err(WriteFault)
+    }
+
+    /// How many bytes `put` takes, if memory lasts.
+    fn room(&self) -> usize {
+        self.room_for(usize::MAX)
+    }
+
+    /// Takes as many as `put` does, and none where memory runs out.
+    fn hold(&mut self, bytes: &[u8]) -> usize
+        ensures few { result ≤ length bytes.now }
+        ensures fits { result ≤ fitting (room_of self.old) (length bytes.now) }
+        ensures bytes { Grows (written_of self.old) (written_of self.new) (take result bytes.now) }
+        ensures failures { failures_of self.new ≡ failures_of self.old }
+        ensures room { room_of self.new ≡ left (room_of self.old) result }
+        ensures unflushed { is_flushed self.new ≡ false }
+    {
+        self.flushed = false;
+        let count = self.room_for(bytes.len());
+        if self.written.extend_from_slice(&bytes[..count]).is_err() {
+            return 0;
+        }
+        self.room = self.room.map(|room| room.saturating_sub(count));
+        count
     }
 
     ghost wrote_none = { λ s. Grows-nil s.written.items };

@@ -28,6 +28,18 @@ impl Sink for NullSink {
         Ok(())
     }
 
+    /// There is always room.
+    #[inline]
+    fn room(&self) -> usize {
+        usize::MAX
+    }
+
+    /// Forgets the bytes.
+    #[inline]
+    fn hold(&mut self, bytes: &[u8]) -> usize {
+        bytes.len()
+    }
+
     ghost wrote_none = { λ s. tt };
 
     ghost wrote_more = { λ s t u xs ys p q. tt };

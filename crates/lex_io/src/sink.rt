@@ -1,6 +1,6 @@
 //! Where the bytes of a scan go.
 ghost use Rattle.std.specs.Prelude.{◌≡◌, ℕ, ◌+◌, ◌-◌, ◌^◌, ◌<◌, ◌≤◌, Bool, true, false};
-ghost use Rattle.std.specs.Prelude.{List, [], ◌++◌, length, IfOk, OnOk};
+ghost use Rattle.std.specs.Prelude.{List, [], ◌++◌, length, take, IfOk, OnOk};
 ghost use Rattle.lex_io.specs.Sink.{Appended, fault_count};
 ghost use Rattle.std.specs.Io.KnownBytes.{Appends};
 ghost use Rattle.std.proofs.KnownBytes.{Appends-nil, Appends-trans};
@@ -36,6 +36,21 @@ pub trait Sink {
         ensures bytes { wrote self.old [] self.new }
         ensures failures { failures self.new ≡ failures self.old + fault_count result }
         ensures flushed { OnOk result (flushed self.new ≡ true) };
+
+    /// How many bytes may be appended at the least, where that cannot fail. It says only what pays.
+    fn room(&self) -> usize {
+        0
+    }
+
+    /// Appends some of the first bytes, as many as can be appended without fail. Answers how many.
+    fn hold(&mut self, bytes: &[u8]) -> usize
+        ensures few { result ≤ length bytes.now }
+        ensures bytes { wrote self.old (take result bytes.now) self.new }
+        ensures failures { failures self.new ≡ failures self.old }
+    {
+        let _bytes = bytes;
+        0
+    }
 
     ghost wrote_none: { (s : Self) → wrote s [] s };
 

@@ -1,9 +1,10 @@
 //! A sink over a writer with a buffer, which knows whether the buffer is empty.
-ghost use Rattle.std.specs.Prelude.{◌≡◌, ℕ, ◌+◌, ◌-◌, ◌^◌, ◌<◌, Bool, true, List, [], ◌++◌, OnOk};
+ghost use Rattle.std.specs.Prelude.{◌≡◌, ℕ, ◌+◌, ◌-◌, ◌^◌, ◌<◌, ◌≤◌, Bool, true, List, [], ◌++◌, OnOk};
+ghost use Rattle.std.specs.Prelude.{length, take, min};
 ghost use Rattle.std.specs.Io.KnownBytes.{Appends};
 ghost use Rattle.std.proofs.KnownBytes.{Appends-nil, Appends-trans};
 ghost use Rattle.lex_io.specs.ByteReaders.{is_none};
-ghost use Rattle.lex_io.specs.ByteWriters.{bytes_held, bytes_written};
+ghost use Rattle.lex_io.specs.ByteWriters.{bytes_held, bytes_written, room_in};
 ghost use Rattle.lex_io.specs.Sink.{Appended, fault_count};
 
 use crate::byte_writer::ByteWriter;
@@ -85,6 +86,26 @@ impl<W: Write + Drop> Sink for ToBytes<W> {
                 Err(WriteFault)
             }
         }
+    }
+
+    /// How many bytes the writer holds before it pours.
+    #[inline(always)]
+    fn room(&self) -> usize {
+        self.writer.room()
+    }
+
+    /// Holds as many of the bytes as there is room for.
+    #[inline(always)]
+    fn hold(&mut self, bytes: &[u8]) -> usize
+        ensures few { result ≤ length bytes.now }
+        ensures fits { result ≡ min (length bytes.now) (room_in (byte_writer_of self.old)) }
+        ensures bytes { Appends (bytes_written W.contents (byte_writer_of self.old))
+            (bytes_written W.contents (byte_writer_of self.new)) (take result bytes.now) }
+        ensures failures { byte_writer_failures self.new ≡ byte_writer_failures self.old }
+    {
+        let count = bytes.len().min(self.writer.room());
+        let _held = self.writer.hold(&bytes[..count]);
+        count
     }
 
     ghost wrote_none = { λ s. Appends-nil (bytes_written W.contents s.writer) };

@@ -468,6 +468,12 @@ module _ (M : Machine) (laws : MachineLaws M) (text : List ℕ) (bytes : IsText 
         not_many : Write ≡ TooManyReads → ⊥
         not_many e = cc
 
+-- what stands after some turns, whatever the sink is
+abbrev pub Stands : Machine → List ℕ → ℕ → ℕ → Bool → ℕ → List ℕ → ℕ → ℕ → ℕ → Bool → Type 0
+Stands M text held condition line turns out done asked condition' line' =
+    (n : ℕ) (given before : List ℕ) (taken : ℕ) (stack : List ℕ) → AllInvariant M n given before (take held text) taken condition line stack →
+    AllInvariant M (turns + n) (given ++ drop held (take asked text)) (before ++ out) (drop done (take asked text)) (taken + (asked - held)) condition' line' stack
+
 -- no turn yet
 pub went_none : {K : Type 0} (M : Machine) (wrote : K → List ℕ → K → Type 0) (t : K) (text : List ℕ) (held condition : ℕ) (line : Bool) → held ≤ length text → wrote t [] t → TurnsMade M wrote t t text held condition line 0 held condition line
 went_none M wrote t text held condition line inside none = record {
@@ -493,8 +499,7 @@ went_none M wrote t text held condition line inside none = record {
 }
 
 module _ (M : Machine) (laws : MachineLaws M) (text : List ℕ) (bytes : IsText text) (held condition0 : ℕ) (line0 : Bool) (c far condition : ℕ) (line : Bool) (way : Way) (longest : GlancedMatch) (first : held ≤ far) (le : c ≤ far) (inside : far ≤ length text)
-    (leads : Leads M (M.start condition line) (drop c text) way) (tells : IsGlancedMatch M (M.start condition line) (drop c text) way.count longest) (is : names_rule longest.gist ≡ true)
-    {K : Type 0} (wrote : K → List ℕ → K → Type 0) (none : (s : K) → wrote s [] s) (join : (s t u : K) (xs ys : List ℕ) → wrote s xs t → wrote t ys u → wrote s (xs ++ ys) u) (s t u : K) (went : TurnsMade M wrote s t text held condition0 line0 c far condition line) where
+    (leads : Leads M (M.start condition line) (drop c text) way) (tells : IsGlancedMatch M (M.start condition line) (drop c text) way.count longest) (is : names_rule longest.gist ≡ true) where
   abbrev next : ℕ
   next = max far (c + way.count)
 
@@ -503,16 +508,13 @@ module _ (M : Machine) (laws : MachineLaws M) (text : List ℕ) (bytes : IsText 
       append_assoc given (drop held (take far text)) (drop far (take next text))
       ∙ ap (λ l. given ++ l) (sym (grows text held far next first (far_beyond M laws text bytes c far condition line way longest le inside leads tells is) (inside_beyond M laws text bytes c far condition line way longest le inside leads tells is)))
 
-  -- one turn more
-  pub went_more : wrote t (written_by longest.gist (take longest.keep (drop c text))) u → (line' : Bool) → line' ≡ nat_eq (get_or (take longest.keep (drop c text)) (longest.keep - 1) 0) 10 →
-      TurnsMade M wrote s u text held condition0 line0 (c + longest.keep) next (condition_after longest.gist condition) line'
-  went_more put line' starts = record {
-    turns = suc went.turns;
-    out = went.out ++ written_by longest.gist (take longest.keep (drop c text));
-    sink = join s t u went.out (written_by longest.gist (take longest.keep (drop c text))) went.sink put;
-    stand = λ n given before taken stack all v b works.
-        let h = step M laws text bytes c far condition line way longest le inside leads tells is wrote none join t u stack put line' starts (went.turns + n) (taken + (far - held)) (given ++ drop held (take far text)) (before ++ went.out)
-        (went.stand n given before taken stack all) v (record {
+  module _ {K : Type 0} (wrote : K → List ℕ → K → Type 0) (none : (s : K) → wrote s [] s) (join : (s t u : K) (xs ys : List ℕ) → wrote s xs t → wrote t ys u → wrote s (xs ++ ys) u) (s t u : K) where
+    -- what stands after one turn more
+    pub stand_more : (turns : ℕ) (out : List ℕ) → Stands M text held condition0 line0 turns out c far condition line → wrote t (written_by longest.gist (take longest.keep (drop c text))) u → (line' : Bool) → line' ≡ nat_eq (get_or (take longest.keep (drop c text)) (longest.keep - 1) 0) 10 →
+        Stands M text held condition0 line0 (suc turns) (out ++ written_by longest.gist (take longest.keep (drop c text))) (c + longest.keep) next (condition_after longest.gist condition) line'
+    stand_more turns out stand put line' starts n given before taken stack all v b works =
+        let h = step M laws text bytes c far condition line way longest le inside leads tells is wrote none join t u stack put line' starts (turns + n) (taken + (far - held)) (given ++ drop held (take far text)) (before ++ out)
+        (stand n given before taken stack all) v (record {
           bytes_are = b.bytes_are;
           taken_is = b.taken_is ∙ omega (arith, first);
           at_end = b.at_end;
@@ -522,31 +524,41 @@ module _ (M : Machine) (laws : MachineLaws M) (text : List ℕ) (bytes : IsText 
           stack_is = b.stack_is;
           going = b.going;
         }) works in
-        subst (λ k. TurnInvariant M k (given ++ drop held (take next text)) (before ++ (went.out ++ written_by longest.gist (take longest.keep (drop c text)))) v) (omega arith)
-        (subst (λ l. TurnInvariant M (suc (went.turns + n)) l (before ++ (went.out ++ written_by longest.gist (take longest.keep (drop c text)))) v) (all_given given)
-        (subst (λ l. TurnInvariant M (suc (went.turns + n)) ((given ++ drop held (take far text)) ++ drop far (take next text)) l v) (append_assoc before went.out (written_by longest.gist (take longest.keep (drop c text)))) h));
-  }
+        subst (λ k. TurnInvariant M k (given ++ drop held (take next text)) (before ++ (out ++ written_by longest.gist (take longest.keep (drop c text)))) v) (omega arith)
+        (subst (λ l. TurnInvariant M (suc (turns + n)) l (before ++ (out ++ written_by longest.gist (take longest.keep (drop c text)))) v) (all_given given)
+        (subst (λ l. TurnInvariant M (suc (turns + n)) ((given ++ drop held (take far text)) ++ drop far (take next text)) l v) (append_assoc before out (written_by longest.gist (take longest.keep (drop c text)))) h))
 
-  -- the sink failed in it
-  pub broke_then : (front : List ℕ) → BeginsWith (written_by longest.gist (take longest.keep (drop c text))) front → wrote t front u → BurstStopped M wrote s u text held condition0 line0 c next condition line
-  broke_then front begins put = record {
-    turns = went.turns;
-    out = went.out ++ front;
-    sink = join s t u went.out front went.sink put;
-    before = far;
-    few = first;
-    more = far_beyond M laws text bytes c far condition line way longest le inside leads tells is;
-    refusal = λ n given before taken stack all v b bad.
-        subst (λ l. AfterRefusal M (went.turns + n) (given ++ drop held (take far text)) (drop far (take next text)) l v Write) (append_assoc before went.out front)
-        (broke M laws text bytes c far condition line way longest le inside leads tells is wrote none join t u stack front begins put (went.turns + n) (taken + (far - held)) (given ++ drop held (take far text)) (before ++ went.out)
-        (went.stand n given before taken stack all) v (record {
-          bytes_are = b.bytes_are;
-          taken_is = b.taken_is ∙ omega (arith, first);
-          at_end = b.at_end;
-          at = b.at;
-          line_is = b.line_is;
-          condition_is = b.condition_is;
-          stack_is = b.stack_is;
-          going = b.going;
-        }) bad);
-  }
+    module _ (went : TurnsMade M wrote s t text held condition0 line0 c far condition line) where
+      -- one turn more
+      pub went_more : wrote t (written_by longest.gist (take longest.keep (drop c text))) u → (line' : Bool) → line' ≡ nat_eq (get_or (take longest.keep (drop c text)) (longest.keep - 1) 0) 10 →
+          TurnsMade M wrote s u text held condition0 line0 (c + longest.keep) next (condition_after longest.gist condition) line'
+      went_more put line' starts = record {
+        turns = suc went.turns;
+        out = went.out ++ written_by longest.gist (take longest.keep (drop c text));
+        sink = join s t u went.out (written_by longest.gist (take longest.keep (drop c text))) went.sink put;
+        stand = stand_more went.turns went.out went.stand put line' starts;
+      }
+
+      -- the sink failed in it
+      pub broke_then : (front : List ℕ) → BeginsWith (written_by longest.gist (take longest.keep (drop c text))) front → wrote t front u → BurstStopped M wrote s u text held condition0 line0 c next condition line
+      broke_then front begins put = record {
+        turns = went.turns;
+        out = went.out ++ front;
+        sink = join s t u went.out front went.sink put;
+        before = far;
+        few = first;
+        more = far_beyond M laws text bytes c far condition line way longest le inside leads tells is;
+        refusal = λ n given before taken stack all v b bad.
+            subst (λ l. AfterRefusal M (went.turns + n) (given ++ drop held (take far text)) (drop far (take next text)) l v Write) (append_assoc before went.out front)
+            (broke M laws text bytes c far condition line way longest le inside leads tells is wrote none join t u stack front begins put (went.turns + n) (taken + (far - held)) (given ++ drop held (take far text)) (before ++ went.out)
+            (went.stand n given before taken stack all) v (record {
+              bytes_are = b.bytes_are;
+              taken_is = b.taken_is ∙ omega (arith, first);
+              at_end = b.at_end;
+              at = b.at;
+              line_is = b.line_is;
+              condition_is = b.condition_is;
+              stack_is = b.stack_is;
+              going = b.going;
+            }) bad);
+      }

@@ -2,6 +2,7 @@
 use Rattle.std.specs.Prelude.{◌≡◌, ℕ, ◌+◌, ◌-◌, ◌<◌, ◌≤◌, Bool, true, false, List, ◌++◌, length, take, drop, get_or, ◌==◌, if◌then◌else◌, None, Result, Ok, Err}
 use Rattle.lex_io.specs.declared.sink.Sink as Sink
 use Rattle.lex_semantics.specs.Machine.{Machine}
+use Rattle.lex_machine.specs.Singles.{Singles}
 use Rattle.lexscan_window.specs.Intakes.{sink_of, sink_name, can_write}
 use Rattle.lexscan_window.specs.declared.intake.Outlet.{Outlet}
 use Rattle.lexscan_window.specs.declared.state.TextPlace.{TextPlace}
@@ -14,6 +15,13 @@ use Rattle.lexscan.specs.TurnInvariants.{TurnInvariant, AfterRefusal}
 -- whether a line starts after so many bytes of a text, where one starts at its front or not (flex, Patterns: `^`)
 abbrev pub starts_line : Bool → List ℕ → ℕ → Bool
 starts_line line text count = if count == 0 then line else get_or text (count - 1) 0 == 10
+
+-- Some of the first bytes were passed, each a match by itself of this kind, and these are left. (This project's.)
+pub record Passed (Is : Machine → ℕ → ℕ → Type 0) (M : Machine) (condition first : ℕ) (bytes left : List ℕ) : Type 0
+  where
+    pub count : ℕ
+    pub singles : Singles Is M condition first bytes count
+    pub left_is : left ≡ drop count bytes
 
 -- A state between two turns, with these bytes held and so many taken.
 pub record Between (v : State) (bytes : List ℕ) (taken condition : ℕ) (line : Bool) (stack : List ℕ) : Type 0 where

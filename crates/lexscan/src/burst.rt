@@ -4,8 +4,9 @@ ghost use Rattle.lexscan_window.specs.Intakes.{can_write};
 ghost use Rattle.lexscan.specs.Bursts.{starts_line, BurstMade};
 ghost use Rattle.lexscan_matching.specs.Glanced.{names_rule};
 
+use crate::singles::{pass_copied, pass_dropped, singles_after};
 use lex_io::Sink;
-use lex_machine::Machine;
+use lex_machine::{Gist, Machine};
 use lexscan_matching::{do_gist, longest_match, names_rule, silent_part};
 use lexscan_window::{Outlet, TextPlace};
 
@@ -49,9 +50,10 @@ pub fn burst_over<M: Machine, K: Sink>(
     ensures { BurstMade (M.machine machine.now) outlet.old outlet.new text.now held place result }
 {
     let mut rest = text;
-    // How many bytes at the end of the text no match has asked for.
+    // How many bytes at the end of the text no match has asked for, if no fewer are left.
     let mut unasked = text.len() - held;
     let mut condition = place.condition;
+    let mut singles = machine.has_singles(condition);
     let mut fault = false;
     let mut first = machine.start(condition, place.line_start);
     'turns: while !rest.is_empty() {
@@ -61,7 +63,7 @@ pub fn burst_over<M: Machine, K: Sink>(
         if let Some(keep) = silent_part(machine, way) {
             unasked = unasked.min(rest.len() - way.count);
             first = machine.start(condition, rest[keep - 1] == b'\n');
-            rest = &rest[keep..];
+            rest = pass_dropped(machine, singles, condition, first, &rest[keep..]);
             continue 'turns;
         }
         let longest = longest_match(machine, first, rest, way);
@@ -74,14 +76,17 @@ pub fn burst_over<M: Machine, K: Sink>(
             fault = true;
             break 'turns;
         };
+        singles = singles_after(machine, singles, condition, after);
         condition = after;
         first = machine.start(condition, said[longest.keep - 1] == b'\n');
-        rest = &rest[longest.keep..];
+        let tried = singles && matches!(longest.gist, Gist::Echo);
+        let left = &rest[longest.keep..];
+        rest = pass_copied(machine, outlet, tried, condition, first, left);
     }
     let done = text.len() - rest.len();
     Burst {
         done,
-        asked: text.len() - unasked,
+        asked: text.len() - unasked.min(rest.len()),
         line_start: starts_line(place.line_start, text, done),
         condition,
         fault,

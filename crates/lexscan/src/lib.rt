@@ -8,6 +8,7 @@
 //! - `carry`: carries the match out, or the end action.
 //! - `leave`: leaves the place of the match for that of the next one.
 //! - `burst`: many turns in one loop over bytes in memory, where each rule at most writes or sets the condition.
+//! - `singles`: a run of one-byte matches is passed at once, for bursts.
 //! - `glance`: one turn over bytes in memory, whose rule at most writes or sets the condition.
 //! - `series`: many such turns in one loop, which lists their tokens.
 //! - `further`: lets a burst go over the bytes that the source has ready.
@@ -29,6 +30,8 @@
 //! - A burst keeps the state in which the next match starts, and no flag for the start of a line: each match had to
 //!   wait for that flag.
 //! - How many bytes a burst may look at halves where it used few, down to 64, and doubles where it used all, up to 8,192.
+//! - A burst asks for a run of one-byte matches after a match of any length that does nothing or is ECHO: what follows a
+//!   longer one is as often such a run.
 //! - Marks (`memo` of lexscan_window) are used only where over 128 bytes are held: other matches pay one comparison.
 //! - A turn keeps only the rule of its match. Where its text begins is worked out from counts, and no byte is copied.
 //! - A token that is told at a glance is looked for among 64 bytes that wait: most are shorter, and each look copies these.
@@ -50,6 +53,7 @@ mod push;
 mod scan;
 mod scanner;
 mod series;
+mod singles;
 mod token;
 mod turn;
 mod whole;

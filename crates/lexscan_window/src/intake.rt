@@ -158,6 +158,30 @@ impl<'a, K: Sink> Outlet<'a, K> {
         result
     }
 
+    /// How many bytes may be appended at the least, where that cannot fail. It says only what pays.
+    #[inline(always)]
+    pub fn room(&self) -> usize {
+        self.sink.room()
+    }
+
+    /// Appends some of the first bytes, as many as the sink can append without fail. Answers how many. It stands by
+    /// itself, so that it is no part of the loop of a burst.
+    #[inline(never)]
+    pub fn hold(&mut self, bytes: &[u8]) -> usize
+        ensures few { result ≤ length bytes.now }
+        ensures same { sink_name self.new ≡ sink_name self.old }
+        ensures bytes { K.wrote (sink_of self.old) (take result bytes.now) (sink_of self.new) }
+        ensures failures { K.failures (sink_of self.new) ≡ K.failures (sink_of self.old) }
+        ensures live { can_write self.new ≡ can_write self.old }
+    {
+        let live = self.live;
+        self.live = false;
+        self.pending = true;
+        let count = self.sink.hold(bytes);
+        self.live = live;
+        count
+    }
+
     /// Has the sink hand on what was put. After a fault it is not called again.
     pub fn flush(&mut self) -> Result<(), WriteFault>
         requires { can_write self.old ≡ true }
