@@ -1,12 +1,15 @@
 -- Where no byte is told, none is copied.
-use Rattle.std.proofs.Common.{◌≡◌, ◌∙◌, ℕ, zero, suc, ◌+◌, ◌<◌, ◌≤◌, ◌⊎◌, Bool, true, false, List, [], ◌∷◌, ◌++◌, length, Option, Some, None, refl, sym, ap, subst, arith, inl, inr, if◌then◌else◌, get_or}
+use Rattle.std.proofs.Common.{◌≡◌, ◌∙◌, ℕ, zero, suc, ◌+◌, ◌<◌, ◌≤◌, ◌⊎◌, Bool, true, false, List, [], ◌∷◌, ◌++◌, length, map, drop, Option, Some, None, refl, sym, ap, subst, arith, append_assoc, inl, inr, if◌then◌else◌, get_or}
 use Rattle.std.specs.Prelude.{slice_get, unwrap_or}
+use Rattle.std.proofs.lemmas.List.{at_drop_more}
 use Rattle.std.proofs.lemmas.Option.{slice_get_cases}
 use Rattle.lex_semantics.specs.Spec.{Spec, Rule, Condition}
 use Rattle.lexlook_specs.specs.Copied.{AreCopied, IsFirstCopied}
 use Rattle.lexlook_specs.specs.Matches.{matches_of}
 use Rattle.lexlook_text.specs.DeclaredNames.{declared_conditions, first_named}
 use Rattle.lexspec_lines.specs.Lines.{without_returns}
+use Rattle.lexspec_actions.specs.Views.{condition_of}
+use Rattle.lexspec_actions.specs.declared.condition.Condition.{Condition as Declared}
 use Rattle.lexlook_check.specs.Copies.{CopiesNothing, copies_at, copies_from, copies_in, is_met, met_byte}
 use Rattle.lexlook_check.specs.Findings.{known_lines}
 use Rattle.lexlook_check.specs.declared.findings.Finding.{Finding}
@@ -91,3 +94,18 @@ pub told_in : (S : Spec) (copied : List (Option ℕ)) (text : List ℕ) (found :
 told_in S copied text found rules ks lines places of_rules of_conditions read are h =
     h ∙ ap (λ (rs : List Rule). copies_from rs copied places 0 ks) of_rules ∙ ap (λ (l : List Condition). copies_from S.rules copied places 0 l) of_conditions
     ∙ ap (λ (ps : List (ℕ × ℕ × List ℕ)). copies_from S.rules copied ps 0 S.conditions) (are ∙ ap declared_conditions read)
+
+-- what is told of one condition more
+pub one_more : (rules : List Rule) (copied : List (Option ℕ)) (places : List (ℕ × ℕ × List ℕ)) (xs : List Declared) (i : ℕ) (x : Declared) (old next whole : List Finding)
+    → i < length xs → x ≡ get_or xs i x → next ≡ old ++ copies_at (first_named x.name.items places) (met_byte rules copied i)
+    → old ++ copies_from rules copied places i (map condition_of (drop i xs)) ≡ whole → next ++ copies_from rules copied places (i + 1) (map condition_of (drop (i + 1) xs)) ≡ whole
+one_more rules copied places xs i x old next whole low is new before =
+    let part = λ (k : Declared). copies_at (first_named k.name.items places) (met_byte rules copied i) in
+    let left = map condition_of (drop (i + 1) xs) in
+    let count : i + 1 ≡ suc i = omega arith in
+    ap (λ (z : List Finding). z ++ copies_from rules copied places (i + 1) left) new
+    ∙ append_assoc old (part x) (copies_from rules copied places (i + 1) left)
+    ∙ ap (λ (n : ℕ). old ++ (part x ++ copies_from rules copied places n left)) count
+    ∙ ap (λ (k : Declared). old ++ (part k ++ copies_from rules copied places (suc i) left)) is
+    ∙ sym (at_drop_more (λ (ds : List Declared). old ++ copies_from rules copied places i (map condition_of ds)) xs i x low)
+    ∙ before

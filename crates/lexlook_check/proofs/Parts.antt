@@ -1,12 +1,5 @@
 -- Parts that are appended one behind the other.
-use Rattle.std.proofs.Common.{◌≡◌, ◌++◌, ◌∙◌, List, [], ℕ, ap, append_assoc}
-
-pub seven : (a b c d e f g h p q r s t u v : List ℕ) → b ≡ a ++ p → c ≡ b ++ q → d ≡ c ++ r → e ≡ d ++ s → f ≡ e ++ t → g ≡ f ++ u → h ≡ g ++ v
-    → h ≡ a ++ (p ++ (q ++ (r ++ (s ++ (t ++ (u ++ v))))))
-seven a b c d e f g h p q r s t u v hb hc hd he hf hg hh =
-    hh
-    ∙ ap (λ (z : List ℕ). z ++ v) (hg ∙ ap (λ (z : List ℕ). z ++ u) (hf ∙ ap (λ (z : List ℕ). z ++ t) (he ∙ ap (λ (z : List ℕ). z ++ s) (hd ∙ ap (λ (z : List ℕ). z ++ r) (hc ∙ ap (λ (z : List ℕ). z ++ q) hb)))))
-    ∙ simp append_assoc
+use Rattle.std.proofs.Common.{◌≡◌, ◌++◌, ◌∙◌, List, [], ℕ, ap, sym, append_assoc, append-nil}
 
 pub five : (a b c d e f p q r s t : List ℕ) → b ≡ a ++ p → c ≡ b ++ q → d ≡ c ++ r → e ≡ d ++ s → f ≡ e ++ t → f ≡ a ++ (p ++ (q ++ (r ++ (s ++ t))))
 five a b c d e f p q r s t hb hc hd he hf =
@@ -17,10 +10,11 @@ five a b c d e f p q r s t hb hc hd he hf =
 pub three : (a b c d p q r : List ℕ) → b ≡ a ++ p → c ≡ b ++ q → d ≡ c ++ r → d ≡ a ++ (p ++ (q ++ r))
 three a b c d p q r hb hc hd = hd ∙ ap (λ (z : List ℕ). z ++ r) (hc ∙ ap (λ (z : List ℕ). z ++ q) hb) ∙ simp append_assoc
 
--- five parts of a new text
-pub hinted : (a b c d e f p q r s t : List ℕ) → a ≡ [] → b ≡ a ++ p → c ≡ b ++ q → d ≡ c ++ r → e ≡ d ++ s → f ≡ e ++ t → f ≡ (((p ++ q) ++ r) ++ s) ++ t
-hinted a b c d e f p q r s t none hb hc hd he hf =
-    hf ∙ ap (λ (z : List ℕ). z ++ t) (he ∙ ap (λ (z : List ℕ). z ++ s) (hd ∙ ap (λ (z : List ℕ). z ++ r) (hc ∙ ap (λ (z : List ℕ). z ++ q) (hb ∙ ap (λ (z : List ℕ). z ++ p) none))))
+-- five parts of a new text, of which the last two are appended at once
+pub hinted : (a b c d f p q r s t s' t' : List ℕ) → a ≡ [] → b ≡ a ++ p → c ≡ b ++ q → d ≡ c ++ r → s' ≡ s → t' ≡ t → f ≡ d ++ (s' ++ (t' ++ [])) → f ≡ (((p ++ q) ++ r) ++ s) ++ t
+hinted a b c d f p q r s t s' t' none hb hc hd hs ht hf =
+    hf ∙ ap (λ (z : List ℕ). d ++ (s' ++ z)) (append-nil t') ∙ ap (λ (z : List ℕ). d ++ (z ++ t')) hs ∙ ap (λ (z : List ℕ). d ++ (s ++ z)) ht ∙ sym (append_assoc d s t)
+    ∙ ap (λ (z : List ℕ). (z ++ s) ++ t) (hd ∙ ap (λ (z : List ℕ). z ++ r) (hc ∙ ap (λ (z : List ℕ). z ++ q) (hb ∙ ap (λ (z : List ℕ). z ++ p) none)))
 
 pub six : (a b c d e f g p q r s t u : List ℕ) → b ≡ a ++ p → c ≡ b ++ q → d ≡ c ++ r → e ≡ d ++ s → f ≡ e ++ t → g ≡ f ++ u → g ≡ a ++ (p ++ (q ++ (r ++ (s ++ (t ++ u)))))
 six a b c d e f g p q r s t u hb hc hd he hf hg = hg ∙ ap (λ (z : List ℕ). z ++ u) (five a b c d e f p q r s t hb hc hd he hf) ∙ simp append_assoc

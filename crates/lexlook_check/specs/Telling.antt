@@ -25,6 +25,13 @@ abbrev pub told_bytes : Form → List SourceFile → List ℕ → List TakenText
 told_bytes Lines files text ts findings = flat_map (finding_lines files text ts) findings
 told_bytes Json files text ts findings = flat_map (finding_json files text ts) findings
 
+-- these bytes are to be written of what was found of a text: all of it, in order of place
+pub record AreBytesOf (form : Form) (files : List SourceFile) (text : List ℕ) (checked : Checked)
+    (bytes : List ℕ) : Type 0 where
+  pub told : List Finding
+  pub in_order : AreInOrder (findings_of (known_lines (without_returns text)) checked) told
+  pub bytes_are : bytes ≡ told_bytes form files (without_returns text) (map taking_of checked.takings.items) told
+
 -- of files these bytes are to be written: all that was found, in order of place
 pub record IsTellingOf (options : Options) (form : Form) (strict : Bool) (files : List SourceFile) (bytes : List ℕ)
     (checked : Checked) : Type 0 where

@@ -116,7 +116,8 @@ fn copies_from(
 {
     let mut copies = Vec::new(alloc);
     for index in 0..conditions.len() {
-        let place = first_named(places, conditions[index].name.as_slice());
+        let condition = &conditions[index];
+        let place = first_named(places, condition.name.as_slice());
         let byte = met_byte(rules, copied, index as u8);
         add_copy(&mut copies, place, byte)?;
     }

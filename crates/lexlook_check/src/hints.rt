@@ -2,6 +2,7 @@
 ghost use Rattle.std.specs.Prelude.{◌≡◌, ◌++◌, OnOk};
 ghost use Rattle.lexlook_check.specs.Hints.{action_hint, definition_hint, difference_hint, hint_words, limit_hint, notice_hint, outside_hint, pattern_hint, rule_hint};
 
+use crate::adding::add_each;
 use crate::notices::NoticeKind;
 use crate::source::add_under;
 use itoa::Buffer;
@@ -215,7 +216,5 @@ pub(crate) fn add_hint(text: &mut Vec<u8>, number: u32, hint: &[u8]) -> Result<(
     let mut digits = Buffer::new();
     add(text, b"    ")?;
     add_under(text, digits.format(number).as_bytes())?;
-    add(text, b" = ")?;
-    add(text, hint)?;
-    add(text, b"\n")
+    add_each(text, &[b" = ", hint, b"\n"])
 }

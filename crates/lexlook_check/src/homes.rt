@@ -5,6 +5,7 @@ ghost use Rattle.lexlook_text.specs.LineViews.{line_of};
 ghost use Rattle.lexlook_check.specs.Findings.{known_lines};
 ghost use Rattle.lexlook_check.specs.Homes.{again_spot, braced_name, declared_home, defined_home, home_of, home_told, home_verb, home_words, name_spot};
 
+use crate::adding::add_each;
 use crate::findings::{What, known_lines};
 use crate::lines::add_place;
 use crate::places::SourceFile;
@@ -139,11 +140,10 @@ fn add_home(
     match place {
         None => add(text, b""),
         Some(place) => {
-            add(text, b"`")?;
-            add(text, place.name)?;
-            add(text, b"` is ")?;
-            add(text, verb.as_bytes())?;
-            add(text, b" at ")?;
+            add_each(
+                text,
+                &[b"`", place.name, b"` is ", verb.as_bytes(), b" at "],
+            )?;
             add_place(text, files, place.line)?;
             add(text, b"; ")
         }

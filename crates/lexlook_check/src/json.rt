@@ -69,6 +69,30 @@ fn add_number_field(text: &mut Vec<u8>, front: &str, value: Option<usize>) -> Re
     }
 }
 
+/// The name of what is warned of, which has no blanks.
+fn notice_name(kind: NoticeKind) -> &'static str
+    ensures { result.now ≡ what_name (What.Noticed kind) }
+{
+    match kind {
+        NoticeKind::LettersAsBytes => "LettersAsBytes",
+        NoticeKind::LetterAlone => "LetterAlone",
+        NoticeKind::Backspace => "Backspace",
+        NoticeKind::CaseRange => "CaseRange",
+        NoticeKind::LineWalk => "LineWalk",
+        NoticeKind::FlexTrail => "FlexTrail",
+        NoticeKind::BarTrail => "BarTrail",
+        NoticeKind::EndAgain => "EndAgain",
+        NoticeKind::NamedTrail => "NamedTrail",
+        NoticeKind::EmptyHead => "EmptyHead",
+        NoticeKind::IdleEnd => "IdleEnd",
+        NoticeKind::LoneReturn => "LoneReturn",
+        NoticeKind::UnusedDefinition => "UnusedDefinition",
+        NoticeKind::NeverEntered => "NeverEntered",
+        NoticeKind::NeverLeft => "NeverLeft",
+        NoticeKind::DefaultRule(_) => "DefaultRule",
+    }
+}
+
 /// The name of what was found, which has no blanks.
 fn what_name(what: What) -> &'static str
     ensures { result.now ≡ what_name what }
@@ -77,22 +101,7 @@ fn what_name(what: What) -> &'static str
         What::Copied(_) => "DefaultRule",
         What::Warned(true) => "SkippedCode",
         What::Warned(false) => "UselessRule",
-        What::Noticed(NoticeKind::LettersAsBytes) => "LettersAsBytes",
-        What::Noticed(NoticeKind::LetterAlone) => "LetterAlone",
-        What::Noticed(NoticeKind::Backspace) => "Backspace",
-        What::Noticed(NoticeKind::CaseRange) => "CaseRange",
-        What::Noticed(NoticeKind::LineWalk) => "LineWalk",
-        What::Noticed(NoticeKind::FlexTrail) => "FlexTrail",
-        What::Noticed(NoticeKind::BarTrail) => "BarTrail",
-        What::Noticed(NoticeKind::EndAgain) => "EndAgain",
-        What::Noticed(NoticeKind::NamedTrail) => "NamedTrail",
-        What::Noticed(NoticeKind::EmptyHead) => "EmptyHead",
-        What::Noticed(NoticeKind::IdleEnd) => "IdleEnd",
-        What::Noticed(NoticeKind::LoneReturn) => "LoneReturn",
-        What::Noticed(NoticeKind::UnusedDefinition) => "UnusedDefinition",
-        What::Noticed(NoticeKind::NeverEntered) => "NeverEntered",
-        What::Noticed(NoticeKind::NeverLeft) => "NeverLeft",
-        What::Noticed(NoticeKind::DefaultRule(_)) => "DefaultRule",
+        What::Noticed(kind) => notice_name(kind),
         What::Fault(_) | What::Limit(_, _) => what_text(what),
     }
 }

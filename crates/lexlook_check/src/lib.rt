@@ -1,6 +1,7 @@
 //! Every fault of a specification, not the first alone: what `lexlook check` tells.
 //!
 //! - `error`: why nothing is told, or not all, and how the program reports it.
+//! - `adding`: messages that are put together of parts.
 //! - `reader`: a reader of specifications, known by what it answers of a text. That of lex is one.
 //! - `leaving`: the text in which the lines of a rule are empty.
 //! - `finding`: the faults that a reader answers of a text, each behind that of the text without the rules before.
@@ -57,6 +58,7 @@
 //! - **A condition is warned of at its name**, where it is declared. Its number is that of the condition with this name.
 #![tactic(auto)]
 
+mod adding;
 mod bar_trails;
 mod case_ranges;
 mod checking;

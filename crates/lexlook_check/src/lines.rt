@@ -9,6 +9,7 @@ ghost use Rattle.lexlook_check.specs.Places.{file_line_words};
 ghost use Rattle.lexlook_check.specs.SourceLines.{place_in};
 ghost use Rattle.lexlook_check.specs.Takings.{is_useless, taking_of};
 
+use crate::adding::add_each;
 use crate::findings::{Finding, What};
 use crate::hints::{add_hint, definition_hint, limit_hint, notice_hint};
 use crate::homes::add_home_of;
@@ -51,8 +52,7 @@ fn add_column(text: &mut Vec<u8>, offset: Option<usize>) -> Result<(), AllocErro
         None => add(text, b""),
         Some(at) => {
             let mut digits = Buffer::new();
-            add(text, b":")?;
-            add(text, digits.format(at + 1).as_bytes())
+            add_each(text, &[b":", digits.format(at + 1).as_bytes()])
         }
     }
 }
@@ -161,8 +161,8 @@ pub(crate) fn full_hint(
             add_front(&mut text, names, what, offset, line)?;
             add_home_of(alloc, &mut text, files, whole, what, offset, line)?;
             add_limit(&mut text, files, what)?;
-            add(&mut text, remark_told(whole, what, offset, line).as_bytes())?;
-            add(&mut text, hint.as_bytes())?;
+            let remark = remark_told(whole, what, offset, line).as_bytes();
+            add_each(&mut text, &[remark, hint.as_bytes()])?;
             Ok(Some(text))
         }
     }
@@ -200,11 +200,9 @@ fn add_head(
 {
     add_place(text, files, finding.line)?;
     add_column(text, offset)?;
-    add(text, b": ")?;
-    add(text, severity_text(finding.what).as_bytes())?;
-    add(text, b": ")?;
-    add(text, what_text(finding.what).as_bytes())?;
-    add(text, b"\n")
+    let severity = severity_text(finding.what).as_bytes();
+    let what = what_text(finding.what).as_bytes();
+    add_each(text, &[b": ", severity, b": ", what, b"\n"])
 }
 
 /// Whether it is a rule that cannot be matched.

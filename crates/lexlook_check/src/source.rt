@@ -2,6 +2,7 @@
 ghost use Rattle.std.specs.Prelude.{◌≡◌, ◌≤◌, ◌++◌, IfSome, OnOk, length};
 ghost use Rattle.lexlook_check.specs.SourceLines.{mark_words, offset_in, place_in, source_words, text_line, under};
 
+use crate::adding::add_each;
 use itoa::Buffer;
 use lexlook_specs::add;
 use lexspec_lines::split_line;
@@ -91,10 +92,7 @@ pub(crate) fn add_source(
         return add(text, b"");
     }
     let mut digits = Buffer::new();
-    add(text, b"    ")?;
-    add(text, digits.format(number).as_bytes())?;
-    add(text, b" | ")?;
-    add(text, line)?;
-    add(text, b"\n")?;
+    let digits = digits.format(number).as_bytes();
+    add_each(text, &[b"    ", digits, b" | ", line, b"\n"])?;
     add_mark(text, number, line, offset)
 }

@@ -4,7 +4,7 @@ ghost use Rattle.lex_semantics.specs.Limits.{max_positions, max_states};
 ghost use Rattle.lexlook_text.specs.Known.{AreNamesOf};
 ghost use Rattle.lexlook_check.specs.Findings.{known_lines};
 ghost use Rattle.lexlook_check.specs.Takings.{taking_of};
-ghost use Rattle.lexlook_check.specs.Telling.{IsTellingOf, TellsCheck, check_fault_count, told_bytes};
+ghost use Rattle.lexlook_check.specs.Telling.{AreBytesOf, IsTellingOf, TellsCheck, check_fault_count, told_bytes};
 
 use crate::checking::{Checked, check};
 use crate::error::CheckError;
@@ -56,6 +56,31 @@ fn told_bytes(
     }
 }
 
+/// What is to be written of what was found of a text.
+fn bytes_of(
+    alloc: Global,
+    form: Form,
+    files: &[SourceFile<'_>],
+    text: &[u8],
+    checked: &Checked,
+) -> Result<Vec<u8>, AllocError>
+    ensures { IfOk result (λ bytes. AreBytesOf form files.now text.now checked.now bytes.items) }
+{
+    let whole = without_returns(alloc, text)?;
+    let lines = known_lines(alloc, whole.as_slice())?;
+    let names = names_of(alloc, lines.as_slice())?;
+    let findings = findings_in_order(alloc, &names, lines.as_slice(), checked)?;
+    told_bytes(
+        alloc,
+        form,
+        files,
+        whole.as_slice(),
+        &names,
+        checked.takings.as_slice(),
+        findings.as_slice(),
+    )
+}
+
 /// What is to be written of what is found of the text that the files are together.
 fn telling_of(
     alloc: Global,
@@ -71,19 +96,7 @@ fn telling_of(
     let text = joined_text(alloc, files)?;
     let own = own_line(files, text.as_slice());
     let checked = check(alloc, own, strict, text.as_slice(), options)?;
-    let whole = without_returns(alloc, text.as_slice())?;
-    let lines = known_lines(alloc, whole.as_slice())?;
-    let names = names_of(alloc, lines.as_slice())?;
-    let findings = findings_in_order(alloc, &names, lines.as_slice(), &checked)?;
-    let bytes = told_bytes(
-        alloc,
-        form,
-        files,
-        whole.as_slice(),
-        &names,
-        checked.takings.as_slice(),
-        findings.as_slice(),
-    )?;
+    let bytes = bytes_of(alloc, form, files, text.as_slice(), &checked)?;
     Ok(Telling { bytes, checked })
 }
 

@@ -4,6 +4,7 @@ ghost use Rattle.lexlook_text.specs.Known.{AreNamesOf};
 ghost use Rattle.lexlook_check.specs.WordViews.{vocabulary_of};
 ghost use Rattle.lexlook_check.specs.Words.{named_there, copied_words, front_words, named_words, near_words, pattern_vocabulary, subject_words, vocabulary, word_words, words_by};
 
+use crate::adding::add_each;
 use crate::findings::What;
 use crate::notices::NoticeKind;
 use itoa::Buffer;
@@ -76,11 +77,7 @@ fn add_near(text: &mut Vec<u8>, near: Option<&[u8]>) -> Result<(), AllocError>
 {
     match near {
         None => add(text, b""),
-        Some(name) => {
-            add(text, b", the nearest is `")?;
-            add(text, name)?;
-            add(text, b"`")
-        }
+        Some(name) => { add_each(text, &[b", the nearest is `", name, b"`"]) }
     }
 }
 
@@ -91,9 +88,7 @@ fn add_word(text: &mut Vec<u8>, words: KnownWords<'_>, word: &[u8]) -> Result<()
     if word.is_empty() || has_word(words.known, word) {
         return add(text, b"");
     }
-    add(text, b"`")?;
-    add(text, word)?;
-    add(text, b"` is no ")?;
+    add_each(text, &[b"`", word, b"` is no "])?;
     add(text, words.noun.as_bytes())?;
     add_near(text, nearest(word, words.known))?;
     add(text, b"; ")
@@ -116,9 +111,7 @@ fn add_met(text: &mut Vec<u8>, words: Option<KnownWords<'_>>, rest: &[u8]) -> Re
 fn add_named(text: &mut Vec<u8>, rest: &[u8]) -> Result<(), AllocError>
     ensures { OnOk result (text.new.items ≡ text.old.items ++ named_words rest.now) }
 {
-    add(text, b"`")?;
-    add(text, split_name(rest).0)?;
-    add(text, b"`: ")
+    add_each(text, &[b"`", split_name(rest).0, b"`: "])
 }
 
 /// Appends which byte the default rule copies first.
@@ -126,9 +119,8 @@ fn add_copied(text: &mut Vec<u8>, byte: u8) -> Result<(), AllocError>
     ensures { OnOk result (text.new.items ≡ text.old.items ++ copied_words byte) }
 {
     let mut digits = Buffer::new();
-    add(text, b"the first byte that it copies is ")?;
-    add(text, digits.format(byte).as_bytes())?;
-    add(text, b"; ")
+    let digits = digits.format(byte).as_bytes();
+    add_each(text, &[b"the first byte that it copies is ", digits, b"; "])
 }
 
 /// Appends what is said of the name that begins the text, where a condition is warned of.

@@ -48,7 +48,6 @@ fn finishes(alloc: Global, scan: &mut Scan, wanted: Ended) -> bool {
 type Fed = (&'static [u8], usize, Answer, &'static [u8]);
 
 /// What a scan goes through.
-#[derive(Clone, Copy)]
 enum Step {
     /// A piece.
     Feed(Fed),
@@ -57,10 +56,10 @@ enum Step {
 }
 
 /// Whether this is answered so.
-fn does(alloc: Global, scan: &mut Scan, step: Step) -> bool {
+fn does(alloc: Global, scan: &mut Scan, step: &Step) -> bool {
     match step {
-        Step::Feed((piece, room, answer, out)) => feeds(alloc, scan, piece, room, answer, out),
-        Step::Finish(end) => finishes(alloc, scan, end),
+        Step::Feed((piece, room, answer, out)) => feeds(alloc, scan, *piece, *room, *answer, *out),
+        Step::Finish(end) => finishes(alloc, scan, *end),
     }
 }
 
@@ -68,7 +67,7 @@ fn does(alloc: Global, scan: &mut Scan, step: Step) -> bool {
 fn scans(alloc: Global, file: &[u8], steps: &[Step]) -> bool {
     let mut scan = Scan::closed();
     let mut so = open_scan(alloc, &mut scan, file) == Answer::Done;
-    for &step in steps {
+    for step in steps {
         so = does(alloc, &mut scan, step) && so;
     }
     scan.close(alloc);

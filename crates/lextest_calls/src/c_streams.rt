@@ -1,11 +1,10 @@
-//! Streams of tokens as a program in C calls them: the same tokens from pieces of any size and where they are listed, and what is
-//! answered before the first piece, after the end and after a fault.
+//! Streams of tokens as a program in C calls them: the same tokens from pieces of any size, and what is answered before the first
+//! piece, after the end and after a fault.
 use crate::building::made;
 use crate::c_rows::{DEFAULT, Row, SCANS, Scan};
-use crate::for_c::token;
 use liblex_calls::{
-    Answer, LoadedTables, NextToken, TextToken, TokenStream, close_stream, end_stream, feed_stream,
-    load_tables, next_token, open_stream, open_stream_loaded, text_into, tokens_into,
+    Answer, LoadedTables, NextToken, TokenStream, close_stream, end_stream, feed_stream,
+    load_tables, next_token, open_stream, open_stream_loaded, text_into,
 };
 use std::alloc::Global;
 use std::test::Fail;
@@ -121,50 +120,7 @@ fn pieces_of_any_size_have_the_same_tokens(rt: HostRuntime) -> Result<(), Fail> 
     Ok(())
 }
 
-/// Whether this is the token of a row.
-fn is_of_row(token: &TextToken, row: Row) -> bool {
-    let (rule, start, condition, text, _, _) = row;
-    token.start as u64 == start
-        && token.end == token.start.saturating_add(text.len())
-        && token.rule == rule
-        && token.condition == condition
-}
-
-/// Whether the tokens of a scan are listed in a buffer, as many as it has room for, with the status.
-fn lists(alloc: Global, file: &[u8], scan: &Scan, buffer: &mut [TextToken]) -> bool {
-    let &(_, input, rows, status) = scan;
-    let mut count = 99;
-    let mut ended = 99;
-    let answer = tokens_into(alloc, file, input, buffer, &mut count, &mut ended);
-    for (token, row) in buffer.iter().zip(rows) {
-        if !is_of_row(token, *row) {
-            return false;
-        }
-    }
-    let wanted = if rows.len() <= buffer.len() {
-        Answer::Done
-    } else {
-        Answer::TooSmall
-    };
-    answer == wanted && (count, ended) == (rows.len(), status)
-}
-
-#[test]
-fn listed_tokens_are_those_of_a_stream(rt: HostRuntime) -> Result<(), Fail> {
-    let none = token(99, 99, 99);
-    for scan in SCANS {
-        let file = made(rt.alloc(), scan.0)?;
-        let mut few = [none; 2];
-        let mut many = [none; 16];
-        assert!(rt; lists(rt.alloc(), file.written(), scan, &mut few));
-        assert!(rt; lists(rt.alloc(), file.written(), scan, &mut many));
-        assert!(rt; many[15] == none);
-    }
-    Ok(())
-}
-
 /// What a program does with a stream, whose tokens have lines and columns.
-#[derive(Clone, Copy)]
 enum Step {
     /// It feeds a piece, which is answered so.
     Feed(&'static [u8], Answer),
@@ -179,13 +135,13 @@ enum Step {
 }
 
 /// Whether it goes so.
-fn does(alloc: Global, stream: &mut TokenStream, step: Step) -> bool {
+fn does(alloc: Global, stream: &mut TokenStream, step: &Step) -> bool {
     match step {
-        Step::Feed(piece, answer) => feed_stream(alloc, stream, piece) == answer,
+        Step::Feed(piece, answer) => feed_stream(alloc, stream, *piece) == *answer,
         Step::End => end_stream(alloc, stream) == Answer::Done,
-        Step::Tokens(rows) => count_told(alloc, stream, rows, 0, true) == rows.len(),
-        Step::Text(text) => shows(alloc, stream, text),
-        Step::Answer(answer) => answers(alloc, stream, answer, 0),
+        Step::Tokens(rows) => count_told(alloc, stream, *rows, 0, true) == rows.len(),
+        Step::Text(text) => shows(alloc, stream, *text),
+        Step::Answer(answer) => answers(alloc, stream, *answer, 0),
     }
 }
 
@@ -193,7 +149,7 @@ fn does(alloc: Global, stream: &mut TokenStream, step: Step) -> bool {
 fn goes_so(alloc: Global, file: &[u8], steps: &[Step]) -> bool {
     let mut stream = TokenStream::closed();
     let mut so = open_stream(alloc, &mut stream, file, true) == Answer::Done;
-    for &step in steps {
+    for step in steps {
         so = does(alloc, &mut stream, step) && so;
     }
     stream.close(alloc);

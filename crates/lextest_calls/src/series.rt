@@ -77,7 +77,6 @@ fn tells_one(scanner: &mut PullScanner<Flat>, rule: u32, start: u64, length: usi
 }
 
 /// What comes next.
-#[derive(Clone, Copy)]
 enum Step {
     /// These bytes are fed.
     Feed(&'static [u8]),
@@ -94,15 +93,15 @@ enum Step {
 }
 
 /// Whether this comes next.
-fn does(alloc: Global, scanner: &mut PullScanner<Flat>, step: Step) -> bool {
+fn does(alloc: Global, scanner: &mut PullScanner<Flat>, step: &Step) -> bool {
     match step {
-        Step::Feed(piece) => scanner.feed(piece) == Ok(()),
+        Step::Feed(piece) => scanner.feed(*piece) == Ok(()),
         Step::Finish => {
             scanner.finish();
             true
         }
-        Step::Several(start, wanted) => tells(alloc, scanner, start, wanted),
-        Step::One(rule, start, length) => tells_one(scanner, rule, start, length),
+        Step::Several(start, wanted) => tells(alloc, scanner, *start, *wanted),
+        Step::One(rule, start, length) => tells_one(scanner, *rule, *start, *length),
         Step::More => scanner.next() == Ok(Pulled::More),
         Step::End => scanner.next() == Ok(Pulled::Ended(0)),
     }
@@ -111,7 +110,7 @@ fn does(alloc: Global, scanner: &mut PullScanner<Flat>, step: Step) -> bool {
 /// Whether a scan by a specification goes so.
 fn goes_so(alloc: Global, text: &str, steps: &[Step]) -> Result<bool, Fail> {
     let mut scanner = PullScanner::new(alloc, machine_of(alloc, text)?);
-    for &step in steps {
+    for step in steps {
         if !does(alloc, &mut scanner, step) {
             return Ok(false);
         }
@@ -211,17 +210,20 @@ fn listed(alloc: Global, room: usize) -> Result<(Answer, usize, bool), Fail> {
     Ok((answer, count, so))
 }
 
+/// There is room for all, up to the middle of a series, and for none.
 #[test]
 fn lists_over_the_seams_of_series(rt: HostRuntime) -> Result<(), Fail> {
-    assert!(rt; listed(rt.alloc(), 20_000)? == (Answer::Done, 20_000, true));
-    Ok(())
-}
-
-/// There is room up to the middle of a series.
-#[test]
-fn lists_as_many_as_there_is_room_for(rt: HostRuntime) -> Result<(), Fail> {
-    assert!(rt; listed(rt.alloc(), 10_001)? == (Answer::TooSmall, 20_000, true));
-    assert!(rt; listed(rt.alloc(), 0)? == (Answer::TooSmall, 20_000, true));
+    const ROOMS: &[(usize, Answer)] = &[
+        (20_000, Answer::Done),
+        (10_001, Answer::TooSmall),
+        (0, Answer::TooSmall),
+    ];
+    for &(room, answer) in ROOMS {
+        assert!(rt;
+            listed(rt.alloc(), room)? == (answer, 20_000, true),
+            "{room}"
+        );
+    }
     Ok(())
 }
 
@@ -265,8 +267,8 @@ fn lists(
     Ok((answer, status) == ended && count == wanted.len() && are_listed(&tokens, wanted))
 }
 
-/// A text, an input, its tokens, and the status. One rule does more than write or begin a condition, and others do not.
-type Short = (&'static [u8], &'static [u8], &'static [Place], u8);
+/// A text, an input, its tokens, the answer and the status. One rule does more than write or begin a condition, and others do not.
+type Short = (&'static [u8], &'static [u8], &'static [Place], Answer, u8);
 
 const SHORT: &[Short] = &[
     // The longest match is rejected, and the next one carried out.
@@ -281,6 +283,7 @@ const SHORT: &[Short] = &[
             (4, 5, 0),
             (5, 6, 0),
         ],
+        Answer::Done,
         0,
     ),
     // What a match gives back is scanned again.
@@ -296,6 +299,7 @@ const SHORT: &[Short] = &[
             (5, 6, 0),
             (6, 7, 0),
         ],
+        Answer::Done,
         0,
     ),
     // The end of the input has a rule.
@@ -303,7 +307,16 @@ const SHORT: &[Short] = &[
         b"%%\na ;\n<<EOF>> exit(3);\n",
         b"aaa",
         &[(0, 1, 0), (1, 2, 0), (2, 3, 0)],
+        Answer::Done,
         3,
+    ),
+    // The stack is at fault behind three tokens.
+    (
+        b"%option stack\n%%\na ;\nb yy_pop_state();\n",
+        b"aaaba",
+        &[(0, 1, 0), (1, 2, 0), (2, 3, 0)],
+        Answer::Stack,
+        0,
     ),
     // A token begins before the end of the one before it, and those behind it keep their places.
     (
@@ -319,15 +332,16 @@ const SHORT: &[Short] = &[
             (7, 8, 2),
             (8, 9, 2),
         ],
+        Answer::Done,
         0,
     ),
 ];
 
 #[test]
 fn lists_those_that_a_series_stops_before(rt: HostRuntime) -> Result<(), Fail> {
-    for &(text, input, wanted, status) in SHORT {
+    for &(text, input, wanted, answer, status) in SHORT {
         assert!(rt;
-            lists(rt.alloc(), text, input, wanted, (Answer::Done, status))?,
+            lists(rt.alloc(), text, input, wanted, (answer, status))?,
             "{status}"
         );
     }
@@ -375,14 +389,5 @@ fn lists_long_texts(rt: HostRuntime) -> Result<(), Fail> {
             "{size}"
         );
     }
-    Ok(())
-}
-
-/// The tokens before a fault of the stack.
-#[test]
-fn lists_up_to_a_fault_of_the_stack(rt: HostRuntime) -> Result<(), Fail> {
-    let text = b"%option stack\n%%\na ;\nb yy_pop_state();\n";
-    let wanted = [(0, 1, 0), (1, 2, 0), (2, 3, 0)];
-    assert!(rt; lists(rt.alloc(), text, b"aaaba", &wanted, (Answer::Stack, 0))?);
     Ok(())
 }

@@ -47,7 +47,6 @@ pub(crate) fn go_on(scanner: &mut Turns<'_, '_>, count: usize) -> bool {
 }
 
 /// What the next turns do.
-#[derive(Clone, Copy)]
 enum Step {
     /// So many go on.
     Go(usize),
@@ -62,21 +61,21 @@ enum Step {
 }
 
 /// Whether the next turns do so.
-fn does(scanner: &mut Turns<'_, '_>, step: Step) -> bool {
+fn does(scanner: &mut Turns<'_, '_>, step: &Step) -> bool {
     match step {
-        Step::Go(count) => go_on(scanner, count),
+        Step::Go(count) => go_on(scanner, *count),
         Step::GoTo(taken, held) => {
             turn(scanner) == Ok(Turn::Went)
-                && scanner.taken() == taken
+                && scanner.taken() == *taken
                 && scanner.held() == held.as_bytes()
         }
         Step::Answer(answer, taken, held) => {
-            turn(scanner) == answer && scanner.taken() == taken && scanner.held().len() == held
+            turn(scanner) == *answer && scanner.taken() == *taken && scanner.held().len() == *held
         }
         Step::End(status) => {
-            turn(scanner) == Ok(Turn::Ended(status)) && scanner.held().is_empty()
+            turn(scanner) == Ok(Turn::Ended(*status)) && scanner.held().is_empty()
         }
-        Step::Fail(error) => turn(scanner) == Err(error),
+        Step::Fail(error) => turn(scanner) == Err(*error),
     }
 }
 
@@ -96,7 +95,7 @@ fn goes_so_by(alloc: Global, machine: &Flat, row: &Scan) -> bool {
     let mut sink = sink_that(alloc, failing);
     let mut scanner = Scanner::new(alloc, machine, &mut source, &mut sink, 10_000);
     let mut so = true;
-    for &step in steps {
+    for step in steps {
         so = does(&mut scanner, step) && so;
     }
     scanner.sink().written() == written.as_bytes() && so

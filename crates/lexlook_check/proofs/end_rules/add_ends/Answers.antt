@@ -1,0 +1,6 @@
+use Rattle.std.proofs.Common.{arith}
+use Rattle.std.proofs.lemmas.Grind.{common_steps}
+use Rattle.lexlook_check.proofs.end_rules.add_ends.Goals as goal
+
+pub loop-line-preserved : goal.loop-line-preserved
+loop-line-preserved c = grind (arith, common_steps)
