@@ -42,9 +42,13 @@ const BYTES_PER_CELL: usize = 16;
 /// How many cells of a row are looked at for a state at most.
 const MOST_PROBES: usize = 8;
 
+/// How many cells there are at most for as many bytes, where many walks lead to no match and none to one.
+const MOST_CELLS: usize = 4;
+
 /// Marks at each place that is a multiple of the stride, in a table with a row of cells for each such place, used
-/// over and over as the scan goes on. The cells of a row stand `rows` apart. Where a row is full the next table has
-/// half as many, each twice as long. Walks that lead to a match have a table of the same shape, once there was one.
+/// over and over as the scan goes on. The cells of a row stand `rows` apart. Where a row is full the rows of the next
+/// table are twice as long, in more memory at first, and then there are half as many. Walks that lead to a match have a
+/// table of the same shape, once there was one.
 #[derive(Drop)]
 pub struct Memo {
     cells: Vec<Cell>,
@@ -162,16 +166,51 @@ impl Memo {
         ensures { (m : Mark) → Among self.new m → Among self.old m ⊎ (m ≡ unmarked) }
     {
         let size = self.cells.len();
-        let wanted = bytes / BYTES_PER_CELL + 1;
+        let wanted = (bytes / BYTES_PER_CELL + 1).saturating_mul(self.density());
         if size < wanted {
             self.lay_out(wanted.saturating_add(wanted / 2));
         } else if self.crowded && 1 < self.rows {
-            self.ways = self.ways.saturating_mul(2);
-            self.stride = self.stride.saturating_mul(2);
-            self.lay_out(size);
+            self.make_rows_longer(size);
         } else if self.wants_walks && self.walks.is_empty() {
-            self.lay_out_walks(size);
+            self.add_walks(size);
         }
+    }
+
+    /// How many cells there are for so many bytes as have one at first.
+    fn density(&self) -> usize
+        ensures { 0 < result }
+    {
+        (self.ways.saturating_mul(BYTES_PER_CELL) / self.stride).max(1)
+    }
+
+    /// A table without marks that has room for twice as many states at a place: in more memory, or at half as many
+    /// places. The longer the stride is, the more bytes a walk goes over before it comes to a mark.
+    fn make_rows_longer(&mut self, size: usize)
+        ensures { (m : Mark) → Among self.new m → m ≡ unmarked }
+    {
+        self.ways = self.ways.saturating_mul(2);
+        if !self.wants_walks && self.density() <= MOST_CELLS {
+            self.lay_out(size.saturating_mul(2));
+            return;
+        }
+        self.stride = self.stride.saturating_mul(2);
+        self.lay_out(size);
+    }
+
+    /// Makes room for walks that lead to a match, which take more memory than the others. So there are fewer places
+    /// where these took more.
+    fn add_walks(&mut self, size: usize)
+        ensures { (m : Mark) → Among self.new m → Among self.old m ⊎ (m ≡ unmarked) }
+    {
+        let density = self.density();
+        if density == 1 {
+            self.lay_out_walks(size);
+            return;
+        }
+        self.stride = self.stride.saturating_mul(density);
+        self.cells.clear();
+        self.cells.shrink_to_fit();
+        self.lay_out(size / density);
     }
 
     /// A table without marks, of this size, or none where memory is refused.
