@@ -34,14 +34,15 @@ pub fn starts_line(line_start: bool, text: &[u8], count: usize) -> bool
 }
 
 /// Turns over a text, of which the first bytes are held and the others are those that the source has ready, as long
-/// as each match ends in the text and its rule is told at a glance.
-#[inline(never)]
-pub fn burst_over<M: Machine, K: Sink>(
+/// as each match ends in the text and its rule is told at a glance. A run of one-byte matches may be passed at once.
+#[inline(always)]
+fn burst_by<M: Machine, K: Sink>(
     machine: &M,
     outlet: &mut Outlet<'_, K>,
     text: &[u8],
     held: usize,
     place: TextPlace,
+    passing: bool,
 ) -> Burst
     requires live { can_write outlet.old ≡ true }
     requires condition { place.condition < (M.machine machine.now).conditions }
@@ -53,7 +54,7 @@ pub fn burst_over<M: Machine, K: Sink>(
     // How many bytes at the end of the text no match has asked for, if no fewer are left.
     let mut unasked = text.len() - held;
     let mut condition = place.condition;
-    let mut singles = machine.has_singles(condition);
+    let mut singles = passing && machine.has_singles(condition);
     let mut fault = false;
     let mut first = machine.start(condition, place.line_start);
     'turns: while !rest.is_empty() {
@@ -76,7 +77,7 @@ pub fn burst_over<M: Machine, K: Sink>(
             fault = true;
             break 'turns;
         };
-        singles = singles_after(machine, singles, condition, after);
+        singles = singles_after(machine, passing, singles, condition, after);
         condition = after;
         first = machine.start(condition, said[longest.keep - 1] == b'\n');
         let tried = singles && matches!(longest.gist, Gist::Echo);
@@ -91,4 +92,60 @@ pub fn burst_over<M: Machine, K: Sink>(
         condition,
         fault,
     }
+}
+
+/// The same turn by turn. It stands by itself, so that its loop is small.
+#[inline(never)]
+fn plain_burst<M: Machine, K: Sink>(
+    machine: &M,
+    outlet: &mut Outlet<'_, K>,
+    text: &[u8],
+    held: usize,
+    place: TextPlace,
+) -> Burst
+    requires live { can_write outlet.old ≡ true }
+    requires condition { place.condition < (M.machine machine.now).conditions }
+    requires held { held ≤ length text.now }
+
+    ensures { BurstMade (M.machine machine.now) outlet.old outlet.new text.now held place result }
+{
+    burst_by(machine, outlet, text, held, place, false)
+}
+
+/// The same with runs that are passed at once.
+#[inline(never)]
+fn passing_burst<M: Machine, K: Sink>(
+    machine: &M,
+    outlet: &mut Outlet<'_, K>,
+    text: &[u8],
+    held: usize,
+    place: TextPlace,
+) -> Burst
+    requires live { can_write outlet.old ≡ true }
+    requires condition { place.condition < (M.machine machine.now).conditions }
+    requires held { held ≤ length text.now }
+
+    ensures { BurstMade (M.machine machine.now) outlet.old outlet.new text.now held place result }
+{
+    burst_by(machine, outlet, text, held, place, true)
+}
+
+/// The same. Runs are passed where most bytes are one-byte matches in the first condition.
+pub fn burst_over<M: Machine, K: Sink>(
+    machine: &M,
+    outlet: &mut Outlet<'_, K>,
+    text: &[u8],
+    held: usize,
+    place: TextPlace,
+) -> Burst
+    requires live { can_write outlet.old ≡ true }
+    requires condition { place.condition < (M.machine machine.now).conditions }
+    requires held { held ≤ length text.now }
+
+    ensures { BurstMade (M.machine machine.now) outlet.old outlet.new text.now held place result }
+{
+    if machine.has_singles(place.condition) {
+        return passing_burst(machine, outlet, text, held, place);
+    }
+    plain_burst(machine, outlet, text, held, place)
 }

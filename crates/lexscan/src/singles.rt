@@ -57,12 +57,19 @@ pub fn pass_copied<'t, M: Machine, K: Sink>(
     &bytes[held..]
 }
 
-/// Whether most bytes are matches by themselves in the condition after a turn, where it is known of that before.
+/// Whether most bytes are matches by themselves in the condition after a turn, where it is known of that before. Where
+/// runs are not passed, nothing changes.
 #[inline(always)]
-pub fn singles_after<M: Machine>(machine: &M, singles: bool, condition: u8, after: u8) -> bool
+pub fn singles_after<M: Machine>(
+    machine: &M,
+    passing: bool,
+    singles: bool,
+    condition: u8,
+    after: u8,
+) -> bool
     requires { after < (M.machine machine.now).conditions }
 {
-    if after == condition {
+    if !passing || after == condition {
         return singles;
     }
     machine.has_singles(after)

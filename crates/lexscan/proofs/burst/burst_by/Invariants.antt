@@ -1,6 +1,6 @@
 use Rattle.std.proofs.Common.{◌≡◌, ◌<◌, true, false, length}
 use Rattle.lexscan.proofs.Passing.{Place}
-use Rattle.lexscan.proofs.burst.burst_over.Given as goal
+use Rattle.lexscan.proofs.burst.burst_by.Given as goal
 
 abbrev pub invariant-turns : goal.invariant-turns
 invariant-turns g l =

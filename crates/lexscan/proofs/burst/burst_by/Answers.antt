@@ -6,8 +6,8 @@ use Rattle.lexscan_matching.specs.declared.glanced.GlancedMatch.{GlancedMatch}
 use Rattle.lex_machine.proofs.Growing.{is_text_from}
 use Rattle.lex_machine.specs.declared.glance.Gist.TheVariants.{Silent}
 use Rattle.lexscan.proofs.Passing as Pass
-use Rattle.lexscan.proofs.burst.burst_over.Goals as goal
-use Rattle.lexscan.proofs.burst.burst_over.Goals.{else-turns-test, then-turns-test+in_default, then-turns-test+in-Some+in_default-silent_part+then-not-names_rule, then-turns-test+in-Some+in_default-silent_part+else-not-names_rule+in_default-do_gist}
+use Rattle.lexscan.proofs.burst.burst_by.Goals as goal
+use Rattle.lexscan.proofs.burst.burst_by.Goals.{else-turns-test, then-turns-test+in_default, then-turns-test+in-Some+in_default-silent_part+then-not-names_rule, then-turns-test+in-Some+in_default-silent_part+else-not-names_rule+in_default-do_gist}
 
 pub turns-init : goal.turns-init
 turns-init g c = record {
