@@ -7,7 +7,7 @@ ghost use Rattle.lexscan.specs.Pushes.{IsReachable, WentBack, TurnsOver};
 ghost use Rattle.lexscan.specs.Attempts.{Attempted, IsPaused, TurnsCount, TurnsLeft};
 ghost use Rattle.lexscan.specs.Runs.{FewCounts};
 
-use crate::further::MOST_SHOWN;
+use crate::further::{InVain, MOST_SHOWN};
 use crate::scan::{Ends, Scan};
 use crate::turn::Turn;
 use lex_io::{Sink, Source};
@@ -80,8 +80,9 @@ impl Scan {
     {
         let mut stack = Stack::new();
         let mut most = MOST_SHOWN;
+        let mut in_vain = InVain::new();
         'turns: loop {
-            most = self.go_further_unless_behind(machine, ends, most)?;
+            most = self.go_further_unless_behind(machine, ends, most, &mut in_vain)?;
             match self.attempt(machine, ends, &mut stack)? {
                 None => return Ok(Turn::Went),
                 Some(Turn::Ended(status)) => return Ok(Turn::Ended(status)),

@@ -11,7 +11,8 @@ use lexscan_matching::{do_gist, longest_match, names_rule, silent_part};
 use lexscan_window::{Outlet, TextPlace};
 
 /// Where some turns over a text led: how many bytes they are done with, how many they asked for, the start of a line
-/// and the condition there, and whether the sink failed in the next turn.
+/// and the condition there, whether the sink failed in the next turn, and how many bytes were passed in runs, where runs
+/// were looked for.
 #[derive(Clone, Copy)]
 pub struct Burst {
     pub done: usize,
@@ -19,6 +20,7 @@ pub struct Burst {
     pub line_start: bool,
     pub condition: u8,
     pub fault: bool,
+    pub passed: Option<usize>,
 }
 
 /// Whether a line starts after so many bytes of a text, where one starts at its front or not.
@@ -31,6 +33,12 @@ pub fn starts_line(line_start: bool, text: &[u8], count: usize) -> bool
     } else {
         text[count - 1] == b'\n'
     }
+}
+
+/// How many bytes were passed in runs, where runs are looked for.
+#[inline(always)]
+fn passed_in_runs(passing: bool, passed: usize) -> Option<usize> {
+    if passing { Some(passed) } else { None }
 }
 
 /// Turns over a text, of which the first bytes are held and the others are those that the source has ready, as long
@@ -55,6 +63,7 @@ fn burst_by<M: Machine, K: Sink>(
     let mut unasked = text.len() - held;
     let mut condition = place.condition;
     let mut singles = passing && machine.has_singles(condition);
+    let mut passed = 0usize;
     let mut fault = false;
     let mut first = machine.start(condition, place.line_start);
     'turns: while !rest.is_empty() {
@@ -64,7 +73,9 @@ fn burst_by<M: Machine, K: Sink>(
         if let Some(keep) = silent_part(machine, way) {
             unasked = unasked.min(rest.len() - way.count);
             first = machine.start(condition, rest[keep - 1] == b'\n');
-            rest = pass_dropped(machine, singles, condition, first, &rest[keep..]);
+            let left = &rest[keep..];
+            rest = pass_dropped(machine, singles, condition, first, left);
+            passed = passed.wrapping_add(left.len() - rest.len());
             continue 'turns;
         }
         let longest = longest_match(machine, first, rest, way);
@@ -83,6 +94,7 @@ fn burst_by<M: Machine, K: Sink>(
         let tried = singles && matches!(longest.gist, Gist::Echo);
         let left = &rest[longest.keep..];
         rest = pass_copied(machine, outlet, tried, condition, first, left);
+        passed = passed.wrapping_add(left.len() - rest.len());
     }
     let done = text.len() - rest.len();
     Burst {
@@ -91,6 +103,7 @@ fn burst_by<M: Machine, K: Sink>(
         line_start: starts_line(place.line_start, text, done),
         condition,
         fault,
+        passed: passed_in_runs(passing, passed),
     }
 }
 
@@ -130,13 +143,14 @@ fn passing_burst<M: Machine, K: Sink>(
     burst_by(machine, outlet, text, held, place, true)
 }
 
-/// The same. Runs are passed where most bytes are one-byte matches in the first condition.
+/// The same. Runs are passed where they are looked for, and most bytes are one-byte matches in the first condition.
 pub fn burst_over<M: Machine, K: Sink>(
     machine: &M,
     outlet: &mut Outlet<'_, K>,
     text: &[u8],
     held: usize,
     place: TextPlace,
+    looking: bool,
 ) -> Burst
     requires live { can_write outlet.old ≡ true }
     requires condition { place.condition < (M.machine machine.now).conditions }
@@ -144,7 +158,7 @@ pub fn burst_over<M: Machine, K: Sink>(
 
     ensures { BurstMade (M.machine machine.now) outlet.old outlet.new text.now held place result }
 {
-    if machine.has_singles(place.condition) {
+    if looking && machine.has_singles(place.condition) {
         return passing_burst(machine, outlet, text, held, place);
     }
     plain_burst(machine, outlet, text, held, place)

@@ -47,6 +47,43 @@ pub fn next_most(most: usize, done: usize) -> usize {
     }
 }
 
+/// How many bursts in a row may look for runs and pass few bytes in them.
+const MOST_IN_VAIN: u8 = 4;
+
+/// How many bursts then go by until one looks for runs again, with those before.
+const UNTIL_AGAIN: u8 = 68;
+
+/// How many bursts in a row looked for runs of one-byte matches in vain, and then how many went by since.
+#[derive(Clone, Copy)]
+pub struct InVain {
+    bursts: u8,
+}
+
+impl InVain {
+    /// Where none did.
+    pub fn new() -> InVain {
+        InVain { bursts: 0 }
+    }
+
+    /// Whether the next burst looks for runs.
+    #[inline]
+    fn looks(self) -> bool {
+        self.bursts < MOST_IN_VAIN
+    }
+
+    /// The same after one burst more. A run is worth its look where an eighth of the bytes is passed so.
+    #[inline]
+    fn after(self, done: usize, passed: Option<usize>) -> InVain {
+        let bursts = match passed {
+            Some(passed) if 0 < passed && done / 8 <= passed => 0,
+            None if self.looks() => self.bursts,
+            None if UNTIL_AGAIN <= self.bursts => MOST_IN_VAIN - 1,
+            _ => self.bursts.saturating_add(1),
+        };
+        InVain { bursts }
+    }
+}
+
 impl Scan {
     /// Turns over the bytes held and at most this many of those that the source has ready, as long as each match ends
     /// among them and its rule is told at a glance. Answers how many are to be shown the next time.
@@ -55,6 +92,7 @@ impl Scan {
         machine: &M,
         ends: &mut Ends<'_, '_, S, K>,
         most: usize,
+        in_vain: &mut InVain,
     ) -> Result<usize, RunError>
         requires going { IsGoing self.old }
         requires ready { MayTurn (M.machine machine.now) ends.old self.old }
@@ -73,7 +111,16 @@ impl Scan {
         let held = self.state.reading.window.len();
         let shown = self.state.reading.window.show(ends.intake.ahead(), allowed);
         let text = self.state.reading.window.text(shown);
-        let burst = burst_over(machine, &mut ends.outlet, text, held, self.state.place);
+        let place = self.state.place;
+        let burst = burst_over(
+            machine,
+            &mut ends.outlet,
+            text,
+            held,
+            place,
+            in_vain.looks(),
+        );
+        *in_vain = in_vain.after(burst.done, burst.passed);
         // What no turn has asked for stays with the source.
         let got = burst.asked - held;
         ends.intake.give(got);
@@ -91,6 +138,7 @@ impl Scan {
         machine: &M,
         ends: &mut Ends<'_, '_, S, K>,
         most: usize,
+        in_vain: &mut InVain,
     ) -> Result<usize, RunError>
         requires going { IsGoing self.old }
         requires ready { MayTurn (M.machine machine.now) ends.old self.old }
@@ -99,6 +147,6 @@ impl Scan {
         if has_backlog(&self.state) {
             return Ok(most);
         }
-        self.go_further(machine, ends, most)
+        self.go_further(machine, ends, most, in_vain)
     }
 }

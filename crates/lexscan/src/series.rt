@@ -141,6 +141,7 @@ fn series_over<M: Machine>(
         line_start: starts_line(place.line_start, text, done),
         condition,
         fault: false,
+        passed: None,
     }
 }
 

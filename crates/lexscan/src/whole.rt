@@ -7,7 +7,7 @@ ghost use Rattle.lexscan.specs.Runs.{Ran, FewReads, FewCounts, RunCounts};
 ghost use Rattle.lexscan.specs.Scans.{IsFresh, RunMade};
 
 use crate::find::has_backlog;
-use crate::further::MOST_SHOWN;
+use crate::further::{InVain, MOST_SHOWN};
 use crate::scan::{Ends, Scan};
 use crate::turn::Turn;
 use lex_io::{Sink, Source};
@@ -75,8 +75,9 @@ fn run_with_reject<M: Machine, S: Source, K: Sink>(
     ensures { RunMade (M.machine machine.now) ends.old ends.new scan.old result }
 {
     let mut most = MOST_SHOWN;
+    let mut in_vain = InVain::new();
     'turns: loop {
-        most = scan.go_further(machine, ends, most)?;
+        most = scan.go_further(machine, ends, most, &mut in_vain)?;
         match scan.turn_with_reject(machine, ends)? {
             Turn::Ended(status) => return Ok(status),
             Turn::Went => {}
@@ -96,6 +97,7 @@ fn run_without_reject<M: Machine, S: Source, K: Sink>(
     ensures { RunMade (M.machine machine.now) ends.old ends.new scan.old result }
 {
     let mut most = MOST_SHOWN;
+    let mut in_vain = InVain::new();
     'turns: loop {
         // A burst keeps no marks: over a long backlog its walks would take time in the square of it.
         if has_backlog(&scan.state) {
@@ -104,7 +106,7 @@ fn run_without_reject<M: Machine, S: Source, K: Sink>(
                 Turn::Went => {}
             }
         } else {
-            most = scan.go_further(machine, ends, most)?;
+            most = scan.go_further(machine, ends, most, &mut in_vain)?;
             match scan.turn_without_reject(machine, ends)? {
                 Turn::Ended(status) => return Ok(status),
                 Turn::Went => {}

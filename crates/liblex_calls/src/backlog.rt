@@ -158,6 +158,20 @@ impl Sink for Backlog {
         Ok(())
     }
 
+    /// How many bytes there is room for.
+    #[inline]
+    fn room(&self) -> usize {
+        self.buffer.len() - self.end
+    }
+
+    /// Keeps as many of the bytes as there is room for.
+    #[inline]
+    fn hold(&mut self, bytes: &[u8]) -> usize {
+        let count = bytes.len().min(self.buffer.len() - self.end);
+        self.append(&bytes[..count]);
+        count
+    }
+
     ghost wrote_none = { λ s. Kept-nil (rest s) };
 
     ghost wrote_more = { λ s t u xs ys p q. Kept-trans (rest s) (rest t) (rest u) xs ys p q };

@@ -54,6 +54,21 @@ impl Sink for Kept {
         Ok(())
     }
 
+    /// As many as memory has room for: that is not known before.
+    #[inline]
+    fn room(&self) -> usize {
+        usize::MAX
+    }
+
+    /// Keeps all of the bytes, or none where memory is refused.
+    #[inline]
+    fn hold(&mut self, bytes: &[u8]) -> usize {
+        match self.bytes.extend_from_slice(bytes) {
+            Ok(()) => bytes.len(),
+            Err(_) => 0,
+        }
+    }
+
     ghost wrote_none = { λ s. Kept-nil s.bytes.items };
 
     ghost wrote_more = { λ s t u xs ys p q. Kept-trans s.bytes.items t.bytes.items u.bytes.items xs ys p q };
