@@ -9,9 +9,7 @@ use crate::scan::{Ends, Scan};
 use crate::turn::Turn;
 use lex_io::{Sink, Source};
 use lex_machine::Machine;
-use lexscan_matching::{
-    Ahead, LookAhead, look, look_ahead, look_ahead_last, look_ahead_more, note,
-};
+use lexscan_matching::{Ahead, LookAhead, look, look_ahead, look_ahead_last, look_ahead_more};
 use lexscan_window::{RunError, State};
 
 /// How many bytes a match goes over again at most, before what was known of walks over them is kept.
@@ -130,12 +128,11 @@ impl Scan {
         let reading = &self.state.reading;
         let held = reading.window.len();
         self.memo.fit(held - place.at);
-        match look(machine, &self.state.reading, &self.memo, place) {
+        match look(machine, &self.state.reading, &mut self.memo, place) {
             // The walk came to the end of the bytes held.
             Ahead::Open(ahead) => self.match_past_held(machine, ends, ahead),
             // It came to a mark, or the machine asks for no more.
             Ahead::Settled(settled) => {
-                note(machine, &self.state.reading, &mut self.memo, place, settled);
                 let ahead = LookAhead {
                     reach: settled.keep,
                     state: settled.state,

@@ -13,7 +13,10 @@ use Rattle.lex_machine.specs.Quiets.{NoneFits}
 use Rattle.lex_semantics.proofs.MachineRun.{match_sound}
 use Rattle.lexscan_matching.proofs.Descending.{no_match}
 use Rattle.lex_semantics.specs.Trail.{falling}
+use Rattle.lexscan_matching.specs.declared.back.Ahead.{Ahead}
+use Rattle.lexscan_matching.specs.declared.back.Passed.{Passed}
 use Rattle.lexscan_matching.specs.declared.back.Settled.{Settled}
+use Rattle.lexscan_matching.specs.declared.back.Walked.{Walked}
 use Rattle.lexscan_window.specs.declared.memo.Mark.{Mark}
 use Rattle.lexscan_window.specs.declared.state.Reading.{Reading}
 use Rattle.lexscan_window.specs.declared.state.TextPlace.{TextPlace}
@@ -21,7 +24,7 @@ use Rattle.lexscan_window.specs.Reads.{Took}
 use Rattle.lexscan_matching.specs.Looks.{SoFar, Looked, IsLiveAfter}
 use Rattle.lexscan_matching.specs.Picks.{path_of, state_at}
 use Rattle.lexscan_window.specs.Memos.{Barren, GoesOver, TellsWalk, IsTrueMark, AreTrue, silent, unmarked}
-use Rattle.lexscan_matching.specs.Backs.{IsSettled}
+use Rattle.lexscan_matching.specs.Backs.{IsOnTheWay, WalkedOver, settled_of, IsSettled, LooksAhead}
 use Rattle.lex_semantics.proofs.MachineLaws.{walk-append}
 use Rattle.lex_semantics.proofs.States.{states_below}
 use Rattle.lex_semantics.proofs.Texts.{is_text_take}
@@ -151,89 +154,83 @@ module _ (M : Machine) (p : TextPlace) (w : List ℕ) (e : Bool) where
       barren_back k (omega (arith, le)) (none (k + 1) (omega arith) (omega arith))
       (barren_before m (k + 1) (omega (arith, le)) (λ j lt to. none j (omega (arith, lt)) (omega (arith, to))) (subst BarrenFrom same h))
 
--- What a walk over the bytes held has shown so far.
-pub record LookedAt (M : Machine) (states : ℕ) (p : TextPlace) (r : Reading) (len state before : ℕ) (a : Settled) : Type 0 where
-  pub inside : p.at + len ≤ length r.window.bytes
-  pub so_far : SoFar M p (drop p.at r.window.bytes) len state (path_of M p r.window.bytes len)
-  pub before_is : 1 ≤ len → before ≡ state_at M p r.window.bytes (len - 1)
-  pub state_known : state < states
-  pub before_known : before < states
-  pub len_is : a.len ≡ len
-  pub some : 1 ≤ len → 1 ≤ a.keep
-  pub order : a.keep ≤ len
-  pub kept_is : a.state ≡ state_at M p r.window.bytes a.keep
-  pub kept_known : a.state < states
-  pub kept_before : 1 ≤ a.keep → a.before ≡ state_at M p r.window.bytes (a.keep - 1)
-  pub kept_before_known : a.before < states
-  pub none : (k : ℕ) → a.keep < k → k ≤ len → NoneFits M (state_at M p r.window.bytes k)
+-- what was seen so far, after one byte more
+so_far_more : (M : Machine) (p : TextPlace) (w : List ℕ) (len state s : ℕ) → SoFar M p (drop p.at w) len state (path_of M p w len) → (1 ≤ len → M.goes_on state ≡ true) → p.at + len < length w → s ≡ M.next state (get_or w (p.at + len) 0) →
+    SoFar M p (drop p.at w) (len + 1) s (path_of M p w (len + 1))
+so_far_more M p w len state s h live lt stepped = subst (λ t. SoFar M p (drop p.at w) (len + 1) s t) next.path_is next
+  where
+    next : SoFar M p (drop p.at w) (len + 1) s (path_of M p w len ++ s ∷ [])
+    next = step_more M p w w [] len state s (path_of M p w len) (path_of M p w len ++ s ∷ []) (omega (arith, lt)) (sym (append-nil w)) lt h live stepped refl
 
-pub looked_more : (M : Machine) (states : ℕ) (p : TextPlace) (r : Reading) (len state before s : ℕ) (a b : Settled) → LookedAt M states p r len state before a → (1 ≤ len → M.goes_on state ≡ true) → p.at + len < length r.window.bytes →
-    s ≡ M.next state (get_or r.window.bytes (p.at + len) 0) → s < states → (silent : Bool) → (silent ≡ true → NoneFits M s) → b.len ≡ len + 1 →
-    ((b.keep ≡ len + 1) × (b.state ≡ s) × (b.before ≡ state)) ⊎ ((b.keep ≡ a.keep) × (b.state ≡ a.state) × (b.before ≡ a.before) × (0 < a.keep) × (silent ≡ true)) → LookedAt M states p r (len + 1) s state b
-looked_more M states p r len state before s a b h live lt stepped known silent quiet sized kept = record {
+-- a walk over the first byte
+pub walked_first : (M : Machine) (states : ℕ) (p : TextPlace) (r : Reading) (first s : ℕ) → p.at < length r.window.bytes → first ≡ M.start p.condition p.line_start → first < states → s ≡ M.next first (get_or r.window.bytes p.at 0) → s < states →
+    WalkedOver M states p r (record { len = 1; state = s; before = first; keep = 1; kept = s; kept_before = first })
+walked_first M states p r first s lt is first_known stepped known = record {
   inside = omega (arith, lt);
-  so_far = so_far_next;
-  before_is = λ some. h.so_far.state_is ∙ ap (λ k. state_at M p w k) (omega arith);
-  state_known = known;
-  before_known = h.state_known;
-  len_is = sized;
-  some = λ _. some kept;
-  order = order kept;
-  kept_is = kept_is kept;
-  kept_known = kept_known kept;
-  kept_before = λ one. kept_before kept one;
-  kept_before_known = kept_before_known kept;
-  none = λ k lo hi. none kept k lo hi;
+  so_far = so_far;
+  before_is = is;
+  known = known;
+  known_before = first_known;
+  some = omega arith;
+  order = omega arith;
+  kept_is = so_far.state_is;
+  kept_known = known;
+  kept_before_is = is;
+  kept_before_known = first_known;
+  none = λ k lo hi. absurd (omega (arith, lo, hi));
 }
   where
-    w : List ℕ
-    w = r.window.bytes
+    so_far : SoFar M p (drop p.at r.window.bytes) 1 s (path_of M p r.window.bytes 1)
+    so_far = so_far_more M p r.window.bytes 0 first s (record { inside = omega arith; state_is = is; asked = λ i some lt. absurd (omega (arith, some, lt)); path_is = refl }) (λ some. absurd (omega (arith, some))) (omega (arith, lt))
+        (stepped ∙ ap (λ i. M.next first (get_or r.window.bytes i 0)) (omega arith))
 
-    le : p.at ≤ length w
-    le = omega (arith, lt)
+-- one byte more, after which no rule fits
+pub walked_more : (M : Machine) (states : ℕ) (p : TextPlace) (r : Reading) (a : Walked) (s : ℕ) → WalkedOver M states p r a → M.goes_on a.state ≡ true → p.at + a.len < length r.window.bytes → s ≡ M.next a.state (get_or r.window.bytes (p.at + a.len) 0) → s < states → NoneFits M s →
+    WalkedOver M states p r (record { len = a.len + 1; state = s; before = a.state; keep = a.keep; kept = a.kept; kept_before = a.kept_before })
+walked_more M states p r a s h live lt stepped known quiet = record {
+  inside = omega (arith, lt);
+  so_far = so_far;
+  before_is = h.so_far.state_is ∙ ap (λ k. state_at M p r.window.bytes k) (omega arith);
+  known = known;
+  known_before = h.known;
+  some = h.some;
+  order = omega (arith, h.order);
+  kept_is = h.kept_is;
+  kept_known = h.kept_known;
+  kept_before_is = h.kept_before_is;
+  kept_before_known = h.kept_before_known;
+  none = λ k lo hi. elim (cases_lt a.len k) [
+    | inl more ↦ subst (λ n. NoneFits M (state_at M p r.window.bytes n)) (omega (arith, more, hi)) (subst (NoneFits M) so_far.state_is quiet)
+    | inr less ↦ h.none k lo less
+  ];
+}
+  where
+    so_far : SoFar M p (drop p.at r.window.bytes) (a.len + 1) s (path_of M p r.window.bytes (a.len + 1))
+    so_far = so_far_more M p r.window.bytes a.len a.state s h.so_far (λ some. live) lt stepped
 
-    next : SoFar M p (drop p.at w) (len + 1) s (path_of M p w len ++ s ∷ [])
-    next = step_more M p w w [] len state s (path_of M p w len) (path_of M p w len ++ s ∷ []) le (sym (append-nil w)) lt h.so_far live stepped refl
+-- one byte more, after which a rule may fit
+pub walked_fit : (M : Machine) (states : ℕ) (p : TextPlace) (r : Reading) (a : Walked) (s : ℕ) → WalkedOver M states p r a → M.goes_on a.state ≡ true → p.at + a.len < length r.window.bytes → s ≡ M.next a.state (get_or r.window.bytes (p.at + a.len) 0) → s < states →
+    WalkedOver M states p r (record { len = a.len + 1; state = s; before = a.state; keep = a.len + 1; kept = s; kept_before = a.state })
+walked_fit M states p r a s h live lt stepped known = record {
+  inside = omega (arith, lt);
+  so_far = so_far;
+  before_is = before_is;
+  known = known;
+  known_before = h.known;
+  some = omega arith;
+  order = omega arith;
+  kept_is = so_far.state_is;
+  kept_known = known;
+  kept_before_is = before_is;
+  kept_before_known = h.known;
+  none = λ k lo hi. absurd (omega (arith, lo, hi));
+}
+  where
+    so_far : SoFar M p (drop p.at r.window.bytes) (a.len + 1) s (path_of M p r.window.bytes (a.len + 1))
+    so_far = so_far_more M p r.window.bytes a.len a.state s h.so_far (λ some. live) lt stepped
 
-    so_far_next : SoFar M p (drop p.at w) (len + 1) s (path_of M p w (len + 1))
-    so_far_next = subst (λ t. SoFar M p (drop p.at w) (len + 1) s t) next.path_is next
-
-    Kept : Type 0
-    Kept = ((b.keep ≡ len + 1) × (b.state ≡ s) × (b.before ≡ state)) ⊎ ((b.keep ≡ a.keep) × (b.state ≡ a.state) × (b.before ≡ a.before) × (0 < a.keep) × (silent ≡ true))
-
-    some : Kept → 1 ≤ b.keep
-    some (inl k) = omega (arith, k.0)
-    some (inr k) = omega (arith, k.0, k.3)
-
-    order : Kept → b.keep ≤ len + 1
-    order (inl k) = omega (arith, k.0)
-    order (inr k) = omega (arith, k.0, h.order)
-
-    kept_is : Kept → b.state ≡ state_at M p w b.keep
-    kept_is (inl k) = k.1 ∙ next.state_is ∙ ap (λ n. state_at M p w n) (sym k.0)
-    kept_is (inr k) = k.1 ∙ h.kept_is ∙ ap (λ n. state_at M p w n) (sym k.0)
-
-    kept_known : Kept → b.state < states
-    kept_known (inl k) = omega (arith, k.1, known)
-    kept_known (inr k) = omega (arith, k.1, h.kept_known)
-
-    kept_before : Kept → 1 ≤ b.keep → b.before ≡ state_at M p w (b.keep - 1)
-    kept_before (inl k) one = k.2 ∙ h.so_far.state_is ∙ ap (λ n. state_at M p w n) (omega (arith, k.0))
-    kept_before (inr k) one = k.2 ∙ h.kept_before (omega (arith, k.3)) ∙ ap (λ n. state_at M p w (n - 1)) (sym k.0)
-
-    kept_before_known : Kept → b.before < states
-    kept_before_known (inl k) = omega (arith, k.2, h.state_known)
-    kept_before_known (inr k) = omega (arith, k.2, h.kept_before_known)
-
-    last : (k : ℕ) → k ≡ len + 1 → silent ≡ true → NoneFits M (state_at M p w k)
-    last k e is = subst (λ n. NoneFits M (state_at M p w n)) (sym e) (subst (NoneFits M) next.state_is (quiet is))
-
-    none : Kept → (k : ℕ) → b.keep < k → k ≤ len + 1 → NoneFits M (state_at M p w k)
-    none (inl e) k lo hi = absurd (omega (arith, e.0, lo, hi))
-    none (inr e) k lo hi = elim (cases_lt len k) [
-      | inl more ↦ last k (omega (arith, more, hi)) e.4
-      | inr less ↦ h.none k (omega (arith, lo, e.0)) less
-    ]
+    before_is : a.state ≡ state_at M p r.window.bytes (a.len + 1 - 1)
+    before_is = h.so_far.state_is ∙ ap (λ k. state_at M p r.window.bytes k) (omega arith)
 
 -- the front of what was seen so far
 so_far_front : (M : Machine) (p : TextPlace) (w : List ℕ) (len keep state : ℕ) → keep ≤ len → state ≡ state_at M p w keep → (s : ℕ) → SoFar M p (drop p.at w) len s (path_of M p w len) → SoFar M p (drop p.at w) keep state (path_of M p w keep)
@@ -245,19 +242,23 @@ so_far_front M p w len keep state le is s h = record {
 }
 
 -- it shows where the longest text ends
-pub settled_at : (M : Machine) (states : ℕ) (p : TextPlace) (r : Reading) (len state before : ℕ) (a : Settled) → LookedAt M states p r len state before a → 1 ≤ len → Barren M r.at_end state (drop (p.at + len) r.window.bytes) →
-    IsSettled M states p r a
-settled_at M states p r len state before a h one barren = record {
-  some = h.some one;
-  order = omega (arith, h.order, h.len_is);
-  inside = omega (arith, h.inside, h.len_is);
+pub settled_at : (M : Machine) (states : ℕ) (p : TextPlace) (r : Reading) (a : Walked) → WalkedOver M states p r a → Barren M r.at_end a.state (drop (p.at + a.len) r.window.bytes) →
+    IsSettled M states p r (settled_of a)
+settled_at M states p r a h barren = record {
+  some = h.some;
+  order = h.order;
+  inside = h.inside;
   known = h.kept_known;
-  before_is = h.kept_before (h.some one);
+  before_is = h.kept_before_is;
   known_before = h.kept_before_known;
-  so_far = so_far_front M p r.window.bytes len a.keep a.state h.order h.kept_is state h.so_far;
-  barren = λ k lo hi. barren_before M p r.window.bytes r.at_end (len - k) k (omega (arith, h.inside, hi, h.len_is)) (λ j up to. h.none j (omega (arith, lo, up)) (omega (arith, to, hi, h.len_is)))
-      (subst (λ n. Barren M r.at_end (state_at M p r.window.bytes n) (drop (p.at + n) r.window.bytes)) (omega (arith, hi, h.len_is)) (subst (λ q. Barren M r.at_end q (drop (p.at + len) r.window.bytes)) h.so_far.state_is barren));
+  so_far = so_far_front M p r.window.bytes a.len a.keep a.kept h.order h.kept_is a.state h.so_far;
+  barren = λ k lo hi. barren_before M p r.window.bytes r.at_end (a.len - k) k (omega (arith, h.inside, hi)) (λ j up to. h.none j (omega (arith, lo, up)) (omega (arith, to, hi)))
+      (subst (λ n. Barren M r.at_end (state_at M p r.window.bytes n) (drop (p.at + n) r.window.bytes)) (omega (arith, hi)) (subst (λ q. Barren M r.at_end q (drop (p.at + a.len) r.window.bytes)) h.so_far.state_is barren));
 }
+
+-- a place that the walk has come to
+pub comes_by : (M : Machine) (states : ℕ) (p : TextPlace) (r : Reading) (a : Walked) → WalkedOver M states p r a → IsOnTheWay M states p r (record { len = a.len; state = a.state })
+comes_by M states p r a h = record { inside = h.inside; state_is = h.so_far.state_is; known = h.known }
 
 -- what a match sees after a place from which the walk is barren
 pub record Further (M : Machine) (p : TextPlace) (r : Reading) (k : ℕ) : Type 0 where
@@ -344,24 +345,6 @@ silent_put M r ms ms' place s i h put le at barren = true_put M r ms ms' (silent
 pub none_left : (w : List ℕ) (n : ℕ) → length w ≤ n → drop n w ≡ []
 none_left w n le = nil_from_length (drop n w) (omega (arith, length-drop n w, le))
 
--- before the first byte
-pub looked_first : (M : Machine) (states : ℕ) (p : TextPlace) (r : Reading) (s : ℕ) → p.at ≤ length r.window.bytes → s ≡ M.start p.condition p.line_start → s < states → LookedAt M states p r 0 s s (record { keep = 0; state = s; before = s; len = 0; seen = 0 })
-looked_first M states p r s le is known = record {
-  inside = omega (arith, le);
-  so_far = record { inside = omega arith; state_is = is; asked = λ i some lt. absurd (omega (arith, some, lt)); path_is = refl };
-  before_is = λ some. absurd (omega (arith, some));
-  state_known = known;
-  before_known = known;
-  len_is = refl;
-  some = λ some. some;
-  order = omega arith;
-  kept_is = is;
-  kept_known = known;
-  kept_before = λ one. absurd (omega (arith, one));
-  kept_before_known = known;
-  none = λ k lo hi. absurd (omega (arith, lo, hi));
-}
-
 -- marks of a table that was laid out again
 pub true_fit : (M : Machine) → MachineLaws M → (r : Reading) (ms ms' : List Mark) → AreTrue M r ms → ((m : Mark) → Among ms' m → Among ms m ⊎ (m ≡ unmarked)) → AreTrue M r ms'
 true_fit M laws r ms ms' h fit m a = elim (fit m a) [
@@ -395,9 +378,9 @@ module _ (M : Machine) (p : TextPlace) (w : List ℕ) where
       fewer j few = sym (take-take j (n - k) (drop (p.at + k) w) few)
 
 -- a mark tells where the longest text ends
-pub settled_further : (M : Machine) (states : ℕ) → StaysBelow M states → (p : TextPlace) (r : Reading) (len state before : ℕ) (a b : Settled) (m : Mark) → p.condition < M.conditions → IsText (drop p.at r.window.bytes) → LookedAt M states p r len state before a → 1 ≤ len → M.goes_on state ≡ true → m.state ≡ state →
+pub settled_further : (M : Machine) (states : ℕ) → StaysBelow M states → (p : TextPlace) (r : Reading) (len state : ℕ) (b : Settled) (m : Mark) → p.condition < M.conditions → IsText (drop p.at r.window.bytes) → SoFar M p (drop p.at r.window.bytes) len state (path_of M p r.window.bytes len) → 1 ≤ len → M.goes_on state ≡ true → m.state ≡ state →
     TellsWalk M r.at_end m (drop (p.at + len) r.window.bytes) → 1 ≤ m.count → (b.keep ≡ len + m.count) × (b.state ≡ m.last) × (b.before ≡ m.before) × (b.len ≡ len + m.count) → IsSettled M states p r b
-settled_further M states below p r len state before a b m known text h one live same tells some is = record {
+settled_further M states below p r len state b m known text h one live same tells some is = record {
   some = omega (arith, is.0, one);
   order = omega (arith, is.0, is.3);
   inside = omega (arith, is.3, inside);
@@ -415,7 +398,7 @@ settled_further M states below p r len state before a b m known text h one live 
     v = drop (p.at + len) w
 
     here : state ≡ state_at M p w len
-    here = h.so_far.state_is
+    here = h.state_is
 
     inside : p.at + (len + m.count) ≤ length w
     inside = omega (arith, tells.0, length-drop (p.at + len) w, some)
@@ -443,7 +426,7 @@ settled_further M states below p r len state before a b m known text h one live 
     asked i lo hi = elim (cases_lt len i) [
       | inl more ↦ subst (λ s. M.goes_on s ≡ true) (further_to (i - len) (omega (arith, more, hi, is.0)) ∙ ap (state_at M p w) (omega (arith, more))) (tells.1.2 (i - len) (omega (arith, more)) (omega (arith, more, hi, is.0, whole)))
       | inr less ↦ elim (cases_lt i len) [
-        | inl before_it ↦ h.so_far.asked i lo before_it
+        | inl before_it ↦ h.asked i lo before_it
         | inr not ↦ subst (λ s. M.goes_on s ≡ true) (here ∙ ap (state_at M p w) (omega (arith, less, not))) live
       ]
     ]
@@ -462,13 +445,14 @@ silent_barren M e m w none tells =
     (subst (λ n. Barren M e m.last (drop n w)) none tells.2)
 
 -- the two together
-pub settled_told : (M : Machine) (states : ℕ) → StaysBelow M states → (p : TextPlace) (r : Reading) (len state before : ℕ) (a b : Settled) (m : Mark) → p.condition < M.conditions → IsText (drop p.at r.window.bytes) → LookedAt M states p r len state before a → 1 ≤ len → M.goes_on state ≡ true → m.state ≡ state →
-    TellsWalk M r.at_end m (drop (p.at + len) r.window.bytes) → (m.count ≡ 0 → b ≡ a) → (1 ≤ m.count → (b.keep ≡ len + m.count) × (b.state ≡ m.last) × (b.before ≡ m.before) × (b.len ≡ len + m.count)) → IsSettled M states p r b
-settled_told M states below p r len state before a b m known text h one live same tells silent_is further_is = elim (cases_lt 0 m.count) [
-  | inl some ↦ settled_further M states below p r len state before a b m known text h one live same tells (omega (arith, some)) (further_is (omega (arith, some)))
+pub settled_told : (M : Machine) (states : ℕ) → StaysBelow M states → (p : TextPlace) (r : Reading) (a : Walked) (b : Settled) (m : Mark) → p.condition < M.conditions → IsText (drop p.at r.window.bytes) → WalkedOver M states p r a → M.goes_on a.state ≡ true →
+    m.state ≡ a.state → TellsWalk M r.at_end m (drop (p.at + a.len) r.window.bytes) → (m.count ≡ 0 → b ≡ settled_of a) →
+    (1 ≤ m.count → (b.keep ≡ a.len + m.count) × (b.state ≡ m.last) × (b.before ≡ m.before) × (b.len ≡ a.len + m.count)) → IsSettled M states p r b
+settled_told M states below p r a b m known text h live same tells silent_is further_is = elim (cases_lt 0 m.count) [
+  | inl some ↦ settled_further M states below p r a.len a.state b m known text h.so_far (omega (arith, h.some, h.order)) live same tells (omega (arith, some)) (further_is (omega (arith, some)))
   | inr none ↦ (let zero_is : m.count ≡ 0 = omega (arith, none) in
       subst (IsSettled M states p r) (sym (silent_is zero_is))
-      (settled_at M states p r len state before a h one (subst (λ s. Barren M r.at_end s (drop (p.at + len) r.window.bytes)) same (silent_barren M r.at_end m (drop (p.at + len) r.window.bytes) zero_is tells))))
+      (settled_at M states p r a h (subst (λ s. Barren M r.at_end s (drop (p.at + a.len) r.window.bytes)) same (silent_barren M r.at_end m (drop (p.at + a.len) r.window.bytes) zero_is tells))))
 ]
 
 -- all from a place on
@@ -486,3 +470,51 @@ true_walk M states p r a ms ms' k place s t h put is le at = true_put M r ms ms'
   where
     w : List ℕ
     w = r.window.bytes
+
+-- the places that were kept, and one more
+pub kept_more : (xs : List Passed) (x d : Passed) → Among (xs ++ x ∷ []) d → Among xs d ⊎ (d ≡ x)
+kept_more [] x d (inl is) = inr is
+kept_more [] x d (inr none) = absurd none
+kept_more (y ∷ xs) x d (inl is) = inl (inl is)
+kept_more (y ∷ xs) x d (inr h) = elim (kept_more xs x d h) [
+  | inl old ↦ inl (inr old)
+  | inr new ↦ inr new
+]
+
+-- the place where a match begins
+pub comes_first : (M : Machine) (states : ℕ) (p : TextPlace) (r : Reading) (s : ℕ) → p.at ≤ length r.window.bytes → s ≡ M.start p.condition p.line_start → s < states → IsOnTheWay M states p r (record { len = 0; state = s })
+comes_first M states p r s le is known = record { inside = omega (arith, le); state_is = is; known = known }
+
+-- a place further on
+pub comes_to : (M : Machine) (states : ℕ) (p : TextPlace) (r : Reading) (d : Passed) (k s : ℕ) → IsOnTheWay M states p r d → d.len ≤ k → p.at + k ≤ length r.window.bytes → s ≡ walk M d.state (slice_range r.window.bytes (p.at + d.len) (p.at + k)) → s < states →
+    IsOnTheWay M states p r (record { len = k; state = s })
+comes_to M states p r d k s h low le is known = record {
+  inside = le;
+  state_is = is ∙ ap (λ q. walk M q (slice_range w (p.at + d.len) (p.at + k))) h.state_is ∙ ap (λ n. walk M (state_at M p w d.len) (take n (drop (p.at + d.len) w))) (omega (arith, low)) ∙ sym (state_further M p w d.len (k - d.len)) ∙ ap (state_at M p w) (omega (arith, low));
+  known = known;
+}
+  where
+    w : List ℕ
+    w = r.window.bytes
+
+-- a place that is marked
+pub place_put : (M : Machine) (states : ℕ) (p : TextPlace) (r : Reading) (a : Settled) (d : Passed) (ms ms' : List Mark) (place : ℕ) → IsSettled M states p r a → IsOnTheWay M states p r d → a.keep ≤ d.len → d.len ≤ a.len → AreTrue M r ms →
+    ((m : Mark) → Among ms' m → Among ms m ⊎ (m ≡ silent place d.state)) → place ≤ r.taken → place + length r.window.bytes ≡ r.taken + (p.at + d.len) → AreTrue M r ms'
+place_put M states p r a d ms ms' place h way lo hi t put le at = silent_put M r ms ms' place d.state (p.at + d.len) t put le at (subst (λ s. Barren M r.at_end s (drop (p.at + d.len) r.window.bytes)) (sym way.state_is) (h.barren d.len lo hi))
+
+-- a walk over all the bytes held that goes on
+pub looks_all : (M : Machine) (states : ℕ) (p : TextPlace) (r : Reading) (a : Walked) (result : Ahead) → WalkedOver M states p r a → length r.window.bytes ≤ p.at + a.len → M.goes_on a.state ≡ true → (r.at_end ≡ true → result ≡ Ahead.Settled (settled_of a)) →
+    (r.at_end ≡ false → result ≡ Ahead.Open (record { reach = a.len; state = a.state; before = a.before })) → LooksAhead M states p r result
+looks_all M states p r a result h all live ended opened = by_end r.at_end refl
+  where
+    by_end : (b : Bool) → r.at_end ≡ b → LooksAhead M states p r result
+    by_end true is = subst (LooksAhead M states p r) (sym (ended is)) (settled_at M states p r a h (barren_ended M r.at_end a.state (drop (p.at + a.len) r.window.bytes) (none_left r.window.bytes (p.at + a.len) all) is))
+    by_end false is = subst (LooksAhead M states p r) (sym (opened is)) (record {
+      some = omega (arith, h.some, h.order);
+      all = omega (arith, all, h.inside);
+      so_far = h.so_far;
+      goes_on = live;
+      before_is = h.before_is;
+      known = h.known;
+      known_before = h.known_before;
+    })

@@ -36,7 +36,7 @@ mod last_states;
 mod looking;
 mod pick;
 
-pub use back::{Ahead, Settled, look, note};
+pub use back::{Ahead, Settled, look};
 pub use descent::descend;
 pub use front::{accepted, longest};
 pub use glanced::{GlancedMatch, do_gist, longest_match, names_rule, silent_part};

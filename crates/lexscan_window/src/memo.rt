@@ -73,7 +73,7 @@ impl Model for Memo {
     ghost invariant = { λ m. (0 < m.rows) × (0 < m.ways) × (0 < m.stride) };
 }
 
-/// The cells of a place: the first of them, how far apart they stand, and how many there are.
+/// The cells of a place: the first of them, how far apart they stand, and how many there are, a power of two.
 #[derive(Clone, Copy)]
 struct Row {
     first: usize,
@@ -90,7 +90,7 @@ impl Row {
 
     /// Which cell is looked at for a state, the first time or a later one. So a long row is not gone through.
     fn cell(self, state: u32, probe: usize) -> usize {
-        let way = (state as usize).wrapping_add(probe) % self.ways;
+        let way = (state as usize).wrapping_add(probe) & (self.ways - 1);
         self.first.saturating_add(way.saturating_mul(self.apart))
     }
 }
@@ -251,17 +251,16 @@ impl Memo {
     /// The row of a place.
     fn row(&self, place: u64) -> Row {
         Row {
-            first: (place / self.stride as u64 % self.rows as u64) as usize,
+            first: (place.wrapping_shr(self.stride.trailing_zeros()) % self.rows as u64) as usize,
             apart: self.rows,
             ways: self.ways,
         }
     }
 
-    /// Whether it is marked that a walk from the state leads to no match.
-    fn has(&self, place: u64, state: u32) -> bool
+    /// Whether it is marked in a row that a walk from the state leads to no match.
+    fn has(&self, row: Row, place: u64, state: u32) -> bool
         ensures { result ≡ true → Among self.now (silent place state) }
     {
-        let row = self.row(place);
         let probes = row.probes();
         let mut probe = 0usize;
         'probes: while probe < probes {
@@ -277,12 +276,15 @@ impl Memo {
         false
     }
 
-    /// The mark of a walk from the state that leads to a match.
-    fn walk(&self, place: u64, state: u32) -> Option<Mark>
+    /// The mark in a row of a walk from the state that leads to a match.
+    fn walk(&self, row: Row, place: u64, state: u32) -> Option<Mark>
         ensures { IfSome result (λ m. Among self.now m × (m.place ≡ place) × (m.state ≡ state)) }
     {
-        let row = self.row(place);
-        let probes = row.probes();
+        let probes = if self.walks.is_empty() {
+            0
+        } else {
+            row.probes()
+        };
         let mut probe = 0usize;
         'probes: while probe < probes {
             let at = row.cell(state, probe);
@@ -302,10 +304,11 @@ impl Memo {
     pub fn find(&self, place: u64, state: u32) -> Option<Mark>
         ensures { IfSome result (λ m. Among self.now m × (m.place ≡ place) × (m.state ≡ state)) }
     {
-        if self.has(place, state) {
+        let row = self.row(place);
+        if self.has(row, place, state) {
             return Some(Mark::silent(place, state));
         }
-        self.walk(place, state)
+        self.walk(row, place, state)
     }
 
     /// Puts into the row of its place, where there is room, that a walk from the state leads to no match.

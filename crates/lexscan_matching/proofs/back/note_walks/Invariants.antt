@@ -1,18 +1,16 @@
-use Rattle.std.proofs.Common.{◌≡◌, ◌-◌, ◌<◌, ◌≤◌}
+use Rattle.std.proofs.Common.{◌-◌, ◌≤◌}
 use Rattle.lexscan_window.specs.Memos.{AreTrue}
-use Rattle.lexscan_matching.specs.Picks.{state_at}
+use Rattle.lexscan_matching.specs.Backs.{IsOnTheWay}
 use Rattle.lexscan_matching.proofs.back.note_walks.Given as goal
 
-abbrev pub invariant-bytes : goal.invariant-bytes
-invariant-bytes g l =
+abbrev pub invariant-marks : goal.invariant-marks
+invariant-marks g l =
     let M = g.M.Machine.machine l.machine in
     record {
-      seen : l.len ≤ l.reach;
       reach : l.reach ≤ l.fn.settled.keep;
-      state_is : l.state ≡ state_at M l.fn.place l.reading.window.bytes l.len;
-      known : l.state < g.M.Machine.states l.machine;
+      passed : IsOnTheWay M (g.M.Machine.states l.machine) l.fn.place l.reading l.passed;
       marks : AreTrue M l.reading l.memo;
     }
 
-abbrev pub decreases-bytes : goal.decreases-bytes
-decreases-bytes g l = l.reach - l.len
+abbrev pub decreases-marks : goal.decreases-marks
+decreases-marks g l = l.reach - l.passed.len

@@ -1,1 +1,0 @@
--- Each goal is found by search.
