@@ -6,6 +6,7 @@ pub mod Ranging
 pub mod Refusing
 pub mod Stepping
 pub mod Bursting
+pub mod Chaining
 pub mod Passing
 pub mod Furthering
 pub mod Settling

@@ -4,9 +4,10 @@ ghost use Rattle.lex_semantics.specs.ByteSets.{bit_of};
 ghost use Rattle.lexscan.specs.Bursts.{Advanced};
 ghost use Rattle.lexscan.specs.Scans.{IsGoing, MayTurn, WentFurther};
 
-use crate::burst::{Burst, burst_over};
+use crate::burst::Burst;
 use crate::find::has_backlog;
 use crate::scan::{Ends, Scan};
+use crate::texts::burst_from;
 use lex_io::{Sink, Source};
 use lex_machine::Machine;
 use lexscan_window::{RunError, State, TextPlace};
@@ -98,8 +99,9 @@ impl Scan {
         requires ready { MayTurn (M.machine machine.now) ends.old self.old }
         ensures { WentFurther (M.machine machine.now) ends.old ends.new self.old self.new result }
     {
-        // After the end nothing is ready, and with yymore a text begins before its match.
-        if self.state.reading.at_end || self.state.place.at != 0 {
+        let held = self.state.reading.window.len();
+        // After the end nothing is ready. That the bytes held are among those taken is asked, since no invariant says it.
+        if self.state.reading.at_end || self.state.reading.taken < held as u64 {
             return Ok(most);
         }
         let left = self.state.reading.max_reads - self.state.reading.taken;
@@ -108,28 +110,23 @@ impl Scan {
         } else {
             most
         };
-        let held = self.state.reading.window.len();
         let shown = self.state.reading.window.show(ends.intake.ahead(), allowed);
         let text = self.state.reading.window.text(shown);
         let place = self.state.place;
-        let burst = burst_over(
-            machine,
-            &mut ends.outlet,
-            text,
-            held,
-            place,
-            in_vain.looks(),
-        );
+        let looking = in_vain.looks();
+        let went = burst_from(machine, &mut ends.outlet, text, held, place, looking);
+        let burst = went.burst;
         *in_vain = in_vain.after(burst.done, burst.passed);
         // What no turn has asked for stays with the source.
         let got = burst.asked - held;
         ends.intake.give(got);
         advance(&mut self.state, burst, got);
+        self.state.place.at = went.kept;
         if burst.fault {
             self.state.failed = true;
             return Err(RunError::Write);
         }
-        Ok(next_most(most, burst.done))
+        Ok(next_most(most, burst.done + went.kept - place.at))
     }
 
     /// Goes on as `go_further` does, unless the next match has many bytes before it that are held.

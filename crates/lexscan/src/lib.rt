@@ -9,6 +9,7 @@
 //! - `leave`: leaves the place of the match for that of the next one.
 //! - `burst`: many turns in one loop over bytes in memory, where each rule at most writes or sets the condition.
 //! - `singles`: a run of one-byte matches is passed at once, for bursts.
+//! - `texts`: bursts where yymore keeps bytes of the text before a match.
 //! - `glance`: one turn over bytes in memory, whose rule at most writes or sets the condition.
 //! - `series`: many such turns in one loop, which lists their tokens.
 //! - `further`: lets a burst go over the bytes that the source has ready.
@@ -54,6 +55,7 @@ mod scan;
 mod scanner;
 mod series;
 mod singles;
+mod texts;
 mod token;
 mod turn;
 mod whole;

@@ -4,6 +4,7 @@ use Rattle.std.proofs.lemmas.List.{take-take}
 use Rattle.lexscan_window.specs.declared.state.State.{State}
 use Rattle.lexscan.proofs.Bursting.{grows}
 use Rattle.lexscan.proofs.Furthering as Further
+use Rattle.lexscan.proofs.Chaining as Chain
 use Rattle.lexscan_matching.proofs.Barrens.{true_burst}
 use Rattle.lexscan.proofs.scan.Scan.go_further.Goals as goal
 
@@ -38,22 +39,22 @@ returns-then-self g c = record {
 pub returns : goal.returns
 returns g c = record {
   same = grind (arith, common_steps);
-  goes_on = (let went = rw c.if-burst.false at c.burst_over-burst.ensures.bursts in
+  goes_on = (let went = rw c.if-burst.false at c.burst_from-went.ensures.bursts in
       let old : State = c.args.self.now.state in
       let ready : List ℕ = g.S.Source.ready c.args.ends.now.intake.source.now in
       let few : c.show-shown.result ≤ length ready = omega (arith, c.show-shown.ensures.few, ap length c.ahead.ensures) in
       let made = text_made c.text-text.result.now old.reading.window.bytes c.show-shown.new.self.bytes c.show-shown.new.self.ahead c.ahead.result.now ready c.show-shown.result c.text-text.ensures c.show-shown.ensures.bytes c.show-shown.ensures.ahead c.ahead.ensures in (
-        take (c.burst_over-burst.result.asked - c.len-held.result) ready,
+        take (c.burst_from-went.result.burst.asked - c.len-held.result) ready,
         went.out,
         c.give.ensures.bytes,
         went.sink,
         λ e. absurd (never (sym c.if-self.false ∙ e)),
         (
           went.turns,
-          Further.went_further (g.M.Machine.machine c.args.machine.now) old c.advance.new.state c.text-text.result.now ready c.len-held.result c.show-shown.result c.burst_over-burst.result.asked c.burst_over-burst.result.done c.burst_over-burst.result.condition c.burst_over-burst.result.line_start
-              c.len-held.ensures made few c.burst_over-burst.ensures.held c.burst_over-burst.ensures.asked
-              (c.advance.ensures.held ∙ Further.accepted c.text-text.result.now old.reading.window.bytes c.show-shown.new.self.bytes c.show-shown.new.self.ahead c.ahead.result.now ready c.len-held.result c.show-shown.result c.burst_over-burst.result.asked c.burst_over-burst.result.done
-              c.len-held.ensures made few c.burst_over-burst.ensures.asked c.show-shown.ensures.bytes c.show-shown.ensures.ahead c.ahead.ensures) c.advance.ensures.taken c.if-self.false (c.advance.ensures.at_end ∙ c.if-self.false) (omega (arith, c.if-self-ne0.false)) c.advance.ensures.at c.advance.ensures.line_start c.advance.ensures.condition c.advance.ensures.stack c.requires.going.going
+          Chain.went_further (g.M.Machine.machine c.args.machine.now) old (record c.advance.new.state { place = record c.advance.new.state.place { at = c.burst_from-went.result.kept } }) c.text-text.result.now ready c.len-held.result c.show-shown.result c.burst_from-went.result.burst.asked c.burst_from-went.result.burst.done c.burst_from-went.result.kept c.burst_from-went.result.burst.condition c.burst_from-went.result.burst.line_start
+              c.len-held.ensures made few c.burst_from-went.ensures.held c.burst_from-went.ensures.asked
+              (c.advance.ensures.held ∙ Further.accepted c.text-text.result.now old.reading.window.bytes c.show-shown.new.self.bytes c.show-shown.new.self.ahead c.ahead.result.now ready c.len-held.result c.show-shown.result c.burst_from-went.result.burst.asked c.burst_from-went.result.burst.done
+              c.len-held.ensures made few c.burst_from-went.ensures.asked c.show-shown.ensures.bytes c.show-shown.ensures.ahead c.ahead.ensures) c.advance.ensures.taken c.if-self.false (c.advance.ensures.at_end ∙ c.if-self.false) refl c.advance.ensures.line_start c.advance.ensures.condition c.advance.ensures.stack c.requires.going.going
               (c.advance.ensures.ended ∙ c.requires.going.going) g.K.Sink.wrote _ _ went (c.advance.ensures.failed ∙ c.requires.going.working),
         ),
       ));
@@ -63,7 +64,15 @@ returns g c = record {
   refusals = grind (arith, common_steps);
   at_end = grind (arith, common_steps);
   max_reads = grind (arith, common_steps);
-  no_earlier = grind (arith, common_steps);
+  no_earlier = (let old : State = c.args.self.now.state in
+      let ready : List ℕ = g.S.Source.ready c.args.ends.now.intake.source.now in
+      let few : c.show-shown.result ≤ length ready = omega (arith, c.show-shown.ensures.few, ap length c.ahead.ensures) in
+      let made = text_made c.text-text.result.now old.reading.window.bytes c.show-shown.new.self.bytes c.show-shown.new.self.ahead c.ahead.result.now ready c.show-shown.result c.text-text.ensures c.show-shown.ensures.bytes c.show-shown.ensures.ahead c.ahead.ensures in
+      Chain.starts_no_earlier (g.M.Machine.machine c.args.machine.now) old (record c.advance.new.state { place = record c.advance.new.state.place { at = c.burst_from-went.result.kept } }) c.text-text.result.now ready c.len-held.result c.show-shown.result c.burst_from-went.result.burst.asked c.burst_from-went.result.burst.done c.burst_from-went.result.kept c.burst_from-went.result.burst.condition c.burst_from-went.result.burst.line_start
+      c.len-held.ensures made few c.burst_from-went.ensures.held c.burst_from-went.ensures.asked
+      (c.advance.ensures.held ∙ Further.accepted c.text-text.result.now old.reading.window.bytes c.show-shown.new.self.bytes c.show-shown.new.self.ahead c.ahead.result.now ready c.len-held.result c.show-shown.result c.burst_from-went.result.burst.asked c.burst_from-went.result.burst.done
+      c.len-held.ensures made few c.burst_from-went.ensures.asked c.show-shown.ensures.bytes c.show-shown.ensures.ahead c.ahead.ensures) c.advance.ensures.taken c.if-self.false (c.advance.ensures.at_end ∙ c.if-self.false) refl c.advance.ensures.line_start c.advance.ensures.condition c.advance.ensures.stack c.requires.going.going
+      (c.advance.ensures.ended ∙ c.requires.going.going) g.K.Sink.wrote c.args.ends.now.outlet.sink.now c.args.ends.now.outlet.sink.now (grind (arith, common_steps)) c.burst_from-went.ensures.kept c.burst_from-went.ensures.no_earlier);
   going = grind (arith, common_steps);
   working = grind (arith, common_steps);
   next = record {
@@ -73,8 +82,8 @@ returns g c = record {
       condition = grind (arith, common_steps);
       inside = grind (arith, common_steps);
       stack = grind (arith, common_steps);
-      marks = λ _. true_burst (g.M.Machine.machine c.args.machine.now) c.args.self.now.state.reading c.advance.new.state.reading c.text-text.result.now c.show-shown.new.self.bytes c.show-shown.new.self.ahead c.ahead.result.now c.len-held.result c.show-shown.result c.burst_over-burst.result.asked
-          c.burst_over-burst.result.done c.args.self.now.memo c.len-held.ensures c.show-shown.ensures.bytes c.show-shown.ensures.ahead c.show-shown.ensures.few c.text-text.ensures c.burst_over-burst.ensures.held c.burst_over-burst.ensures.asked c.burst_over-burst.ensures.done c.advance.ensures.held
+      marks = λ _. true_burst (g.M.Machine.machine c.args.machine.now) c.args.self.now.state.reading c.advance.new.state.reading c.text-text.result.now c.show-shown.new.self.bytes c.show-shown.new.self.ahead c.ahead.result.now c.len-held.result c.show-shown.result c.burst_from-went.result.burst.asked
+          c.burst_from-went.result.burst.done c.args.self.now.memo c.len-held.ensures c.show-shown.ensures.bytes c.show-shown.ensures.ahead c.show-shown.ensures.few c.text-text.ensures c.burst_from-went.ensures.held c.burst_from-went.ensures.asked (omega (arith, c.burst_from-went.ensures.kept)) c.advance.ensures.held
           c.advance.ensures.taken c.if-self.false (c.requires.ready.kept.marks c.requires.going.working);
     };
   };
@@ -83,16 +92,16 @@ returns g c = record {
 pub returns-then-burst : goal.returns-then-burst
 returns-then-burst g c = record {
   same = grind (arith, common_steps);
-  goes_on = (let broke = rw c.if-burst.true at c.burst_over-burst.ensures.bursts in
+  goes_on = (let broke = rw c.if-burst.true at c.burst_from-went.ensures.bursts in
       let old : State = c.args.self.now.state in
-      let new : State = record c.advance.new.state { failed = true } in
+      let new : State = record c.advance.new.state { place = record c.advance.new.state.place { at = c.burst_from-went.result.kept }; failed = true } in
       let ready : List ℕ = g.S.Source.ready c.args.ends.now.intake.source.now in
       let text : List ℕ = c.text-text.result.now in
       let h : ℕ = c.len-held.result in
-      let asked : ℕ = c.burst_over-burst.result.asked in
+      let asked : ℕ = c.burst_from-went.result.burst.asked in
       let made = text_made text old.reading.window.bytes c.show-shown.new.self.bytes c.show-shown.new.self.ahead c.ahead.result.now ready c.show-shown.result c.text-text.ensures c.show-shown.ensures.bytes c.show-shown.ensures.ahead c.ahead.ensures in
       let few : c.show-shown.result ≤ length ready = omega (arith, c.show-shown.ensures.few, ap length c.ahead.ensures) in
-      let high : asked ≤ length text = c.burst_over-burst.ensures.asked in (
+      let high : asked ≤ length text = c.burst_from-went.ensures.asked in (
         take (asked - h) ready,
         broke.out,
         c.give.ensures.bytes,
@@ -102,11 +111,11 @@ returns-then-burst g c = record {
           broke.turns,
           drop h (take broke.before text),
           drop broke.before (take asked text),
-          Further.given_all text old.reading.window.bytes ready h c.show-shown.result asked c.len-held.ensures made few c.burst_over-burst.ensures.held high ∙ grows text h broke.before asked broke.few broke.more high,
-          Further.broke_further (g.M.Machine.machine c.args.machine.now) old new text ready h c.show-shown.result asked c.burst_over-burst.result.done c.burst_over-burst.result.condition c.burst_over-burst.result.line_start
-              c.len-held.ensures made few c.burst_over-burst.ensures.held high
-              (c.advance.ensures.held ∙ Further.accepted c.text-text.result.now old.reading.window.bytes c.show-shown.new.self.bytes c.show-shown.new.self.ahead c.ahead.result.now ready c.len-held.result c.show-shown.result c.burst_over-burst.result.asked c.burst_over-burst.result.done
-              c.len-held.ensures made few c.burst_over-burst.ensures.asked c.show-shown.ensures.bytes c.show-shown.ensures.ahead c.ahead.ensures) c.advance.ensures.taken c.if-self.false (c.advance.ensures.at_end ∙ c.if-self.false) (omega (arith, c.if-self-ne0.false)) c.advance.ensures.at c.advance.ensures.line_start c.advance.ensures.condition c.advance.ensures.stack c.requires.going.going
+          Further.given_all text old.reading.window.bytes ready h c.show-shown.result asked c.len-held.ensures made few c.burst_from-went.ensures.held high ∙ grows text h broke.before asked broke.few broke.more high,
+          Chain.broke_further (g.M.Machine.machine c.args.machine.now) old new text ready h c.show-shown.result asked c.burst_from-went.result.burst.done c.burst_from-went.result.kept c.burst_from-went.result.burst.condition c.burst_from-went.result.burst.line_start
+              c.len-held.ensures made few c.burst_from-went.ensures.held high
+              (c.advance.ensures.held ∙ Further.accepted c.text-text.result.now old.reading.window.bytes c.show-shown.new.self.bytes c.show-shown.new.self.ahead c.ahead.result.now ready c.len-held.result c.show-shown.result c.burst_from-went.result.burst.asked c.burst_from-went.result.burst.done
+              c.len-held.ensures made few c.burst_from-went.ensures.asked c.show-shown.ensures.bytes c.show-shown.ensures.ahead c.ahead.ensures) c.advance.ensures.taken c.if-self.false (c.advance.ensures.at_end ∙ c.if-self.false) refl c.advance.ensures.line_start c.advance.ensures.condition c.advance.ensures.stack c.requires.going.going
               (c.advance.ensures.ended ∙ c.requires.going.going) g.K.Sink.wrote _ _ broke refl,
         ),
       ));
@@ -116,7 +125,15 @@ returns-then-burst g c = record {
   refusals = grind (arith, common_steps);
   at_end = grind (arith, common_steps);
   max_reads = grind (arith, common_steps);
-  no_earlier = grind (arith, common_steps);
+  no_earlier = (let old : State = c.args.self.now.state in
+      let ready : List ℕ = g.S.Source.ready c.args.ends.now.intake.source.now in
+      let few : c.show-shown.result ≤ length ready = omega (arith, c.show-shown.ensures.few, ap length c.ahead.ensures) in
+      let made = text_made c.text-text.result.now old.reading.window.bytes c.show-shown.new.self.bytes c.show-shown.new.self.ahead c.ahead.result.now ready c.show-shown.result c.text-text.ensures c.show-shown.ensures.bytes c.show-shown.ensures.ahead c.ahead.ensures in
+      Chain.starts_no_earlier (g.M.Machine.machine c.args.machine.now) old (record c.advance.new.state { place = record c.advance.new.state.place { at = c.burst_from-went.result.kept }; failed = true }) c.text-text.result.now ready c.len-held.result c.show-shown.result c.burst_from-went.result.burst.asked c.burst_from-went.result.burst.done c.burst_from-went.result.kept c.burst_from-went.result.burst.condition c.burst_from-went.result.burst.line_start
+      c.len-held.ensures made few c.burst_from-went.ensures.held c.burst_from-went.ensures.asked
+      (c.advance.ensures.held ∙ Further.accepted c.text-text.result.now old.reading.window.bytes c.show-shown.new.self.bytes c.show-shown.new.self.ahead c.ahead.result.now ready c.len-held.result c.show-shown.result c.burst_from-went.result.burst.asked c.burst_from-went.result.burst.done
+      c.len-held.ensures made few c.burst_from-went.ensures.asked c.show-shown.ensures.bytes c.show-shown.ensures.ahead c.ahead.ensures) c.advance.ensures.taken c.if-self.false (c.advance.ensures.at_end ∙ c.if-self.false) refl c.advance.ensures.line_start c.advance.ensures.condition c.advance.ensures.stack c.requires.going.going
+      (c.advance.ensures.ended ∙ c.requires.going.going) g.K.Sink.wrote c.args.ends.now.outlet.sink.now c.args.ends.now.outlet.sink.now (grind (arith, common_steps)) c.burst_from-went.ensures.kept c.burst_from-went.ensures.no_earlier);
   going = grind (arith, common_steps);
   working = grind (arith, common_steps);
   next = record {

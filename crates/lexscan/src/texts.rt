@@ -1,0 +1,227 @@
+//! Bursts over texts that yymore makes longer: matches whose rules do nothing but yymore, and the one after them.
+ghost use Rattle.std.specs.Prelude.{◌≡◌, ℕ, ◌<◌, ◌≤◌, List, [], ◌∷◌, length, drop, true, IfSome};
+ghost use Rattle.lex_semantics.specs.Spec.{More};
+ghost use Rattle.lex_machine.specs.Glances.{FirstDoes, Leads};
+ghost use Rattle.lexscan_window.specs.Intakes.{can_write};
+ghost use Rattle.lexscan.specs.Texts.{IsMoreMatch, TextBurstMade};
+
+use crate::burst::{Burst, burst_over};
+use lex_io::Sink;
+use lex_machine::{Cut, Gist, Machine, Statement, Way};
+use lexscan_matching::{do_gist, longest_match, names_rule};
+use lexscan_window::{Outlet, TextPlace};
+
+/// Where some turns over a text led, and how many bytes yymore keeps there before the next match. These follow those
+/// that the turns are done with.
+#[derive(Clone, Copy)]
+pub struct TextBurst {
+    pub burst: Burst,
+    pub kept: usize,
+}
+
+/// Whether the first rule that a state accepts keeps all of a match, and does yymore alone.
+#[inline(always)]
+fn does_more<M: Machine>(machine: &M, state: u32) -> bool
+    requires { state < M.states machine.now }
+    ensures { result ≡ true → FirstDoes (M.machine machine.now) state (More ∷ []) }
+{
+    let Some(rule) = machine.accepts(state).first() else {
+        return false;
+    };
+    let (cut, statements) = machine.rule(*rule);
+    matches!(cut, Cut::Whole) && statements.len() == 1 && matches!(statements[0], Statement::More)
+}
+
+/// How many bytes of a walk a rule keeps that does yymore alone, where the last state of the walk tells it or the one
+/// before it.
+#[inline(always)]
+fn more_part<M: Machine>(machine: &M, way: Way<'_>) -> Option<usize>
+    requires known { way.state < M.states machine.now }
+    requires known_before { way.before < M.states machine.now }
+    ensures { IfSome result (λ keep. (first : ℕ) (bytes : List ℕ) → Leads (M.machine machine.now) first bytes way.entry
+        → IsMoreMatch (M.machine machine.now) first bytes way.entry.count keep) }
+{
+    if matches!(way.gist, Gist::Any) && does_more(machine, way.state) {
+        return Some(way.count);
+    }
+    if matches!(way.gist, Gist::NoRule) && 1 < way.count && does_more(machine, way.before) {
+        return Some(way.count - 1);
+    }
+    None
+}
+
+/// The turn of a match whose walk is known, if its rule is told at a glance. All bytes before it are kept by yymore.
+#[inline(always)]
+fn text_turn<M: Machine, K: Sink>(
+    machine: &M,
+    outlet: &mut Outlet<'_, K>,
+    text: &[u8],
+    held: usize,
+    place: TextPlace,
+    first: u32,
+    way: Way<'_>,
+) -> TextBurst
+    requires live { can_write outlet.old ≡ true }
+    requires condition { place.condition < (M.machine machine.now).conditions }
+    requires held { held ≤ length text.now }
+    requires inside { place.at ≤ held }
+    requires first { first < M.states machine.now }
+    requires known_before { way.before < M.states machine.now }
+    requires leads { (first ≡ (M.machine machine.now).start place.condition place.line_start)
+        × Leads (M.machine machine.now) first (drop place.at text.now) way }
+
+    ensures { TextBurstMade (M.machine machine.now) outlet.old outlet.new text.now held place result }
+{
+    let at = place.at;
+    let longest = longest_match(machine, first, &text[at..], way);
+    if !names_rule(longest.gist) {
+        return stopped(held, place, false);
+    }
+    let asked = held.max(at + way.count);
+    let end = at + longest.keep;
+    let Ok(after) = do_gist(outlet, longest.gist, &text[..end], place.condition) else {
+        return stopped(asked, place, true);
+    };
+    TextBurst {
+        burst: Burst {
+            done: end,
+            asked,
+            line_start: text[end - 1] == b'\n',
+            condition: after,
+            fault: false,
+            passed: None,
+        },
+        kept: 0,
+    }
+}
+
+/// A place where turns stop: all bytes before it are kept.
+#[inline(always)]
+fn stopped(asked: usize, place: TextPlace, fault: bool) -> TextBurst
+    ensures kept { result.kept ≡ place.at }
+    ensures done { result.burst.done ≡ 0 }
+    ensures asked { result.burst.asked ≡ asked }
+    ensures line { result.burst.line_start ≡ place.line_start }
+    ensures condition { result.burst.condition ≡ place.condition }
+    ensures fault { result.burst.fault ≡ fault }
+{
+    TextBurst {
+        burst: Burst {
+            done: 0,
+            asked,
+            line_start: place.line_start,
+            condition: place.condition,
+            fault,
+            passed: None,
+        },
+        kept: place.at,
+    }
+}
+
+/// Matches whose rules do yymore alone, and the one after them. All bytes before the first are kept by yymore.
+#[inline(always)]
+fn text_over<M: Machine, K: Sink>(
+    machine: &M,
+    outlet: &mut Outlet<'_, K>,
+    text: &[u8],
+    held: usize,
+    place: TextPlace,
+) -> TextBurst
+    requires live { can_write outlet.old ≡ true }
+    requires condition { place.condition < (M.machine machine.now).conditions }
+    requires held { held ≤ length text.now }
+    requires inside { place.at ≤ held }
+
+    ensures { TextBurstMade (M.machine machine.now) outlet.old outlet.new text.now held place result }
+{
+    let mut next = place;
+    let mut asked = held;
+    let mut first = machine.start(place.condition, place.line_start);
+    'matches: while next.at < text.len() {
+        let Some(way) = machine.way(first, &text[next.at..]) else {
+            break 'matches;
+        };
+        let Some(keep) = more_part(machine, way) else {
+            return text_turn(machine, outlet, text, asked, next, first, way);
+        };
+        asked = asked.max(next.at + way.count);
+        next.at += keep;
+        next.line_start = text[next.at - 1] == b'\n';
+        first = machine.start(next.condition, next.line_start);
+    }
+    stopped(asked, next, false)
+}
+
+/// The same, and turns over what follows.
+#[inline(never)]
+fn burst_behind_text<M: Machine, K: Sink>(
+    machine: &M,
+    outlet: &mut Outlet<'_, K>,
+    text: &[u8],
+    held: usize,
+    place: TextPlace,
+    looking: bool,
+) -> TextBurst
+    requires live { can_write outlet.old ≡ true }
+    requires condition { place.condition < (M.machine machine.now).conditions }
+    requires held { held ≤ length text.now }
+    requires inside { place.at ≤ held }
+
+    ensures { TextBurstMade (M.machine machine.now) outlet.old outlet.new text.now held place result }
+{
+    let before = text_over(machine, outlet, text, held, place);
+    if before.kept != 0 || before.burst.fault {
+        return before;
+    }
+    let done = before.burst.done;
+    let start = TextPlace {
+        at: 0,
+        line_start: before.burst.line_start,
+        condition: before.burst.condition,
+    };
+    let left = &text[done..];
+    let burst = burst_over(
+        machine,
+        outlet,
+        left,
+        before.burst.asked - done,
+        start,
+        looking,
+    );
+    TextBurst {
+        burst: Burst {
+            done: done + burst.done,
+            asked: done + burst.asked,
+            line_start: burst.line_start,
+            condition: burst.condition,
+            fault: burst.fault,
+            passed: burst.passed,
+        },
+        kept: 0,
+    }
+}
+
+/// Turns over a text, of which the first bytes are held, as `burst_over` makes them, where yymore may keep some bytes
+/// before the first match.
+#[inline(always)]
+pub fn burst_from<M: Machine, K: Sink>(
+    machine: &M,
+    outlet: &mut Outlet<'_, K>,
+    text: &[u8],
+    held: usize,
+    place: TextPlace,
+    looking: bool,
+) -> TextBurst
+    requires live { can_write outlet.old ≡ true }
+    requires condition { place.condition < (M.machine machine.now).conditions }
+    requires held { held ≤ length text.now }
+    requires inside { place.at ≤ held }
+
+    ensures { TextBurstMade (M.machine machine.now) outlet.old outlet.new text.now held place result }
+{
+    if place.at != 0 {
+        return burst_behind_text(machine, outlet, text, held, place, looking);
+    }
+    let burst = burst_over(machine, outlet, text, held, place, looking);
+    TextBurst { burst, kept: 0 }
+}
