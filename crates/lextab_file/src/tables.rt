@@ -42,6 +42,5 @@ pub fn read_flat(alloc: Global, bytes: &[u8]) -> Result<Flat, TableError>
         × (bytes.now ≡ file_of t ++ rest) × (0 < length rest)) }
 {
     let parts = read_parts(alloc, bytes)?;
-    let (tables, rows) = laid_out(alloc, parts)?;
-    Ok(Flat::of_rows(alloc, tables, rows)?)
+    Ok(Flat::of_parts(alloc, parts)?)
 }

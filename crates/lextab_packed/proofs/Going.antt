@@ -25,15 +25,15 @@ plain p = S.machine_of_table (table_of p) (λ s. false)
 abbrev pub accepts : Row → Bool
 accepts r = nat_lt 0 (length r.rules.items)
 
-some_rule : (rules : List ℕ) → nat_lt 0 (length rules) ≡ true → (i : ℕ) × Among rules i
+pub some_rule : (rules : List ℕ) → nat_lt 0 (length rules) ≡ true → (i : ℕ) × Among rules i
 some_rule [] h = absurd cc
 some_rule (r ∷ rules) h = (r, inl refl)
 
-is_some : (rules : List ℕ) (i : ℕ) → Among rules i → nat_lt 0 (length rules) ≡ true
+pub is_some : (rules : List ℕ) (i : ℕ) → Among rules i → nat_lt 0 (length rules) ≡ true
 is_some [] i a = elim a [ ]
 is_some (r ∷ rules) i a = grind (arith, nat_tests)
 
-flag_at : (rows : List Row) (s : ℕ) → flag (map accepts rows) s ≡ nat_lt 0 (length (slice_index_or (map row_of rows) s no_row).rules)
+pub flag_at : (rows : List Row) (s : ℕ) → flag (map accepts rows) s ≡ nat_lt 0 (length (slice_index_or (map row_of rows) s no_row).rules)
 flag_at [] s = refl
 flag_at (r ∷ rows) zero = refl
 flag_at (r ∷ rows) (suc s) = flag_at rows s

@@ -58,7 +58,7 @@ module _ (t : Table) (ok : IsTable t) where
   pub row_is : (s : ℕ) → s < length t.rows → IsRow (sizes_of t).rules (sizes_of t).states (sizes_of t).classes (sizes_of t).slots (some_rule_rejects t.rules) s (row_in t s)
   row_is s lt = each_at (IsRow (sizes_of t).rules (sizes_of t).states (sizes_of t).classes (sizes_of t).slots (some_rule_rejects t.rules)) t.rows s no_row ok.rows lt
 
-  slot_is : (i : ℕ) → i < length t.slots → IsSlot (sizes_of t).states (sizes_of t).classes (bases_of t.rows) i (slice_index_or t.slots i no_slot)
+  pub slot_is : (i : ℕ) → i < length t.slots → IsSlot (sizes_of t).states (sizes_of t).classes (bases_of t.rows) i (slice_index_or t.slots i no_slot)
   slot_is i lt = each_at (IsSlot (sizes_of t).states (sizes_of t).classes (bases_of t.rows)) t.slots i no_slot ok.slots lt
 
   pub class_below : (b : ℕ) → b < 256 → get_or t.class_of b 0 < t.classes

@@ -10,7 +10,7 @@ use Rattle.lextab_packed.proofs.Finding.{no_row, no_slot}
 use Rattle.lextab_packed.specs.Views.{row_of, slots_of, table_of}
 use Rattle.lextab_packed.specs.declared.parts.Row.{Row}
 use Rattle.lextab_packed.specs.declared.parts.TableParts.{TableParts}
-use Rattle.lextab_packed.proofs.Places.{row_is, class_below, step_is}
+use Rattle.lextab_packed.proofs.Places.{row_is, slot_is, class_below, step_is}
 
 slots_low : (cs ns : List ℕ) (i : ℕ) → i < length (slots_of cs ns) → (i < length cs) × (i < length ns)
 slots_low [] ns i h = absurd (omega (arith, h))
@@ -40,6 +40,11 @@ module _ (p : TableParts) (ok : IsTable (table_of p)) (s : ℕ) (low : s < lengt
   pub row_there : row_in (table_of p) s ≡ row_of row
   row_there = row_at p.rows.items s row low is
 
+  pub default_known : row.default_target < length p.rows.items
+  default_known =
+      let d = subst (λ (r : T.Row). r.default_target < length (map row_of p.rows.items)) row_there (row_is (table_of p) ok s low_row).default_target in
+      let n = length-map p.rows.items row_of in omega (arith, d, n)
+
   module _ (k : ℕ) (known : k < p.classes) where
     place_low : row.base + k < length (slots_of p.checks.items p.nexts.items)
     place_low = let r = subst (λ (r : T.Row). r.base + p.classes ≤ length (slots_of p.checks.items p.nexts.items)) row_there (row_is (table_of p) ok s low_row).base in omega (arith, r, known)
@@ -49,6 +54,11 @@ module _ (p : TableParts) (ok : IsTable (table_of p)) (s : ℕ) (low : s < lengt
 
     pub class_next_low : row.base + k < length p.nexts.items
     class_next_low = (slots_low p.checks.items p.nexts.items (row.base + k) place_low).1
+
+    pub class_next_known : slice_index p.nexts.items (row.base + k) < length p.rows.items
+    class_next_known =
+        let d = subst (λ (l : T.Slot). l.next < length (map row_of p.rows.items)) (slots_at p.checks.items p.nexts.items (row.base + k) place_low) (slot_is (table_of p) ok (row.base + k) place_low).next in
+        let n = length-map p.rows.items row_of in omega (arith, d, n)
 
     goes : class_target (table_of p) s k ≡ cond (slice_index p.checks.items (row.base + k) == s) (slice_index p.nexts.items (row.base + k)) row.default_target
     goes =

@@ -12,5 +12,6 @@ pub mod Singles
 pub mod Live
 pub mod Inverse
 pub mod Spreading
+pub mod Passes
 pub mod Rejections
 pub mod Quiets

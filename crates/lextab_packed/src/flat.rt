@@ -4,6 +4,7 @@ ghost use Rattle.std.specs.Prelude.{length, slice_index, slice_get, get_or, Some
 ghost use Rattle.std.specs.Option.{ForSome};
 ghost use Rattle.lex_machine.specs.Glances.{Leads, Gists};
 ghost use Rattle.lex_semantics.specs.Limits.{max_states};
+ghost use Rattle.lextab_packed.specs.Checks.{IsTable};
 ghost use Rattle.lextab_packed.specs.Flats.{as_target, marked_target, kind_of};
 ghost use Rattle.lex_machine.specs.Singles.{IsDropped, IsCopied};
 ghost use Rattle.lextab_packed.specs.Leaps.{OthersStay};
@@ -15,10 +16,13 @@ ghost use Rattle.lextab_packed.specs.Views.{table_of};
 ghost use Rattle.lextab_packed.specs.Machines.{table_machine, table_parts, table_states, laws_of, below_of};
 
 use crate::kinds::{Kind, kinds_of};
+use crate::laying::laid_out;
 use crate::leaps::{Leavers, leaps_of, pass_over};
-use crate::rows::flat_rows;
+use crate::parts::TableParts;
+use crate::passes::going_on_soon;
+use crate::rows::marked_rows;
 use crate::singles::{Most, is_copied, is_dropped, most_of};
-use crate::steps::{STOP, STOP_ECHO, STOP_OTHER, STOP_SILENT, mark_rows};
+use crate::steps::{STOP, STOP_ECHO, STOP_OTHER, STOP_SILENT, mark_rows, marks_of};
 use crate::tables::Tables;
 use lex_machine::{Cut, EndAction, Gist, Machine, Statement, Way};
 use std::alloc::{AllocError, Global};
@@ -56,8 +60,31 @@ impl Flat {
         ensures machine { IfOk result (λ f. table_machine (tables_of f) ≡ table_machine tables) }
         ensures states { IfOk result (λ f. table_states (tables_of f) ≡ table_states tables) }
     {
-        let rows = flat_rows(alloc, &tables.parts)?;
-        Flat::of_rows(alloc, tables, rows)
+        Flat::of_tables(alloc, tables)
+    }
+
+    /// The same of the parts of tables. Which states go on is found in passes over the parts, where few are enough.
+    pub fn of_parts(alloc: Global, parts: TableParts) -> Result<Flat, AllocError>
+        requires { IsTable (table_of parts) }
+        ensures { IfOk result (λ f. table_parts (tables_of f) ≡ parts) }
+    {
+        match going_on_soon(alloc, &parts)? {
+            Some(goes_on) => Flat::of_tables(alloc, Tables::new(parts, goes_on)),
+            None => {
+                let (tables, rows) = laid_out(alloc, parts)?;
+                Flat::of_rows(alloc, tables, rows)
+            }
+        }
+    }
+
+    /// The tables with their rows, which are laid out with their marks.
+    fn of_tables(alloc: Global, tables: Tables) -> Result<Flat, AllocError>
+        ensures { IfOk result (λ f. tables_of f ≡ tables) }
+    {
+        let kinds = kinds_of(alloc, &tables)?;
+        let marks = marks_of(alloc, &tables, &kinds)?;
+        let rows = marked_rows(alloc, &tables.parts, &marks)?;
+        Flat::of_marked(alloc, tables, kinds, rows)
     }
 
     /// The same by rows that were laid out before: the state after each byte, 256 to a state.
@@ -70,6 +97,24 @@ impl Flat {
         let kinds = kinds_of(alloc, &tables)?;
         let mut rows = rows;
         mark_rows(alloc, &tables, &kinds, &mut rows)?;
+        Flat::of_marked(alloc, tables, kinds, rows)
+    }
+
+    /// The same by rows of marked targets, and what is known of each state's first rule.
+    fn of_marked(
+        alloc: Global,
+        tables: Tables,
+        kinds: Vec<Kind>,
+        rows: Vec<u32>,
+    ) -> Result<Flat, AllocError>
+        requires len { length rows.items ≡ 256 * table_states tables }
+        requires marked { (s b : ℕ) → s < table_states tables → b < 256
+            → slice_index rows.items (256 * s + b) ≡ marked_target tables s b }
+        requires column { length kinds.items ≡ table_states tables }
+        requires told { (s : ℕ) → s < table_states tables
+            → slice_get kinds.items s ≡ Some (kind_of (table_machine tables) s) }
+        ensures { IfOk result (λ f. tables_of f ≡ tables) }
+    {
         let leaps = leaps_of(alloc, &rows, kinds.len())?;
         let most = most_of(alloc, &tables, &rows)?;
         Ok(Flat {

@@ -13,7 +13,7 @@ use crate::tables::Tables;
 use std::alloc::{AllocError, Global};
 
 /// For each state whether it accepts a rule.
-fn accepting(alloc: Global, rows: &[Row]) -> Result<Vec<bool>, AllocError>
+pub(crate) fn accepting(alloc: Global, rows: &[Row]) -> Result<Vec<bool>, AllocError>
     ensures { IfOk result (λ v. v.items ≡ map (λ r. nat_lt 0 (length r.rules.items)) rows.now) }
 {
     let mut flags = Vec::with_capacity(alloc, rows.len())?;

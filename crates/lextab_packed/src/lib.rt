@@ -9,6 +9,7 @@
 //! - `inverse`: the inverse transitions of a table, as chains.
 //! - `live`: which states are live: some text that is not empty leads from them to one that accepts.
 //! - `laying`: the table of some parts with its rows, by which it is known which states are live.
+//! - `passes`: the same in few passes over the parts, without rows, for most tables.
 //! - `machine`: what a table answers a scanner.
 //! - `kinds`: what is known of the first rule that each state accepts.
 //! - `leaps`: states that at most three bytes lead away from; runs of the others are passed 16 bytes at a time.
@@ -25,7 +26,8 @@
 //!
 //! Decided here:
 //! - Which states are live is found backwards: from the states that accept to those that lead to them, each taken once.
-//!   Of neighbouring bytes that lead from a state to one target the first alone has a link.
+//!   Of neighbouring bytes that lead from a state to one target the first alone has a link. For the machine of a scan a few
+//!   passes over one byte of each class are tried first.
 //! - Check and next are two columns. In the code the slots are two lists of numbers, as a step wants them. In the
 //!   definitions and in the file they are pairs.
 //! - A run at a state is looked at byte by byte first, since most are short. After 16 bytes it is passed in steps of 16, if
@@ -43,6 +45,7 @@ mod leaps;
 mod live;
 mod machine;
 mod parts;
+mod passes;
 mod quiet;
 mod rows;
 mod singles;

@@ -66,7 +66,11 @@ fn mark(state: u32, kind: Kind, goes_on: bool) -> u32
 }
 
 /// Each state as a target with its mark.
-fn marks_of(alloc: Global, tables: &Tables, kinds: &[Kind]) -> Result<Vec<u32>, AllocError>
+pub(crate) fn marks_of(
+    alloc: Global,
+    tables: &Tables,
+    kinds: &[Kind],
+) -> Result<Vec<u32>, AllocError>
     requires kinds { length kinds.now ≡ table_states tables.now }
     requires told { (s : ℕ) → s < table_states tables.now
         → slice_get kinds.now s ≡ Some (kind_of (table_machine tables.now) s) }

@@ -87,8 +87,9 @@ pub fn slots<'a>(
     ensures { Gives (λ x. (slots_of x.0.0.items x.0.1.items, x.1.now)) result
         (many (read_slot (sizes_in counts) (bases_of (map row_of rows.now))) following counts.slots 0 bytes.now) }
 {
-    let mut checks = Vec::new(alloc);
-    let mut nexts = Vec::new(alloc);
+    let most = (counts.slots as usize).min(bytes.len() / 8);
+    let mut checks = Vec::with_capacity(alloc, most)?;
+    let mut nexts = Vec::with_capacity(alloc, most)?;
     let mut rest = bytes;
     for i in 0..counts.slots {
         let ((check, next), after) = slot(rest, counts, rows, i)?;

@@ -19,7 +19,7 @@ use std::alloc::Global;
 pub fn class_map(alloc: Global, bytes: &[u8], classes: u32) -> Result<(Vec<u8>, &[u8]), ReadError>
     ensures { Gives (λ x. (x.0.items, x.1.now)) result (many (read_class classes) following 256 0 bytes.now) }
 {
-    let mut read = Vec::new(alloc);
+    let mut read = Vec::with_capacity(alloc, 256)?;
     let mut rest = bytes;
     for i in 0..256u32 {
         let (one, after) = byte_below(rest, classes)?;
@@ -50,7 +50,7 @@ fn accepted(
 ) -> Result<(Vec<u32>, &[u8]), ReadError>
     ensures { Gives (λ x. (x.0.items, x.1.now)) result (many (read_accepted rules) above count 0 bytes.now) }
 {
-    let mut read = Vec::new(alloc);
+    let mut read = Vec::with_capacity(alloc, (count as usize).min(bytes.len() / 4))?;
     let mut rest = bytes;
     let mut low: u32 = 0;
     for i in 0..count {
@@ -137,7 +137,7 @@ pub fn states(
     ensures gives { Gives (λ x. (map row_of x.0.items, x.1.now)) result
         (many (read_row (sizes_in counts) rejects) following counts.states 0 bytes.now) }
 {
-    let mut read = Vec::new(alloc);
+    let mut read = Vec::with_capacity(alloc, (counts.states as usize).min(bytes.len() / 12))?;
     let mut rest = bytes;
     for i in 0..counts.states {
         let (one, after) = row(alloc, rest, counts, rejects, i)?;

@@ -5,4 +5,4 @@ use Rattle.lextab_packed.proofs.rows.targets_by_byte.Given as goal
 
 abbrev pub invariant-loop-byte : goal.invariant-loop-byte
 invariant-loop-byte l =
-    (length l.targets ≡ 256) × ((b : ℕ) → b < l.byte → slice_index l.targets b ≡ step_of (table_of l.parts) l.state b)
+    (length l.targets ≡ 256) × ((b : ℕ) → b < l.byte → slice_index l.targets b ≡ slice_index l.marks (step_of (table_of l.parts) l.state b))

@@ -11,7 +11,7 @@ use Rattle.lextab_file.proofs.reading.slots.slots.Goals as goal
 
 pub returns-in_err-check : goal.returns-in_err-check
 returns-in_err-check c =
-    let p = err_from_is_err_and c.from_residual.result c.from_residual.ensures.1 in
+    let p = err_from_is_err_and c.from_residual-in_err-check.result c.from_residual-in_err-check.ensures.1 in
     rw (p.1, p.2) (ends (read_slot (sizes_in c.args.counts) (bases_of (map row_of c.args.rows.now))) following c.in_err-check.field-0.0 (slots_of c.loop-i.checks.items c.loop-i.nexts.items) c.args.counts.slots c.loop-i.i c.loop-i.i c.loop-i.rest.now (many (read_slot (sizes_in c.args.counts) (bases_of (map row_of c.args.rows.now))) following c.args.counts.slots 0 c.args.bytes.now) c.loop-i-test.true c.in_err-check.ensures.gives c.loop-i.invariant.read)
 
 pub loop-i-preserved : goal.loop-i-preserved

@@ -6,7 +6,7 @@ use Rattle.lextab_file.proofs.reading.states.class_map.Goals as goal
 
 pub returns-in_err-one : goal.returns-in_err-one
 returns-in_err-one c =
-    let p = err_from_is_err_and c.from_residual.result c.from_residual.ensures.1 in
+    let p = err_from_is_err_and c.from_residual-in_err-one.result c.from_residual-in_err-one.ensures.1 in
     rw (p.1, p.2) (ends (read_class c.args.classes) following c.in_err-one.field-0.0 c.loop-i.read.items 256 c.loop-i.i c.loop-i.i c.loop-i.rest.now (many (read_class c.args.classes) following 256 0 c.args.bytes.now) c.loop-i-test.true c.in_err-one.ensures.gives c.loop-i.invariant)
 
 pub loop-i-preserved : goal.loop-i-preserved

@@ -10,7 +10,7 @@ use Rattle.lextab_file.proofs.reading.states.states.Goals as goal
 
 pub returns-in_err-one-clause-gives : goal.returns-in_err-one-clause-gives
 returns-in_err-one-clause-gives c =
-    let p = err_from_is_err_and c.from_residual.result c.from_residual.ensures.1 in
+    let p = err_from_is_err_and c.from_residual-in_err-one.result c.from_residual-in_err-one.ensures.1 in
     rw (p.1, p.2) (ends (read_row (sizes_in c.args.counts) c.args.rejects) following c.in_err-one.field-0.0 (map row_of c.loop-i.read.items) c.args.counts.states c.loop-i.i c.loop-i.i c.loop-i.rest.now (many (read_row (sizes_in c.args.counts) c.args.rejects) following c.args.counts.states 0 c.args.bytes.now) c.loop-i-test.true c.in_err-one.ensures.gives c.loop-i.invariant.read)
 
 pub loop-i-preserved : goal.loop-i-preserved
