@@ -7,3 +7,4 @@ pub mod Shown
 pub mod Traced
 pub mod Called
 pub mod ReadAlone
+pub mod RejectedLaws

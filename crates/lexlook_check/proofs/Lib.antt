@@ -9,3 +9,4 @@ pub mod TakingLaws
 pub mod EmptyLaws
 pub mod DifferenceLaws
 pub mod TrailLaws
+pub mod RejectedLaws

@@ -2,11 +2,11 @@
 //! here there is ample. The texts are those of docs/MANUAL.md, with the lines and the places that it has of them. The numbers are those
 //! of include/lex.h.
 use crate::building::made;
-use crate::for_c::{NO_TOKEN, NONE};
+use crate::for_c::{NO_TOKEN, NONE, list, scan};
 use crate::table_files::conditions;
 use liblex_calls::{
     Answer, LoadedTables, Scan, TextFault, TokenStream, generate_into, load_tables, open_scan,
-    open_stream, options_of, rule_lines_into, scan_into, tokens_into,
+    open_stream, options_of, rule_lines_into,
 };
 use std::alloc::{AllocError, Global};
 use std::test::Fail;
@@ -138,19 +138,12 @@ fn tells_each_limit_of_an_automaton(rt: HostRuntime) {
 /// Whether a scan by these bytes is refused.
 fn scans_nothing(alloc: Global, bytes: &[u8]) -> bool {
     let mut out = [7u8; 1];
-    let mut count = 9;
-    let mut status = 9;
-    let answer = scan_into(alloc, bytes, b"a", &mut out, &mut count, &mut status);
-    (answer, count, status, out[0]) == (Answer::Refused, 0, 0, 7)
+    scan(alloc, bytes, b"a", &mut out) == (Answer::Refused, 0, 0) && out[0] == 7
 }
 
 /// Whether no tokens are listed by these bytes.
 fn lists_nothing(alloc: Global, bytes: &[u8]) -> bool {
-    let mut tokens = [NO_TOKEN; 1];
-    let mut count = 9;
-    let mut status = 9;
-    let answer = tokens_into(alloc, bytes, b"a", &mut tokens, &mut count, &mut status);
-    (answer, count, status) == (Answer::Refused, 0, 0)
+    list(alloc, bytes, b"a", &mut [NO_TOKEN; 1]) == (Answer::Refused, 0, 0)
 }
 
 /// Whether no scan is opened by these bytes.

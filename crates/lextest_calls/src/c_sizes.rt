@@ -1,10 +1,10 @@
 //! What a program in C calls over much: texts at their limits, long inputs and outputs, many tokens and pieces. No contract says
 //! that memory is left. Here there is ample, so no call may answer that it ran out. Most of an input is one match, which takes
 //! little time.
-use crate::for_c::{NO_TOKEN, NONE, token};
+use crate::for_c::{NO_TOKEN, NONE, list, scan, token};
 use liblex_calls::{
     Answer, Scan, close_scan, feed_into, finish_into, generate_into, open_scan, options_of,
-    rule_lines_into, scan_into, tokens_into,
+    rule_lines_into,
 };
 use std::alloc::{AllocError, Global};
 use std::test::Fail;
@@ -60,17 +60,14 @@ fn makes_files_of_texts_that_are_warned_of(rt: HostRuntime) -> Result<(), Fail> 
 fn is_a_file(alloc: Global, file: &[u8]) -> bool {
     let mut out = [0u8; 1];
     let mut tokens = [NO_TOKEN; 1];
-    let mut scan = Scan::closed();
-    let mut written = 0;
-    let mut listed = 0;
-    let mut status = 9;
-    let scanned = scan_into(alloc, file, b"c", &mut out, &mut written, &mut status);
-    let told = tokens_into(alloc, file, b"c", &mut tokens, &mut listed, &mut status);
-    let opened = open_scan(alloc, &mut scan, file);
-    scan.close(alloc);
-    (scanned, told, opened) == (Answer::Done, Answer::Done, Answer::Done)
-        && (written, out[0]) == (1, b'c')
-        && (listed, tokens[0]) == (1, token(0, 1, u32::MAX))
+    let mut opened = Scan::closed();
+    let scanned = scan(alloc, file, b"c", &mut out);
+    let listed = list(alloc, file, b"c", &mut tokens);
+    let answer = open_scan(alloc, &mut opened, file);
+    opened.close(alloc);
+    (scanned, listed, answer) == ((Answer::Done, 1, 0), (Answer::Done, 1, 0), Answer::Done)
+        && out[0] == b'c'
+        && tokens[0] == token(0, 1, u32::MAX)
 }
 
 /// An automaton of more than 500 states, whose file is long too.
@@ -99,14 +96,6 @@ fn tells_the_lines_of_the_most_rules(rt: HostRuntime) -> Result<(), Fail> {
     Ok(())
 }
 
-/// Whether an input is scanned into an output as long.
-fn is_scanned(alloc: Global, file: &[u8], input: &[u8], out: &mut [u8]) -> bool {
-    let mut count = 0;
-    let mut status = 9;
-    let answer = scan_into(alloc, file, input, out, &mut count, &mut status);
-    (answer, count, status) == (Answer::Done, LONG, 0)
-}
-
 /// An input that is one match, and an output as long.
 #[test]
 fn scans_a_long_input(rt: HostRuntime) -> Result<(), Fail> {
@@ -114,18 +103,15 @@ fn scans_a_long_input(rt: HostRuntime) -> Result<(), Fail> {
     let file = file_of(alloc, WORDS, 4_096)?;
     let input = filled(alloc, b'x', LONG)?;
     let mut out = filled(alloc, 0, LONG)?;
-    let scanned = is_scanned(alloc, &file, &input, &mut out);
-    assert!(rt; scanned && out == input);
+    let scanned = scan(alloc, &file, &input, &mut out);
+    assert!(rt; scanned == (Answer::Done, LONG, 0) && out == input);
     Ok(())
 }
 
 /// Whether a long word and 50,000 blanks are listed, of which there is room for two.
 fn are_listed(alloc: Global, file: &[u8], input: &[u8]) -> bool {
     let mut tokens = [NO_TOKEN; 2];
-    let mut count = 0;
-    let mut status = 9;
-    let answer = tokens_into(alloc, file, input, &mut tokens, &mut count, &mut status);
-    (answer, count, status) == (Answer::TooSmall, 50_001, 0)
+    list(alloc, file, input, &mut tokens) == (Answer::TooSmall, 50_001, 0)
         && tokens[0] == token(0, LONG, 0)
         && tokens[1] == token(LONG, 1_100_001, u32::MAX)
 }

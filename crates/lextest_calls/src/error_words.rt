@@ -37,10 +37,12 @@ fn texts_at_fault(rt: HostRuntime) {
     for &(error, words) in NAMES {
         assert!(rt; says(alloc, &error, words), "{words}");
     }
-    assert!(rt; says(alloc, &PatternErrorKind::BadInterval, "BadInterval"));
-    assert!(rt; says(alloc, &BAD_PATTERN, "BadInterval at 7"));
-    assert!(rt; says(alloc, &SPEC_REFUSED, "line 12: BadInterval at 7"));
-    assert!(rt; says(alloc, &SPEC_REFUSED.kind, "BadInterval at 7"));
+    assert!(rt;
+        says(alloc, &PatternErrorKind::BadInterval, "BadInterval")
+            && says(alloc, &BAD_PATTERN, "BadInterval at 7")
+            && says(alloc, &SPEC_REFUSED, "line 12: BadInterval at 7")
+            && says(alloc, &SPEC_REFUSED.kind, "BadInterval at 7")
+    );
 }
 
 #[test]
@@ -86,8 +88,7 @@ fn scans(rt: HostRuntime) {
     for &(error, words) in ROWS {
         assert!(rt; says(alloc, &error, words), "{words}");
     }
-    assert!(rt; says(alloc, &ReadFault, "read fault"));
-    assert!(rt; says(alloc, &WriteFault, "write fault"));
+    assert!(rt; says(alloc, &ReadFault, "read fault") && says(alloc, &WriteFault, "write fault"));
 }
 
 const UNMADE: GenError = GenError::Spec(SPEC_REFUSED);
@@ -103,8 +104,10 @@ fn the_whole_product(rt: HostRuntime) {
     for &(error, words) in ROWS {
         assert!(rt; says(alloc, &error, words), "{words}");
     }
-    assert!(rt; says(alloc, &UNMADE, "line 12: BadInterval at 7"));
-    assert!(rt; says(alloc, &GenError::OutOfMemory, "out of memory"));
-    assert!(rt; says(alloc, &ArgsError::Usage, "usage"));
-    assert!(rt; says(alloc, &ArgsError::OutOfMemory, "out of memory"));
+    assert!(rt;
+        says(alloc, &UNMADE, "line 12: BadInterval at 7")
+            && says(alloc, &GenError::OutOfMemory, "out of memory")
+            && says(alloc, &ArgsError::Usage, "usage")
+            && says(alloc, &ArgsError::OutOfMemory, "out of memory")
+    );
 }

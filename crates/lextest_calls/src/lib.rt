@@ -1,5 +1,6 @@
 //! Tests that call the product: turn by turn, by pieces, with ends that fail and memory that is refused, and what a program in C
-//! calls. Callers are named by the pages of crates, and call lexkit and lexscan.
+//! calls. Callers are named by the pages of crates, and call lexkit and lexscan. All is read with the tests alone, so that nothing is
+//! proved twice.
 #![tactic(auto)]
 
 #[cfg(test)]
@@ -16,7 +17,8 @@ mod c_rows;
 mod c_sizes;
 #[cfg(test)]
 mod c_streams;
-pub mod caller;
+#[cfg(test)]
+mod caller;
 #[cfg(test)]
 mod error_words;
 #[cfg(test)]
@@ -25,8 +27,6 @@ mod fault_lines;
 mod for_c;
 #[cfg(test)]
 mod longest;
-#[cfg(test)]
-mod pieces;
 #[cfg(test)]
 mod pipelines;
 #[cfg(test)]

@@ -144,17 +144,26 @@ fn has_counts(made: &Made, rules: usize, warned: usize) -> bool {
     made.rule_lines.len() == rules && made.warnings.len() == warned
 }
 
+/// What is answered of a text, and whether tables are made, with so many lines of rules and warnings, or memory ran out.
+fn is_made(
+    alloc: Global,
+    text: &[u8],
+    rules: usize,
+    warned: usize,
+) -> (Result<(), GenError>, bool) {
+    match generate(alloc, text, Options::new()) {
+        Ok(generated) => (Ok(()), has_counts(&generated.made, rules, warned)),
+        Err(error) => (Err(error), is_want_of_memory(error)),
+    }
+}
+
 /// Tables are made, with their lines and warnings, or memory ran out.
 #[test]
 fn refused_generate(rt: HostRuntime) -> Result<(), Fail> {
     for (&(text, ..), &(rules, warned)) in SCANS.iter().zip(COUNTS) {
-        match generate(rt.alloc(), text, Options::new()) {
-            Ok(generated) => assert!(rt; has_counts(&generated.made, rules, warned)),
-            Err(error) => {
-                assert!(rt; is_want_of_memory(error), "{error:?}");
-                return Err(error)?;
-            }
-        }
+        let (got, so) = is_made(rt.alloc(), text, rules, warned);
+        assert!(rt; so);
+        got?;
     }
     Ok(())
 }
@@ -191,7 +200,7 @@ fn scanned(alloc: Global, row: &Scan) -> Result<Scanned, AllocError> {
 fn refused_scan_spec(rt: HostRuntime) -> Result<(), Fail> {
     for row in SCANS {
         let (got, so) = scanned(rt.alloc(), row)?;
-        assert!(rt; so, "{got:?}");
+        assert!(rt; so);
         got?;
     }
     Ok(())
@@ -225,7 +234,7 @@ fn refused_scan_table(rt: HostRuntime) -> Result<(), Fail> {
     let text = b"%%\nif printf(\"K\");\n[a-z]+ printf(\"I\");\n";
     let file = made(rt.alloc(), text)?;
     let (got, so) = scanned_by_table(rt.alloc(), file.written())?;
-    assert!(rt; so, "{got:?}");
+    assert!(rt; so);
     got?;
     Ok(())
 }
@@ -254,6 +263,15 @@ fn job_of(alloc: Global, line: &[&str]) -> Result<Result<Job, ArgsError>, AllocE
     Ok(read_args(alloc, words.as_slice()))
 }
 
+/// Whether words are read where they may be, or memory ran out.
+fn is_read_so(got: &Result<Job, ArgsError>, is_read: bool) -> bool {
+    match got {
+        Ok(_) => is_read,
+        Err(ArgsError::Usage) => !is_read,
+        Err(ArgsError::OutOfMemory) => true,
+    }
+}
+
 /// The words of a command line are read, or memory ran out.
 #[test]
 fn refused_words(rt: HostRuntime) -> Result<(), Fail> {
@@ -264,11 +282,8 @@ fn refused_words(rt: HostRuntime) -> Result<(), Fail> {
         (&["--scan-table", "b"], true),
     ];
     for &(line, is_read) in LINES {
-        match job_of(rt.alloc(), line)? {
-            Ok(_) => assert!(rt; is_read, "{line:?}"),
-            Err(ArgsError::Usage) => assert!(rt; !is_read, "{line:?}"),
-            Err(ArgsError::OutOfMemory) => {}
-        }
+        let got = job_of(rt.alloc(), line)?;
+        assert!(rt; is_read_so(&got, is_read));
     }
     Ok(())
 }

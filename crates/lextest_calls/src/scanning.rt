@@ -1,7 +1,7 @@
-//! Scans over memory. What they promise is left out, so that what calls them is proved in less time.
+//! The ends of scans over memory, and where these fail.
 ghost use Rattle.std.specs.Prelude.{◌≡◌};
 
-use lexkit::{MemorySink, MemorySource, ScanError, Sink, Source, scan_table};
+use lexkit::{MemorySink, MemorySource, Sink, Source};
 use lexspec::ReadOptions;
 use std::alloc::Global;
 
@@ -42,32 +42,5 @@ pub(crate) fn sink_that(alloc: Global, failing: Failing) -> MemorySink
         Failing::Write(room) => MemorySink::failing_after(alloc, room),
         Failing::Flush => MemorySink::failing_flush(alloc),
         _ => MemorySink::new(alloc),
-    }
-}
-
-/// What a scan answers and writes, and how often the source is called.
-#[derive(Drop)]
-pub(crate) struct Scan {
-    pub(crate) answer: Result<u8, ScanError>,
-    pub(crate) sink: MemorySink,
-    pub(crate) calls: u64,
-}
-
-impl Scan {
-    /// Whether nothing is read, and nothing is written.
-    pub(crate) fn touches_nothing(&self) -> bool {
-        self.calls == 0 && self.sink.written().is_empty()
-    }
-}
-
-/// A scan by a table file.
-pub(crate) fn scanned_by_table(alloc: Global, file: &[u8], input: &[u8]) -> Scan {
-    let mut source = MemorySource::new(input);
-    let mut sink = MemorySink::new(alloc);
-    let answer = scan_table(alloc, file, &mut source, &mut sink);
-    Scan {
-        answer,
-        sink,
-        calls: source.calls(),
     }
 }

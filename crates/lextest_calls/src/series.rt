@@ -1,9 +1,9 @@
 //! Tokens that are told several in one go: where a series stops and goes on, over pieces and over inputs longer than one of them.
 use crate::building::{machine_of, made};
-use crate::for_c::{NO_TOKEN, token};
+use crate::for_c::{NO_TOKEN, list, token};
 use lexkit::Flat;
 use lexscan::{BriefToken, MatchedRule, PullScanner, Pulled, PulledToken};
-use liblex_calls::{Answer, TextToken, tokens_into};
+use liblex_calls::{Answer, TextToken};
 use std::alloc::{AllocError, Global};
 use std::test::Fail;
 
@@ -193,16 +193,7 @@ fn listed(alloc: Global, room: usize) -> Result<(Answer, usize, bool), Fail> {
     let input = lines(alloc)?;
     let mut tokens = Vec::new(alloc);
     tokens.resize(room, NO_TOKEN)?;
-    let mut count = 0;
-    let mut status = 9;
-    let answer = tokens_into(
-        alloc,
-        file.written(),
-        &input,
-        &mut tokens,
-        &mut count,
-        &mut status,
-    );
+    let (answer, count, status) = list(alloc, file.written(), &input, &mut tokens);
     let mut so = status == 0;
     for (place, token) in tokens.iter().enumerate() {
         so = so && *token == token_at(place);
@@ -254,16 +245,7 @@ fn lists(
 ) -> Result<bool, Fail> {
     let file = made(alloc, text)?;
     let mut tokens = [NO_TOKEN; 9];
-    let mut count = 0;
-    let mut status = 9;
-    let answer = tokens_into(
-        alloc,
-        file.written(),
-        input,
-        &mut tokens,
-        &mut count,
-        &mut status,
-    );
+    let (answer, count, status) = list(alloc, file.written(), input, &mut tokens);
     Ok((answer, status) == ended && count == wanted.len() && are_listed(&tokens, wanted))
 }
 
@@ -343,50 +325,6 @@ fn lists_those_that_a_series_stops_before(rt: HostRuntime) -> Result<(), Fail> {
         assert!(rt;
             lists(rt.alloc(), text, input, wanted, (answer, status))?,
             "{status}"
-        );
-    }
-    Ok(())
-}
-
-/// A word, many letters and a word, with a blank between any two.
-fn long(alloc: Global, size: usize) -> Result<Vec<u8>, AllocError> {
-    let mut input = Vec::from_slice(alloc, b"ab ".as_slice())?;
-    input.resize(3 + size.min(100_000), b'x')?;
-    input.extend_from_slice(b" ab")?;
-    Ok(input)
-}
-
-/// The longest text that is kept in few bytes, and one byte more.
-#[test]
-fn lists_long_texts(rt: HostRuntime) -> Result<(), Fail> {
-    const ROWS: &[(usize, &[Place])] = &[
-        (
-            65_535,
-            &[
-                (0, 2, 0),
-                (2, 3, 1),
-                (3, 65_538, 0),
-                (65_538, 65_539, 1),
-                (65_539, 65_541, 0),
-            ],
-        ),
-        (
-            65_536,
-            &[
-                (0, 2, 0),
-                (2, 3, 1),
-                (3, 65_539, 0),
-                (65_539, 65_540, 1),
-                (65_540, 65_542, 0),
-            ],
-        ),
-    ];
-    let text = b"%%\n[a-z]+ ;\n\" \" ;\n";
-    for &(size, wanted) in ROWS {
-        let input = long(rt.alloc(), size)?;
-        assert!(rt;
-            lists(rt.alloc(), text, &input, wanted, (Answer::Done, 0))?,
-            "{size}"
         );
     }
     Ok(())

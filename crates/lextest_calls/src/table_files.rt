@@ -1,31 +1,10 @@
-//! Table files whose bytes are worked with: each front of one, and the greatest.
+//! The greatest table file.
 ghost use Rattle.std.specs.Prelude.{◌<◌};
 
 use crate::building::made;
-use crate::scanning::scanned_by_table;
-use lexkit::{MemorySink, ScanError, TableError, Tables, read_tables, write_tables};
+use lexkit::{MemorySink, TableError, Tables, read_tables, write_tables};
 use std::alloc::{AllocError, Global};
 use std::test::Fail;
-
-const KEYS: &[u8] = b"%%\nif printf(\"K\");\n[a-z]+ printf(\"I\");\n";
-
-/// The file of the rules `if` and `[a-z]+`.
-fn worked(alloc: Global) -> Result<Vec<u8>, Fail> {
-    Ok(made(alloc, KEYS)?.into_bytes())
-}
-
-/// Why the bytes are no table file, where a scan by them is refused for it too, and touches nothing.
-fn refusal(alloc: Global, bytes: &[u8]) -> Option<TableError> {
-    let error = read_tables(alloc, bytes).err()?;
-    let scan = scanned_by_table(alloc, bytes, b"a");
-    let refused = scan.answer == Err(ScanError::Table(error)) && scan.touches_nothing();
-    if refused { Some(error) } else { None }
-}
-
-/// Whether the bytes are no table file, for this reason.
-fn is_no_file(alloc: Global, bytes: &[u8], error: TableError) -> bool {
-    refusal(alloc, bytes) == Some(error)
-}
 
 /// Whether the bytes are a table's, which is written as they are.
 fn is_rewritten(alloc: Global, bytes: &[u8]) -> bool {
@@ -49,24 +28,6 @@ fn rewritten(alloc: Global, bytes: &[u8]) -> Result<MemorySink, TableError> {
 fn counts(tables: &Tables, conditions: usize, rules: usize, classes: u32) -> bool {
     let parts = tables.parts();
     parts.conditions.len() == conditions && parts.rules.len() == rules && parts.classes == classes
-}
-
-/// Whether each front of a file is cut short.
-fn are_truncated(alloc: Global, file: &[u8]) -> bool {
-    let mut so = true;
-    for (n, _) in file.iter().enumerate() {
-        so = is_no_file(alloc, &file[..n], TableError::Truncated) && so;
-    }
-    so
-}
-
-#[test]
-fn no_file_is_a_prefix_of_another(rt: HostRuntime) -> Result<(), Fail> {
-    let mut bytes = worked(rt.alloc())?;
-    assert!(rt; are_truncated(rt.alloc(), &bytes));
-    bytes.push(0)?;
-    assert!(rt; is_no_file(rt.alloc(), &bytes, TableError::TrailingBytes));
-    Ok(())
 }
 
 /// The number of a digit, as a letter of a number to the base 16.
@@ -139,16 +100,5 @@ fn the_greatest_counts_are_read(rt: HostRuntime) -> Result<(), Fail> {
     assert!(rt;
         is_greatest(rt.alloc(), file.written()) && is_rewritten(rt.alloc(), file.written())
     );
-    Ok(())
-}
-
-/// A fault before the place where the file is cut short is the one that is named.
-#[test]
-fn the_fault_before_the_end_is_named(rt: HostRuntime) -> Result<(), Fail> {
-    let mut bytes = worked(rt.alloc())?;
-    assert!(rt; bytes.len() == 471);
-    bytes[100] = 4;
-    bytes.truncate(200);
-    assert!(rt; is_no_file(rt.alloc(), &bytes, TableError::BadField(100)));
     Ok(())
 }

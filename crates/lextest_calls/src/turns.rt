@@ -464,6 +464,76 @@ const UNFLUSHED: &[Scan] = &[
     (POPS, b"a", Failing::Flush, UNWRITTEN_AT_ONCE, "A"),
 ];
 
+/// So many turns go on, and the next one finds that the source fails.
+const NO_TURN: &[Step] = &[
+    Step::Go(0),
+    Step::Fail(RunError::Read),
+    Step::Fail(RunError::Failed),
+];
+
+const ONE_TURN: &[Step] = &[
+    Step::Go(1),
+    Step::Fail(RunError::Read),
+    Step::Fail(RunError::Failed),
+];
+
+const TWO_TURNS: &[Step] = &[
+    Step::Go(2),
+    Step::Fail(RunError::Read),
+    Step::Fail(RunError::Failed),
+];
+
+const THREE_TURNS: &[Step] = &[
+    Step::Go(3),
+    Step::Fail(RunError::Read),
+    Step::Fail(RunError::Failed),
+];
+
+const FOUR_TURNS: &[Step] = &[
+    Step::Go(4),
+    Step::Fail(RunError::Read),
+    Step::Fail(RunError::Failed),
+];
+
+const FIVE_TURNS: &[Step] = &[
+    Step::Go(5),
+    Step::Fail(RunError::Read),
+    Step::Fail(RunError::Failed),
+];
+
+const SIX_TURNS: &[Step] = &[
+    Step::Go(6),
+    Step::Fail(RunError::Read),
+    Step::Fail(RunError::Failed),
+];
+
+const SEVEN_TURNS: &[Step] = &[
+    Step::Go(7),
+    Step::Fail(RunError::Read),
+    Step::Fail(RunError::Failed),
+];
+
+/// A source that gives 0 to 10 bytes lets so many turns go on.
+const CUT_SHORT: &[Scan] = &[
+    (COMMENTS, b"a/*b*/c/*d", Failing::Read(0), NO_TURN, ""),
+    (COMMENTS, b"a/*b*/c/*d", Failing::Read(1), ONE_TURN, "a"),
+    (COMMENTS, b"a/*b*/c/*d", Failing::Read(2), ONE_TURN, "a"),
+    (COMMENTS, b"a/*b*/c/*d", Failing::Read(3), TWO_TURNS, "a"),
+    (COMMENTS, b"a/*b*/c/*d", Failing::Read(4), THREE_TURNS, "a"),
+    (COMMENTS, b"a/*b*/c/*d", Failing::Read(5), THREE_TURNS, "a"),
+    (COMMENTS, b"a/*b*/c/*d", Failing::Read(6), FOUR_TURNS, "a"),
+    (COMMENTS, b"a/*b*/c/*d", Failing::Read(7), FIVE_TURNS, "ac"),
+    (COMMENTS, b"a/*b*/c/*d", Failing::Read(8), FIVE_TURNS, "ac"),
+    (COMMENTS, b"a/*b*/c/*d", Failing::Read(9), SIX_TURNS, "ac"),
+    (
+        COMMENTS,
+        b"a/*b*/c/*d",
+        Failing::Read(10),
+        SEVEN_TURNS,
+        "ac",
+    ),
+];
+
 const SCANS: &[(&str, &[Scan])] = &[
     ("what is asked for is taken and held", HELD),
     ("the end is asked for once", TURNED_TO_AN_END),
@@ -472,6 +542,7 @@ const SCANS: &[(&str, &[Scan])] = &[
         RETURNED_ONE_BY_ONE,
     ),
     ("a refused turn holds what was taken", REFUSED),
+    ("a source fails after each byte", CUT_SHORT),
     ("a sink fails after each byte", FILLED),
     ("a flush fails", UNFLUSHED),
 ];
@@ -497,42 +568,6 @@ const RUNS: &[(&str, &[Run])] = &[
 fn runs_end_so(rt: HostRuntime) -> Result<(), Fail> {
     for &(what, rows) in RUNS {
         assert!(rt; all_end_so(rt.alloc(), rows)?, "{what}");
-    }
-    Ok(())
-}
-
-/// How many turns go on where the source gives 0 to 10 bytes, and what they write.
-const TURNS_BEFORE: &[(usize, &str)] = &[
-    (0, ""),
-    (1, "a"),
-    (1, "a"),
-    (2, "a"),
-    (3, "a"),
-    (3, "a"),
-    (4, "a"),
-    (5, "ac"),
-    (5, "ac"),
-    (6, "ac"),
-    (7, "ac"),
-];
-
-/// Whether a source that fails after so many bytes lets so many turns go on, which write this.
-fn ends_a_source(alloc: Global, machine: &Flat, given: usize, went: usize, written: &str) -> bool {
-    let mut source = MemorySource::failing_after(b"a/*b*/c/*d", given);
-    let mut sink = MemorySink::new(alloc);
-    let mut scanner = Scanner::new(alloc, machine, &mut source, &mut sink, 10_000);
-    go_on(&mut scanner, went)
-        && turn(&mut scanner) == UNREAD
-        && turn(&mut scanner) == FAILED
-        && scanner.sink().written() == written.as_bytes()
-}
-
-#[test]
-fn a_source_fails_after_each_byte(rt: HostRuntime) -> Result<(), Fail> {
-    let machine = machine_of(rt.alloc(), COMMENTS)?;
-    for (given, &(went, written)) in TURNS_BEFORE.iter().enumerate() {
-        let so = ends_a_source(rt.alloc(), &machine, given, went, written);
-        assert!(rt; so, "{given}");
     }
     Ok(())
 }

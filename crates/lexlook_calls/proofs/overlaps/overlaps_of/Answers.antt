@@ -1,10 +1,18 @@
-use Rattle.std.proofs.Common.{Err, ap, subst}
+use Rattle.std.proofs.Common.{◌∙◌, Bool, List, Err, length, ap, subst}
 use Rattle.lexspec.specs.Views.{spec_of}
 use Rattle.lexlook_specs.specs.Matches.{matches_in}
 use Rattle.lexlook_specs.specs.Overlaps.{AreOverlaps}
 use Rattle.lexlook_calls.specs.Overlaps.{max_pairs}
+use Rattle.lexlook_calls.proofs.RejectedLaws.{accepts_known, as_many}
 use Rattle.lexlook_calls.proofs.Shown.{overlaps_shown, refused_alike}
 use Rattle.lexlook_calls.proofs.overlaps.overlaps_of.Goals as goal
+
+pub find_overlaps-requires-clause-rules : goal.find_overlaps-requires-clause-rules
+find_overlaps-requires-clause-rules c =
+    let S = spec_of c.args.spec in
+    let T = spec_of c.in-Ok-rejecting.spec in
+    let count = ap (λ (l : List Bool). length l) c.deref.ensures.value ∙ c.in-Ok.ensures.len ∙ as_many S T c.in-Ok-rejecting.ensures in
+    λ s i _ a. accepts_known _ _ c.in-Ok-build.ensures.laws count s i a
 
 pub returns-in-Err-build-clause-refused : goal.returns-in-Err-build-clause-refused
 returns-in-Err-build-clause-refused c =

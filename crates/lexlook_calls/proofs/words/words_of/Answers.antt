@@ -1,9 +1,17 @@
-use Rattle.std.proofs.Common.{Err, ap, subst}
+use Rattle.std.proofs.Common.{◌∙◌, Bool, List, Err, length, ap, subst}
 use Rattle.lexspec.specs.Views.{spec_of}
 use Rattle.lexlook_specs.specs.Matches.{matches_in}
 use Rattle.lexlook_specs.specs.Words.{AreWords}
+use Rattle.lexlook_calls.proofs.RejectedLaws.{accepts_known, as_many}
 use Rattle.lexlook_calls.proofs.Shown.{refused_alike, words_shown}
 use Rattle.lexlook_calls.proofs.words.words_of.Goals as goal
+
+pub find_words-requires-clause-rules : goal.find_words-requires-clause-rules
+find_words-requires-clause-rules c =
+    let S = spec_of c.args.spec in
+    let T = spec_of c.in-Ok-rejecting.spec in
+    let count = ap (λ (l : List Bool). length l) c.deref.ensures.value ∙ c.in-Ok.ensures.len ∙ as_many S T c.in-Ok-rejecting.ensures in
+    λ s i _ a. accepts_known _ _ c.in-Ok-build.ensures.laws count s i a
 
 pub returns-in-Err-build-clause-refused : goal.returns-in-Err-build-clause-refused
 returns-in-Err-build-clause-refused c =

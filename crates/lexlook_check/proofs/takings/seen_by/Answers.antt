@@ -6,7 +6,20 @@ use Rattle.lexlook_specs.specs.Matches.{matches_in}
 use Rattle.lexlook_specs.specs.Rejecting.{rejecting}
 use Rattle.lexlook_specs.specs.Words.{AreWords}
 use Rattle.lexspec.specs.Views.{rules_in, spec_of}
+use Rattle.lexlook_check.proofs.RejectedLaws.{accepts_known, as_many}
 use Rattle.lexlook_check.proofs.takings.seen_by.Goals as goal
+
+pub find_words-requires-clause-rules : goal.find_words-requires-clause-rules
+find_words-requires-clause-rules c =
+    let S = spec_of c.args.spec in
+    let T = spec_of c.in_ok-spec.spec in
+    let count = ap (λ (l : List Bool). length l) c.as_slice.ensures.value ∙ c.in_ok-some.ensures.len ∙ as_many S T c.in_ok-spec.ensures in
+    λ s i _ a. accepts_known _ _ c.in-Ok.ensures.laws count s i a
+
+pub find_words-requires-in-Ok-clause-rules : goal.find_words-requires-in-Ok-clause-rules
+find_words-requires-in-Ok-clause-rules c =
+    let count = ap (λ (l : List Bool). length l) c.as_slice-in-Ok.ensures.value ∙ c.in_ok-all.ensures.len in
+    λ s i _ a. accepts_known _ _ c.in-Ok.ensures.laws count s i a
 
 pub returns-clause-taken : goal.returns-clause-taken
 returns-clause-taken c =
