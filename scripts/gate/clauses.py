@@ -14,7 +14,7 @@ import os
 import re
 import sys
 
-FUNCTION = re.compile(r"^(\s*)(pub )?(?:const )?(?:unsafe )?fn (\w+)")
+FUNCTION = re.compile(r"^(\s*)(pub(?:\(\w+\))? )?(?:const )?(?:unsafe )?fn (\w+)")
 HOLDER = re.compile(r"^(?:unsafe )?(?:impl(?:<.*?>)? (?:.* for )?(?:\w+::)*(\w+)|pub trait (\w+))")
 CLAUSE = re.compile(r"^\s*(requires|ensures)\*?(?: \w+)? \{")
 EXPORT = re.compile(r"^pub use (\w+)::(?:\{([^}]*)\}|(\w+))", re.M)
@@ -98,7 +98,7 @@ def functions(text, specs):
         start = FUNCTION.match(line)
         if start:
             found = None
-            if start[2] or is_trait:
+            if start[2] == "pub " or is_trait:
                 found = [holder, start[3], collections.Counter()]
                 told.append(found)
         clause = CLAUSE.match(line)
