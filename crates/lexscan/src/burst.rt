@@ -11,8 +11,7 @@ use lexscan_matching::{do_gist, longest_match, names_rule, silent_part};
 use lexscan_window::{Outlet, TextPlace};
 
 /// Where some turns over a text led: how many bytes they are done with, how many they asked for, the start of a line
-/// and the condition there, whether the sink failed in the next turn, and how many bytes were passed in runs, where runs
-/// were looked for.
+/// and the condition there, whether the sink failed in the next turn, and whether bytes were passed in runs.
 #[derive(Clone, Copy)]
 pub struct Burst {
     pub done: usize,
@@ -20,7 +19,18 @@ pub struct Burst {
     pub line_start: bool,
     pub condition: u8,
     pub fault: bool,
-    pub passed: Option<usize>,
+    pub runs: Runs,
+}
+
+/// Whether the bytes of some turns were passed in runs of one-byte matches.
+#[derive(Clone, Copy)]
+pub enum Runs {
+    /// No run was looked for.
+    NotLookedFor,
+    /// Less than an eighth of the bytes were.
+    Few,
+    /// A run pays for its look.
+    Many,
 }
 
 /// Whether a line starts after so many bytes of a text, where one starts at its front or not.
@@ -35,10 +45,16 @@ pub fn starts_line(line_start: bool, text: &[u8], count: usize) -> bool
     }
 }
 
-/// How many bytes were passed in runs, where runs are looked for.
+/// What is told of the runs in which so many of the bytes were passed, where runs are looked for.
 #[inline(always)]
-fn passed_in_runs(passing: bool, passed: usize) -> Option<usize> {
-    if passing { Some(passed) } else { None }
+fn runs_of(passing: bool, done: usize, passed: usize) -> Runs {
+    if !passing {
+        Runs::NotLookedFor
+    } else if 0 < passed && done / 8 <= passed {
+        Runs::Many
+    } else {
+        Runs::Few
+    }
 }
 
 /// Turns over a text, of which the first bytes are held and the others are those that the source has ready, as long
@@ -103,7 +119,7 @@ fn burst_by<M: Machine, K: Sink>(
         line_start: starts_line(place.line_start, text, done),
         condition,
         fault,
-        passed: passed_in_runs(passing, passed),
+        runs: runs_of(passing, done, passed),
     }
 }
 

@@ -5,7 +5,7 @@ ghost use Rattle.lex_machine.specs.Glances.{FirstDoes, Leads};
 ghost use Rattle.lexscan_window.specs.Intakes.{can_write};
 ghost use Rattle.lexscan.specs.Texts.{IsMoreMatch, TextBurstMade};
 
-use crate::burst::{Burst, burst_over};
+use crate::burst::{Burst, Runs, burst_over};
 use lex_io::Sink;
 use lex_machine::{Cut, Gist, Machine, Statement, Way};
 use lexscan_matching::{do_gist, longest_match, names_rule};
@@ -89,7 +89,7 @@ fn text_turn<M: Machine, K: Sink>(
             line_start: text[end - 1] == b'\n',
             condition: after,
             fault: false,
-            passed: None,
+            runs: Runs::NotLookedFor,
         },
         kept: 0,
     }
@@ -112,7 +112,7 @@ fn stopped(asked: usize, place: TextPlace, fault: bool) -> TextBurst
             line_start: place.line_start,
             condition: place.condition,
             fault,
-            passed: None,
+            runs: Runs::NotLookedFor,
         },
         kept: place.at,
     }
@@ -195,7 +195,7 @@ fn burst_behind_text<M: Machine, K: Sink>(
             line_start: burst.line_start,
             condition: burst.condition,
             fault: burst.fault,
-            passed: burst.passed,
+            runs: burst.runs,
         },
         kept: 0,
     }
