@@ -765,7 +765,7 @@ on_by M wrote join s t u text held far p q low went b further inside true h = is
 -- turns over what is left of a text
 pub after_text : {K : Type 0} (M : Machine) (wrote : K → List ℕ → K → Type 0) (join : (s t u : K) (xs ys : List ℕ) → wrote s xs t → wrote t ys u → wrote s (xs ++ ys) u) (s t u : K) (text : List ℕ) (held : ℕ) (p : TextPlace) (done kept asked condition : ℕ) (line : Bool) → kept ≡ 0 → held ≤ asked → done ≤ asked →
     TextsMade M wrote s t text held p.at p.condition p.line_start done kept asked condition line → (b : Burst) → asked - done ≤ b.asked → done + b.asked ≤ length text → (fault : Bool) → BurstsBy fault M wrote t u (take (length text - done) (drop done text)) (asked - done) condition line b →
-    TextsBy fault M wrote s u text held p (record { burst = record { done = done + b.done; asked = done + b.asked; line_start = b.line_start; condition = b.condition; fault = b.fault; passed = b.passed }; kept = 0 })
+    TextsBy fault M wrote s u text held p (record { burst = record { done = done + b.done; asked = done + b.asked; line_start = b.line_start; condition = b.condition; fault = b.fault; runs = b.runs }; kept = 0 })
 after_text M wrote join s t u text held p done kept asked condition line none low order went b further inside false h =
     both_went text held done asked b.asked low order further inside M wrote join s t u p.at p.condition p.line_start 0 condition line
     (subst (λ k. TextsMade M wrote s t text held p.at p.condition p.line_start done k asked condition line) none went) b.done 0 b.condition b.line_start

@@ -101,7 +101,7 @@ impl Scan {
     {
         let held = self.state.reading.window.len();
         // After the end nothing is ready. That the bytes held are among those taken is asked, since no invariant says it.
-        if self.state.reading.at_end {
+        if self.state.reading.at_end || self.state.reading.taken < held as u64 {
             return Ok(most);
         }
         let left = self.state.reading.max_reads - self.state.reading.taken;
