@@ -26,7 +26,7 @@ returns-then-self g c = record {
   refusals = grind (arith, common_steps);
   at_end = grind (arith, common_steps);
   max_reads = grind (arith, common_steps);
-  no_earlier = grind (arith, common_steps);
+  no_earlier = λ _. grind (arith, common_steps);
   going = grind (arith, common_steps);
   working = grind (arith, common_steps);
   next = record {
@@ -64,7 +64,7 @@ returns g c = record {
   refusals = grind (arith, common_steps);
   at_end = grind (arith, common_steps);
   max_reads = grind (arith, common_steps);
-  no_earlier = (let old : State = c.args.self.now.state in
+  no_earlier = λ all. (let old : State = c.args.self.now.state in
       let ready : List ℕ = g.S.Source.ready c.args.ends.now.intake.source.now in
       let few : c.show-shown.result ≤ length ready = omega (arith, c.show-shown.ensures.few, ap length c.ahead.ensures) in
       let made = text_made c.text-text.result.now old.reading.window.bytes c.show-shown.new.self.bytes c.show-shown.new.self.ahead c.ahead.result.now ready c.show-shown.result c.text-text.ensures c.show-shown.ensures.bytes c.show-shown.ensures.ahead c.ahead.ensures in
@@ -72,7 +72,7 @@ returns g c = record {
       c.len-held.ensures made few c.burst_from-went.ensures.held c.burst_from-went.ensures.asked
       (c.advance.ensures.held ∙ Further.accepted c.text-text.result.now old.reading.window.bytes c.show-shown.new.self.bytes c.show-shown.new.self.ahead c.ahead.result.now ready c.len-held.result c.show-shown.result c.burst_from-went.result.burst.asked c.burst_from-went.result.burst.done
       c.len-held.ensures made few c.burst_from-went.ensures.asked c.show-shown.ensures.bytes c.show-shown.ensures.ahead c.ahead.ensures) c.advance.ensures.taken c.if-self.false (c.advance.ensures.at_end ∙ c.if-self.false) refl c.advance.ensures.line_start c.advance.ensures.condition c.advance.ensures.stack c.requires.going.going
-      (c.advance.ensures.ended ∙ c.requires.going.going) g.K.Sink.wrote c.args.ends.now.outlet.sink.now c.args.ends.now.outlet.sink.now (grind (arith, common_steps)) c.burst_from-went.ensures.kept c.burst_from-went.ensures.no_earlier);
+      (c.advance.ensures.ended ∙ c.requires.going.going) g.K.Sink.wrote c.args.ends.now.outlet.sink.now c.args.ends.now.outlet.sink.now all c.burst_from-went.ensures.kept c.burst_from-went.ensures.no_earlier);
   going = grind (arith, common_steps);
   working = grind (arith, common_steps);
   next = record {
@@ -125,7 +125,7 @@ returns-then-burst g c = record {
   refusals = grind (arith, common_steps);
   at_end = grind (arith, common_steps);
   max_reads = grind (arith, common_steps);
-  no_earlier = (let old : State = c.args.self.now.state in
+  no_earlier = λ all. (let old : State = c.args.self.now.state in
       let ready : List ℕ = g.S.Source.ready c.args.ends.now.intake.source.now in
       let few : c.show-shown.result ≤ length ready = omega (arith, c.show-shown.ensures.few, ap length c.ahead.ensures) in
       let made = text_made c.text-text.result.now old.reading.window.bytes c.show-shown.new.self.bytes c.show-shown.new.self.ahead c.ahead.result.now ready c.show-shown.result c.text-text.ensures c.show-shown.ensures.bytes c.show-shown.ensures.ahead c.ahead.ensures in
@@ -133,7 +133,7 @@ returns-then-burst g c = record {
       c.len-held.ensures made few c.burst_from-went.ensures.held c.burst_from-went.ensures.asked
       (c.advance.ensures.held ∙ Further.accepted c.text-text.result.now old.reading.window.bytes c.show-shown.new.self.bytes c.show-shown.new.self.ahead c.ahead.result.now ready c.len-held.result c.show-shown.result c.burst_from-went.result.burst.asked c.burst_from-went.result.burst.done
       c.len-held.ensures made few c.burst_from-went.ensures.asked c.show-shown.ensures.bytes c.show-shown.ensures.ahead c.ahead.ensures) c.advance.ensures.taken c.if-self.false (c.advance.ensures.at_end ∙ c.if-self.false) refl c.advance.ensures.line_start c.advance.ensures.condition c.advance.ensures.stack c.requires.going.going
-      (c.advance.ensures.ended ∙ c.requires.going.going) g.K.Sink.wrote c.args.ends.now.outlet.sink.now c.args.ends.now.outlet.sink.now (grind (arith, common_steps)) c.burst_from-went.ensures.kept c.burst_from-went.ensures.no_earlier);
+      (c.advance.ensures.ended ∙ c.requires.going.going) g.K.Sink.wrote c.args.ends.now.outlet.sink.now c.args.ends.now.outlet.sink.now all c.burst_from-went.ensures.kept c.burst_from-went.ensures.no_earlier);
   going = grind (arith, common_steps);
   working = grind (arith, common_steps);
   next = record {
