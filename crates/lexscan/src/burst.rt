@@ -56,7 +56,7 @@ fn burst_by<M: Machine, K: Sink>(
     requires condition { place.condition < (M.machine machine.now).conditions }
     requires held { held ≤ length text.now }
 
-    ensures { BurstMade (M.machine machine.now) outlet.old outlet.new text.now held place result }
+    ensures { BurstMade (M.machine machine.now) outlet.old outlet.new text.now held 0 place result 0 }
 {
     let mut rest = text;
     // How many bytes at the end of the text no match has asked for, if no fewer are left.
@@ -120,7 +120,7 @@ fn plain_burst<M: Machine, K: Sink>(
     requires condition { place.condition < (M.machine machine.now).conditions }
     requires held { held ≤ length text.now }
 
-    ensures { BurstMade (M.machine machine.now) outlet.old outlet.new text.now held place result }
+    ensures { BurstMade (M.machine machine.now) outlet.old outlet.new text.now held 0 place result 0 }
 {
     burst_by(machine, outlet, text, held, place, false)
 }
@@ -138,7 +138,7 @@ fn passing_burst<M: Machine, K: Sink>(
     requires condition { place.condition < (M.machine machine.now).conditions }
     requires held { held ≤ length text.now }
 
-    ensures { BurstMade (M.machine machine.now) outlet.old outlet.new text.now held place result }
+    ensures { BurstMade (M.machine machine.now) outlet.old outlet.new text.now held 0 place result 0 }
 {
     burst_by(machine, outlet, text, held, place, true)
 }
@@ -156,7 +156,7 @@ pub fn burst_over<M: Machine, K: Sink>(
     requires condition { place.condition < (M.machine machine.now).conditions }
     requires held { held ≤ length text.now }
 
-    ensures { BurstMade (M.machine machine.now) outlet.old outlet.new text.now held place result }
+    ensures { BurstMade (M.machine machine.now) outlet.old outlet.new text.now held 0 place result 0 }
 {
     if looking && machine.has_singles(place.condition) {
         return passing_burst(machine, outlet, text, held, place);
