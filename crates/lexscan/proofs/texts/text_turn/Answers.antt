@@ -1,4 +1,4 @@
-use Rattle.std.proofs.Common.{◌≡◌, ◌+◌, ◌-◌, ◌<◌, length, take, drop, refl, sym, subst, ◌∙◌, arith}
+use Rattle.std.proofs.Common.{◌<◌, refl, sym, subst, ◌∙◌, arith}
 use Rattle.std.proofs.lemmas.Grind.{common_steps}
 use Rattle.std.proofs.lemmas.List.{take_rest}
 use Rattle.lexscan_matching.specs.Glanced.{IsGlancedMatch}
