@@ -72,7 +72,7 @@ fn burst_by<M: Machine, K: Sink>(
     requires condition { place.condition < (M.machine machine.now).conditions }
     requires held { held ≤ length text.now }
 
-    ensures { BurstMade (M.machine machine.now) outlet.old outlet.new text.now held place result }
+    ensures { BurstMade (M.machine machine.now) outlet.old outlet.new text.now held 0 place result 0 }
 {
     let mut rest = text;
     // How many bytes at the end of the text no match has asked for, if no fewer are left.
@@ -136,7 +136,7 @@ fn plain_burst<M: Machine, K: Sink>(
     requires condition { place.condition < (M.machine machine.now).conditions }
     requires held { held ≤ length text.now }
 
-    ensures { BurstMade (M.machine machine.now) outlet.old outlet.new text.now held place result }
+    ensures { BurstMade (M.machine machine.now) outlet.old outlet.new text.now held 0 place result 0 }
 {
     burst_by(machine, outlet, text, held, place, false)
 }
@@ -154,7 +154,7 @@ fn passing_burst<M: Machine, K: Sink>(
     requires condition { place.condition < (M.machine machine.now).conditions }
     requires held { held ≤ length text.now }
 
-    ensures { BurstMade (M.machine machine.now) outlet.old outlet.new text.now held place result }
+    ensures { BurstMade (M.machine machine.now) outlet.old outlet.new text.now held 0 place result 0 }
 {
     burst_by(machine, outlet, text, held, place, true)
 }
@@ -172,7 +172,7 @@ pub fn burst_over<M: Machine, K: Sink>(
     requires condition { place.condition < (M.machine machine.now).conditions }
     requires held { held ≤ length text.now }
 
-    ensures { BurstMade (M.machine machine.now) outlet.old outlet.new text.now held place result }
+    ensures { BurstMade (M.machine machine.now) outlet.old outlet.new text.now held 0 place result 0 }
 {
     if looking && machine.has_singles(place.condition) {
         return passing_burst(machine, outlet, text, held, place);

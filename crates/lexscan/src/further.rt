@@ -100,8 +100,8 @@ impl Scan {
         ensures { WentFurther (M.machine machine.now) ends.old ends.new self.old self.new result }
     {
         let held = self.state.reading.window.len();
-        // After the end nothing is ready. That the bytes held are among those taken is asked, since no invariant says it.
-        if self.state.reading.at_end || self.state.reading.taken < held as u64 {
+        // After the end nothing is ready.
+        if self.state.reading.at_end {
             return Ok(most);
         }
         let left = self.state.reading.max_reads - self.state.reading.taken;
