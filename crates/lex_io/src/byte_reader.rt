@@ -78,7 +78,7 @@ impl<R: Read> ByteReader<R> {
             Ok(0) => Refill::End,
             Ok(count) => {
                 self.start = self.buffer.len() - count;
-                self.buffer.rotate_right(self.start);
+                move_to_end(self.buffer.as_mut_slice(), count);
                 Refill::Bytes
             }
             Err(error) => {
@@ -172,6 +172,22 @@ impl<R: Read> Read for ByteReader<R> {
         }
         Ok(self.give(buf))
     }
+}
+
+/// Moves the first bytes to the end, so many of them. A few are copied; of more than half the others make room.
+#[inline(always)]
+fn move_to_end(bytes: &mut [u8], count: usize)
+    requires { count ≤ length bytes.old }
+    ensures len { length bytes.new ≡ length bytes.old }
+    ensures moved { drop (length bytes.old - count) bytes.new ≡ take count bytes.old }
+{
+    let start = bytes.len() - count;
+    if start < count {
+        bytes.rotate_right(start);
+        return;
+    }
+    let (front, back) = bytes.split_at_mut(start);
+    back.copy_from_slice(&front[..count]);
 }
 
 /// Reads once, to the front of the buffer.

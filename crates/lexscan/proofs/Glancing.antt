@@ -8,8 +8,9 @@ use Rattle.lex_semantics.specs.Text.{IsText, AllBelow}
 use Rattle.lex_semantics.specs.Machine.{Machine, walk}
 use Rattle.lex_semantics.specs.MachineLaws.{MachineLaws}
 use Rattle.lex_semantics.proofs.Texts.{is_text_take, is_text_drop}
+use Rattle.lex_machine.specs.Glances.{are_simple}
 use Rattle.lexscan_matching.specs.declared.glanced.GlancedMatch.{GlancedMatch}
-use Rattle.lexscan_matching.specs.Glanced.{IsGlancedMatch, written_by}
+use Rattle.lexscan_matching.specs.Glanced.{IsGlancedMatch, statements_in, condition_after, written_by}
 use Rattle.lexscan_matching.specs.Descends.{Conditions, matches_of, Takes}
 use Rattle.lexscan_matching.specs.Picks.{path_of}
 use Rattle.lexscan_matching.proofs.Barrens.{true_burst}
@@ -31,7 +32,7 @@ use Rattle.lexscan.specs.Scans.{IsGoing, ScanInvariant}
 use Rattle.lexscan.specs.TurnInvariants.{TurnInvariant, TurnPreserves}
 use Rattle.lexscan.specs.TurnSteps.{MatchStep}
 use Rattle.lexscan.proofs.Bursting as Burst
-use Rattle.lexscan.proofs.Bursting.{Heads, acting_after_gist, grows, grown_by, size_from}
+use Rattle.lexscan.proofs.Bursting.{Heads, Tells, Does, tells_gist, does_gist, acting_then, grows, grown_by}
 use Rattle.lexscan.proofs.Furthering as Further
 use Rattle.lexscan.proofs.Stepping as Go
 use Rattle.lexscan.proofs.Taking as Take
@@ -53,6 +54,12 @@ module _ (M : Machine) (laws : MachineLaws M) (text : List ℕ) (bytes : IsText 
   tells : IsGlancedMatch M (M.start condition line) (drop 0 text) told.way.count longest
   tells = inl (told.some, told.short, told.none, told.gists)
 
+  told_gist : (are_simple (statements_in told.gist) ≡ true) × Tells M (M.start condition line) (drop 0 text) told.way.count (statements_in told.gist) t.keep
+  told_gist = tells_gist M (M.start condition line) (drop 0 text) told.way.count longest told.rule.0 tells
+
+  does : Does (statements_in told.gist) (written_by told.gist) (condition_after told.gist) false
+  does = does_gist told.gist told.rule.0 told_gist.0
+
   least : 0 ≤ held
   least = omega arith
 
@@ -61,7 +68,7 @@ module _ (M : Machine) (laws : MachineLaws M) (text : List ℕ) (bytes : IsText 
 
   -- what is held then
   abbrev pub seen : List ℕ
-  seen = drop 0 (take beyond text)
+  seen = take beyond text
 
   -- what was not held before
   abbrev pub got : List ℕ
@@ -74,28 +81,28 @@ module _ (M : Machine) (laws : MachineLaws M) (text : List ℕ) (bytes : IsText 
   p = record { at = 0; line_start = line; condition = condition }
 
   pub more : held ≤ beyond
-  more = Burst.far_beyond M laws text bytes 0 held condition line told.way longest least inside told.leads tells told.rule.0
+  more = Burst.far_beyond M laws text bytes 0 held condition line told.way (statements_in told.gist) (written_by told.gist) (condition_after told.gist) false t.keep least inside told.leads told_gist.1 does
 
   pub high : beyond ≤ length text
-  high = Burst.inside_beyond M laws text bytes 0 held condition line told.way longest least inside told.leads tells told.rule.0
+  high = Burst.inside_beyond M laws text bytes 0 held condition line told.way (statements_in told.gist) (written_by told.gist) (condition_after told.gist) false t.keep least inside told.leads told_gist.1 does
 
   within : told.way.count ≤ length seen
-  within = Burst.within M laws text bytes 0 held condition line told.way longest least inside told.leads tells told.rule.0
+  within = let w = Burst.within M laws text bytes 0 held condition line told.way (statements_in told.gist) (written_by told.gist) (condition_after told.gist) false t.keep least inside told.leads told_gist.1 does in omega (arith, w)
 
   pub size : length seen ≡ beyond
-  size = let s = size_from text 0 held beyond (omega arith) more high in omega (arith, s)
+  size = length-take-le beyond text high
 
   pub asked_size : length got ≡ beyond - held
   asked_size = grown_by text 0 held beyond (omega arith) more high
 
-  abbrev heads : Heads M p seen (path_of M p seen told.way.count) told.gist t.keep
-  heads = Burst.heads M laws text bytes 0 held condition line told.way longest least inside told.leads tells told.rule.0
+  abbrev heads : Heads M p seen (path_of M p seen told.way.count) (statements_in told.gist) t.keep
+  heads = Burst.heads M laws text bytes 0 held condition line told.way (statements_in told.gist) (written_by told.gist) (condition_after told.gist) false t.keep least inside told.leads told_gist.1 does
 
   number : heads.number ≡ Some (Numbered t.rule)
-  number = heads.named t.rule told.rule.1 (ap (λ l. M.accepts (walk M (M.start condition line) l)) (Burst.front_here M laws text bytes 0 held condition line told.way longest least inside told.leads tells told.rule.0 t.keep told.short) ∙ told.rule.2)
+  number = heads.named t.rule told.rule.1 (ap (λ l. M.accepts (walk M (M.start condition line) l)) (Burst.front_here M laws text bytes 0 held condition line told.way (statements_in told.gist) (written_by told.gist) (condition_after told.gist) false t.keep least inside told.leads told_gist.1 does t.keep told.short) ∙ told.rule.2)
 
   pub below : condition < M.conditions → t.condition < M.conditions
-  below lt = let b = Burst.condition_below M laws text bytes 0 held condition line told.way longest least inside told.leads tells told.rule.0 lt in omega (arith, b, told.condition_is)
+  below lt = let b = Burst.gist_within M laws (M.start condition line) text told.way.count condition longest told.rule.0 tells lt in omega (arith, b, told.condition_is)
 
   -- the turn over a scan and the one after it
   module _ (old new : State) (window : Held) (line' : Bool) (count : ℕ) (at : old.place ≡ record { at = 0; line_start = line; condition = condition }) (first : old.reading.window.bytes ≡ take held text) (reading : old.reading.at_end ≡ false) (works : old.failed ≡ false) (going : old.ended ≡ None)
@@ -138,14 +145,14 @@ module _ (M : Machine) (laws : MachineLaws M) (text : List ℕ) (bytes : IsText 
         reach = told.way.count;
         some = told.leads.some;
         state = told.way.state;
-        so_far = Burst.so_far M laws text bytes 0 held condition line told.way longest least inside told.leads tells told.rule.0;
+        so_far = Burst.so_far M laws text bytes 0 held condition line told.way (statements_in told.gist) (written_by told.gist) (condition_after told.gist) false t.keep least inside told.leads told_gist.1 does;
         size = (let s = length-take-le held text inside in omega (arith, size, ap length first, s));
         stops = inl (told.leads.stops, left.at_end);
       };
       acted = record {
-        acting = acting_after_gist told.gist t.keep cs;
+        acting = acting_then false (0 + t.keep) (condition_after told.gist condition) cs;
         ended = None;
-        performed = Burst.performed M laws text bytes 0 held condition line told.way longest least inside told.leads tells told.rule.0 Nothing (λ s. tt) (λ s u v xs ys a b. tt) tt tt old.acting.stack tt;
+        performed = Burst.performed M laws text bytes 0 held condition line told.way (statements_in told.gist) (written_by told.gist) (condition_after told.gist) false t.keep least inside told.leads told_gist.1 does old.acting.stack;
         inside = omega (arith, within, told.short);
         left = record {
           held = held_is ∙ ap (λ k. drop k seen) same_keep;
@@ -160,7 +167,7 @@ module _ (M : Machine) (laws : MachineLaws M) (text : List ℕ) (bytes : IsText 
         same = record { taken = refl; at_end = refl };
         is_ended = λ e h. left.ended ∙ going ∙ h;
         takes = subst (λ r. Takes M seen 0 (matches_of M seen 0 (path_of M p seen told.way.count)) cs r) (number ∙ sym left.matched)
-            (Burst.takes M laws text bytes 0 held condition line told.way longest least inside told.leads tells told.rule.0 Nothing (λ s. tt) (λ s u v xs ys a b. tt) tt tt old.acting.stack);
+            (Burst.takes M laws text bytes 0 held condition line told.way (statements_in told.gist) (written_by told.gist) (condition_after told.gist) false t.keep least inside told.leads told_gist.1 does old.acting.stack);
       };
     }
 
@@ -213,7 +220,7 @@ module _ (M : Machine) (laws : MachineLaws M) (old new : Scan) (waiting text : L
   high_far = high M laws text bytes held condition begin_line t told inside
 
   first : old.state.reading.window.bytes ≡ take held text
-  first = sym (ap (λ k. take k text) size ∙ Further.held_first text old.state.reading.window.bytes waiting shown far made few (omega (arith, low, size)) high_far)
+  first = Further.held_all text old.state.reading.window.bytes waiting held shown far size made few low high_far
 
   -- what is held with what was shown
   seen_is : window.bytes ++ take (asked - held) window.ahead ≡ take far text
@@ -221,8 +228,8 @@ module _ (M : Machine) (laws : MachineLaws M) (old new : Scan) (waiting text : L
       ap (λ l. l ++ take (asked - held) window.ahead) same
       ∙ ap (λ l. old.state.reading.window.bytes ++ take (asked - held) l) ahead
       ∙ ap (λ l. old.state.reading.window.bytes ++ l) (take-take (asked - held) shown waiting (omega (arith, far_is, high_far, all)))
-      ∙ (let e : asked - held ≡ far - length old.state.reading.window.bytes = omega (arith, far_is, size) in ap (λ k. old.state.reading.window.bytes ++ take k waiting) e)
-      ∙ sym (Further.asked_first text old.state.reading.window.bytes waiting shown far made few (omega (arith, low, size)) high_far)
+      ∙ ap (λ k. old.state.reading.window.bytes ++ take (k - held) waiting) far_is
+      ∙ sym (Further.asked_all text old.state.reading.window.bytes waiting held shown far size made few low high_far)
 
   given : take (far - held) waiting ≡ drop held (take far text)
   given = Further.given_all text old.state.reading.window.bytes waiting held shown far size made few low high_far

@@ -37,6 +37,10 @@ start_is M n given out s h =
     let size : length s.reading.window.bytes ≡ length given - h.start = ap length h.held ∙ length-drop h.start given in
     omega (arith, size, h.taken, h.covered)
 
+-- what is held was taken
+pub all_taken : (M : Machine) (n : ℕ) (given out : List ℕ) (s : State) → TurnInvariant M n given out s → length s.reading.window.bytes ≤ s.reading.taken
+all_taken M n given out s h = omega (arith, ap length h.held, length-drop h.start given, h.taken)
+
 pub turn_falls : (M : Machine) (laws : MachineLaws M) (m n : ℕ) (given got out wrote : List ℕ) (old new : State) → (h : TurnInvariant M n given out old) → (k : TurnInvariant M (suc n) (given ++ got) (out ++ wrote) new) → NoneAfterEnd old new got → new.ended ≡ None →
     old.reading.taken ≤ m → new.reading.taken ≤ m → left_over m new < left_over m old
 turn_falls M laws m n given got out wrote old new h k none going few few' =

@@ -197,7 +197,7 @@ module _ (M : Machine) (laws : MachineLaws M) (text : List ℕ) (bytes : IsText 
 
   module _ (so_far : SeriesTells M text held condition0 line0 added done asked condition line) (line' : Bool) (line_is : line' ≡ nat_eq (get_or rest (t.keep - 1) 0) 10) where
     -- before the match and after it, where the turns led to a state
-    module _ (old new : State) (taken : ℕ) (stack : List ℕ) (some : held ≤ taken) (stands : Between old (take held text) taken condition0 line0 stack) (led : Between new (drop (done + t.keep) (take next text)) (taken + (next - held)) t.condition line' stack) (works : new.failed ≡ false) where
+    module _ (old new : State) (taken : ℕ) (stack : List ℕ) (some : held ≤ taken) (stands : Between old (take held text) 0 taken condition0 line0 stack) (led : Between new (drop (done + t.keep) (take next text)) 0 (taken + (next - held)) t.condition line' stack) (works : new.failed ≡ false) where
       few : taken + (asked - held) + 0 ≤ new.reading.max_reads
       few = let all = new.reading.few_reads in omega (arith, all, led.taken_is, next_more, low)
 
@@ -301,12 +301,12 @@ pub series_none : (M : Machine) (text : List ℕ) (held condition : ℕ) (line :
 series_none M text held condition line inside old new taken stack some stands led works =
     let nothing : drop held (take held text) ≡ [] = drop_all held (take held text) (omega (arith, length-take-le held text inside)) in
     subst (λ l. TurnsTell M l [] old new) (sym nothing) (tells_none M old new (λ n given before h.
-    stands_all M n given before old (take held text) stands.bytes_are stands.at_end stands.at stands.going h new
+    stands_all M n given before old (take held text) stands.bytes_are stands.at_end stands.going h new
     (record {
       bytes_are = led.bytes_are;
       taken_is = omega (arith, led.taken_is, stands.taken_is);
       at_end = led.at_end;
-      at = led.at;
+      at = led.at ∙ sym stands.at;
       line_is = led.line_is ∙ sym stands.line_is;
       condition_is = led.condition_is ∙ sym stands.condition_is;
       stack_is = led.stack_is ∙ sym stands.stack_is;
@@ -340,13 +340,13 @@ module _ (M : Machine) (old new : ScanParts) (waiting text : List ℕ) (window :
   bytes_are = led.held ∙ Further.accepted text bytes window.bytes window.ahead waiting waiting held shown b.asked b.done size made_of few made.asked same ahead refl
 
   first : bytes ≡ take held text
-  first = Further.first_held M old.state new.state text waiting held shown b.asked b.done b.condition b.line_start size made_of few made.held made.asked bytes_are led.taken reading (led.at_end ∙ reading) begins led.at led.line_start led.condition led.stack going.going (led.ended ∙ going.going) Nothing tt tt
+  first = Further.held_all text bytes waiting held shown b.asked size made_of few made.held made.asked
 
-  between : Between new.state (drop b.done (take b.asked text)) (old.state.reading.taken + (b.asked - held)) b.condition b.line_start old.state.acting.stack
-  between = Further.between M old.state new.state text waiting held shown b.asked b.done b.condition b.line_start size made_of few made.held made.asked bytes_are led.taken reading (led.at_end ∙ reading) begins led.at led.line_start led.condition led.stack going.going (led.ended ∙ going.going) Nothing tt tt
+  between : Between new.state (drop b.done (take b.asked text)) 0 (old.state.reading.taken + (b.asked - held)) b.condition b.line_start old.state.acting.stack
+  between = Further.between M old.state new.state text waiting held shown b.asked b.done 0 b.condition b.line_start size made_of few made.held made.asked bytes_are led.taken reading (led.at_end ∙ reading) led.at led.line_start led.condition led.stack going.going (led.ended ∙ going.going) Nothing tt tt
 
   given : drop held (take b.asked text) ≡ take (b.asked - held) waiting
-  given = Further.given_is M old.state new.state text waiting held shown b.asked b.done b.condition b.line_start size made_of few made.held made.asked bytes_are led.taken reading (led.at_end ∙ reading) begins led.at led.line_start led.condition led.stack going.going (led.ended ∙ going.going) Nothing tt tt
+  given = sym (Further.given_all text bytes waiting held shown b.asked size made_of few made.held made.asked)
 
   tells : TurnsTell M (drop held (take b.asked text)) (drawn_out (old.state.reading.taken - held) made.added) old.state new.state
   tells = made.tells old.state new.state old.state.reading.taken old.state.acting.stack some

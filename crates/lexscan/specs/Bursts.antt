@@ -1,8 +1,11 @@
--- What several turns in one go do.
-use Rattle.std.specs.Prelude.{◌≡◌, ℕ, ◌+◌, ◌-◌, ◌<◌, ◌≤◌, Bool, true, false, List, ◌++◌, length, take, drop, get_or, ◌==◌, if◌then◌else◌, None, Result, Ok, Err}
+-- What several turns in one go do. yymore may keep bytes of the text before the first match and after the last.
+use Rattle.std.specs.Prelude.{◌≡◌, ℕ, ◌+◌, ◌-◌, ◌<◌, ◌≤◌, Bool, true, false, List, [], ◌∷◌, ◌++◌, length, take, drop, get_or, ◌==◌, if◌then◌else◌, None, Result, Ok, Err}
 use Rattle.lex_io.specs.declared.sink.Sink as Sink
-use Rattle.lex_semantics.specs.Machine.{Machine}
+use Rattle.lex_semantics.specs.Spec as S
+use Rattle.lex_semantics.specs.Machine.{Machine, walk}
+use Rattle.lex_machine.specs.Glances.{FirstDoes}
 use Rattle.lex_machine.specs.Singles.{Singles}
+use Rattle.lexscan_matching.specs.Glanced.{NoneAfter}
 use Rattle.lexscan_window.specs.Intakes.{sink_of, sink_name, can_write}
 use Rattle.lexscan_window.specs.declared.intake.Outlet.{Outlet}
 use Rattle.lexscan_window.specs.declared.state.TextPlace.{TextPlace}
@@ -23,37 +26,46 @@ pub record Passed (Is : Machine → ℕ → ℕ → Type 0) (M : Machine) (condi
     pub singles : Singles Is M condition first bytes count
     pub left_is : left ≡ drop count bytes
 
--- A state between two turns, with these bytes held and so many taken.
-pub record Between (v : State) (bytes : List ℕ) (taken condition : ℕ) (line : Bool) (stack : List ℕ) : Type 0 where
+-- The first of these bytes, so many of them, are the longest match of a walk, whose rule keeps all of it and does
+-- yymore alone. (flex, Actions: yymore.)
+abbrev pub IsMoreMatch : Machine → ℕ → List ℕ → ℕ → ℕ → Type 0
+IsMoreMatch M first bytes count keep =
+    (1 ≤ keep) × (keep ≤ count) × NoneAfter M first bytes keep count
+    × FirstDoes M (walk M first (take keep bytes)) (S.More ∷ [])
+
+-- A state between two turns, with these bytes held, so many of them kept before the next match, and so many taken.
+pub record Between (v : State) (bytes : List ℕ) (kept taken condition : ℕ) (line : Bool)
+    (stack : List ℕ) : Type 0 where
   pub bytes_are : v.reading.window.bytes ≡ bytes
   pub taken_is : v.reading.taken ≡ taken
   pub at_end : v.reading.at_end ≡ false
-  pub at : v.place.at ≡ 0
+  pub at : v.place.at ≡ kept
   pub line_is : v.place.line_start ≡ line
   pub condition_is : v.place.condition ≡ condition
   pub stack_is : v.acting.stack ≡ stack
   pub going : v.ended ≡ None
 
 -- The invariant after n turns holds of each such state that has not failed.
-abbrev pub AllInvariant : Machine → ℕ → List ℕ → List ℕ → List ℕ → ℕ → ℕ → Bool → List ℕ → Type 0
-AllInvariant M n given out bytes taken condition line stack =
-    (v : State) → Between v bytes taken condition line stack → v.failed ≡ false → TurnInvariant M n given out v
+abbrev pub AllInvariant : Machine → ℕ → List ℕ → List ℕ → List ℕ → ℕ → ℕ → ℕ → Bool → List ℕ → Type 0
+AllInvariant M n given out bytes kept taken condition line stack =
+    (v : State) → Between v bytes kept taken condition line stack → v.failed ≡ false → TurnInvariant M n given out v
 
--- Some turns over a text, of which the first bytes are held: they were told from its first byte up to that at `done`,
--- and asked for those up to `asked`.
+-- Some turns over a text, of which the first bytes are held, and some of these kept before the first match: they are
+-- done with the bytes up to that at `done`, have kept so many more before the next match, and asked for those up to
+-- `asked`.
 pub record TurnsMade {K : Type 0} (M : Machine) (wrote : K → List ℕ → K → Type 0) (t u : K) (text : List ℕ)
-    (held condition : ℕ) (line : Bool) (done asked condition' : ℕ) (line' : Bool) : Type 0 where
+    (held kept condition : ℕ) (line : Bool) (done kept' asked condition' : ℕ) (line' : Bool) : Type 0 where
   pub turns : ℕ
   pub out : List ℕ
   pub sink : wrote t out u
   pub stand : (n : ℕ) (given before : List ℕ) (taken : ℕ) (stack : List ℕ)
-      → AllInvariant M n given before (take held text) taken condition line stack →
+      → AllInvariant M n given before (take held text) kept taken condition line stack →
       AllInvariant M (turns + n) (given ++ drop held (take asked text)) (before ++ out) (drop done (take asked text))
-      (taken + (asked - held)) condition' line' stack
+      kept' (taken + (asked - held)) condition' line' stack
 
 -- The burst was stopped: the turn after some others was refused, since the sink failed.
 pub record BurstStopped {K : Type 0} (M : Machine) (wrote : K → List ℕ → K → Type 0) (t u : K) (text : List ℕ)
-    (held condition : ℕ) (line : Bool) (done asked condition' : ℕ) (line' : Bool) : Type 0 where
+    (held kept condition : ℕ) (line : Bool) (done kept' asked condition' : ℕ) (line' : Bool) : Type 0 where
   pub turns : ℕ
   pub out : List ℕ
   pub sink : wrote t out u
@@ -61,33 +73,36 @@ pub record BurstStopped {K : Type 0} (M : Machine) (wrote : K → List ℕ → K
   pub few : held ≤ before
   pub more : before ≤ asked
   pub refusal : (n : ℕ) (given had : List ℕ) (taken : ℕ) (stack : List ℕ)
-      → AllInvariant M n given had (take held text) taken condition line stack →
-      (v : State) → Between v (drop done (take asked text)) (taken + (asked - held)) condition' line' stack
+      → AllInvariant M n given had (take held text) kept taken condition line stack →
+      (v : State) → Between v (drop done (take asked text)) kept' (taken + (asked - held)) condition' line' stack
       → v.failed ≡ true →
       AfterRefusal M (turns + n) (given ++ drop held (take before text)) (drop before (take asked text)) (had ++ out) v
       Write
 
-abbrev pub BurstsBy : {K : Type 0} → Bool → Machine → (K → List ℕ → K → Type 0) → K → K → List ℕ → ℕ → ℕ → Bool → Burst
-    → Type 0
-BurstsBy false M wrote t u text held condition line b =
-    TurnsMade M wrote t u text held condition line b.done b.asked b.condition b.line_start
-BurstsBy true M wrote t u text held condition line b =
-    BurstStopped M wrote t u text held condition line b.done b.asked b.condition b.line_start
+abbrev pub BurstsBy : {K : Type 0} → Bool → Machine → (K → List ℕ → K → Type 0) → K → K → List ℕ → ℕ → ℕ → ℕ → Bool
+    → Burst → ℕ → Type 0
+BurstsBy false M wrote t u text held kept condition line b kept' =
+    TurnsMade M wrote t u text held kept condition line b.done kept' b.asked b.condition b.line_start
+BurstsBy true M wrote t u text held kept condition line b kept' =
+    BurstStopped M wrote t u text held kept condition line b.done kept' b.asked b.condition b.line_start
 
 abbrev pub fault_of : Bool → ℕ
 fault_of true = 1
 fault_of false = 0
 
--- A burst was made over a text, of which so many bytes were held: what it wrote, and where it led.
+-- A burst was made over a text, of which so many bytes were held, and so many of these kept before the first match:
+-- what it wrote, where it led, and how many bytes it keeps before the next match.
 module _ {K : Type 0} {of_sink : Sink.Ghosts K} where
-  pub record BurstMade (M : Machine) (o o' : Outlet K of_sink) (text : List ℕ) (count : ℕ) (place : TextPlace)
-      (b : Burst) : Type 0 where
+  pub record BurstMade (M : Machine) (o o' : Outlet K of_sink) (text : List ℕ) (count before : ℕ) (place : TextPlace)
+      (b : Burst) (after : ℕ) : Type 0 where
     pub same : sink_name o' ≡ sink_name o
-    pub bursts : BurstsBy b.fault M of_sink.wrote (sink_of o) (sink_of o') text count place.condition place.line_start b
+    pub bursts : BurstsBy b.fault M of_sink.wrote (sink_of o) (sink_of o') text count before place.condition
+        place.line_start b after
     pub failures : of_sink.failures (sink_of o') ≡ of_sink.failures (sink_of o) + fault_of b.fault
     pub live : b.fault ≡ false → can_write o' ≡ true
     pub condition : b.condition < M.conditions
-    pub done : b.done ≤ b.asked
+    pub no_earlier : before ≤ b.done + after
+    pub kept : b.done + after ≤ b.asked
     pub held : count ≤ b.asked
     pub asked : b.asked ≤ length text
 

@@ -13,7 +13,6 @@ pub mod Stacks
 pub mod TurnInvariants
 pub mod Runs
 pub mod Bursts
-pub mod Texts
 pub mod Turns
 pub mod Ties
 pub mod Scanners

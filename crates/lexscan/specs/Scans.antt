@@ -115,7 +115,7 @@ module _ {S K : Type 0} {of_source : Source.Ghosts S} {of_sink : Sink.Ghosts K} 
     pub refusals : IfErr result (λ e. e ≡ Write)
     pub at_end : new.state.reading.at_end ≡ old.state.reading.at_end
     pub max_reads : new.state.reading.max_reads ≡ old.state.reading.max_reads
-    pub no_earlier : NoEarlier old.state new.state
+    pub no_earlier : length old.state.reading.window.bytes ≤ old.state.reading.taken → NoEarlier old.state new.state
     pub going : new.state.ended ≡ None
     pub working : OnOk result (new.state.failed ≡ false)
     pub next : MayTurn M e' new

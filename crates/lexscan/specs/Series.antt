@@ -60,8 +60,8 @@ pub record TurnsTell (M : Machine) (got : List ℕ) (told : List Token) (old new
 abbrev pub SeriesTells : Machine → List ℕ → ℕ → ℕ → Bool → List BriefToken → ℕ → ℕ → ℕ → Bool → Type 0
 SeriesTells M text held condition line added done asked condition' line' =
     (old new : State) (taken : ℕ) (stack : List ℕ) → held ≤ taken
-    → Between old (take held text) taken condition line stack
-    → Between new (drop done (take asked text)) (taken + (asked - held)) condition' line' stack → new.failed ≡ false
+    → Between old (take held text) 0 taken condition line stack
+    → Between new (drop done (take asked text)) 0 (taken + (asked - held)) condition' line' stack → new.failed ≡ false
     → TurnsTell M (drop held (take asked text)) (drawn_out (taken - held) added) old new
 
 -- A series was made over a text, of which so many bytes were held: its tokens were appended.

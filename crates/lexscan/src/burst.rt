@@ -11,8 +11,7 @@ use lexscan_matching::{do_gist, longest_match, names_rule, silent_part};
 use lexscan_window::{Outlet, TextPlace};
 
 /// Where some turns over a text led: how many bytes they are done with, how many they asked for, the start of a line
-/// and the condition there, whether the sink failed in the next turn, and how many bytes were passed in runs, where runs
-/// were looked for.
+/// and the condition there, whether the sink failed in the next turn, and whether bytes were passed in runs.
 #[derive(Clone, Copy)]
 pub struct Burst {
     pub done: usize,
@@ -20,7 +19,18 @@ pub struct Burst {
     pub line_start: bool,
     pub condition: u8,
     pub fault: bool,
-    pub passed: Option<usize>,
+    pub runs: Runs,
+}
+
+/// Whether the bytes of some turns were passed in runs of one-byte matches.
+#[derive(Clone, Copy)]
+pub enum Runs {
+    /// No run was looked for.
+    NotLookedFor,
+    /// Less than an eighth of the bytes were.
+    Few,
+    /// A run pays for its look.
+    Many,
 }
 
 /// Whether a line starts after so many bytes of a text, where one starts at its front or not.
@@ -35,10 +45,16 @@ pub fn starts_line(line_start: bool, text: &[u8], count: usize) -> bool
     }
 }
 
-/// How many bytes were passed in runs, where runs are looked for.
+/// What is told of the runs in which so many of the bytes were passed, where runs are looked for.
 #[inline(always)]
-fn passed_in_runs(passing: bool, passed: usize) -> Option<usize> {
-    if passing { Some(passed) } else { None }
+fn runs_of(passing: bool, done: usize, passed: usize) -> Runs {
+    if !passing {
+        Runs::NotLookedFor
+    } else if 0 < passed && done / 8 <= passed {
+        Runs::Many
+    } else {
+        Runs::Few
+    }
 }
 
 /// Turns over a text, of which the first bytes are held and the others are those that the source has ready, as long
@@ -56,7 +72,7 @@ fn burst_by<M: Machine, K: Sink>(
     requires condition { place.condition < (M.machine machine.now).conditions }
     requires held { held ≤ length text.now }
 
-    ensures { BurstMade (M.machine machine.now) outlet.old outlet.new text.now held place result }
+    ensures { BurstMade (M.machine machine.now) outlet.old outlet.new text.now held 0 place result 0 }
 {
     let mut rest = text;
     // How many bytes at the end of the text no match has asked for, if no fewer are left.
@@ -103,7 +119,7 @@ fn burst_by<M: Machine, K: Sink>(
         line_start: starts_line(place.line_start, text, done),
         condition,
         fault,
-        passed: passed_in_runs(passing, passed),
+        runs: runs_of(passing, done, passed),
     }
 }
 
@@ -120,7 +136,7 @@ fn plain_burst<M: Machine, K: Sink>(
     requires condition { place.condition < (M.machine machine.now).conditions }
     requires held { held ≤ length text.now }
 
-    ensures { BurstMade (M.machine machine.now) outlet.old outlet.new text.now held place result }
+    ensures { BurstMade (M.machine machine.now) outlet.old outlet.new text.now held 0 place result 0 }
 {
     burst_by(machine, outlet, text, held, place, false)
 }
@@ -138,7 +154,7 @@ fn passing_burst<M: Machine, K: Sink>(
     requires condition { place.condition < (M.machine machine.now).conditions }
     requires held { held ≤ length text.now }
 
-    ensures { BurstMade (M.machine machine.now) outlet.old outlet.new text.now held place result }
+    ensures { BurstMade (M.machine machine.now) outlet.old outlet.new text.now held 0 place result 0 }
 {
     burst_by(machine, outlet, text, held, place, true)
 }
@@ -156,7 +172,7 @@ pub fn burst_over<M: Machine, K: Sink>(
     requires condition { place.condition < (M.machine machine.now).conditions }
     requires held { held ≤ length text.now }
 
-    ensures { BurstMade (M.machine machine.now) outlet.old outlet.new text.now held place result }
+    ensures { BurstMade (M.machine machine.now) outlet.old outlet.new text.now held 0 place result 0 }
 {
     if looking && machine.has_singles(place.condition) {
         return passing_burst(machine, outlet, text, held, place);

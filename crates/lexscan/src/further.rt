@@ -4,7 +4,7 @@ ghost use Rattle.lex_semantics.specs.ByteSets.{bit_of};
 ghost use Rattle.lexscan.specs.Bursts.{Advanced};
 ghost use Rattle.lexscan.specs.Scans.{IsGoing, MayTurn, WentFurther};
 
-use crate::burst::Burst;
+use crate::burst::{Burst, Runs};
 use crate::find::has_backlog;
 use crate::scan::{Ends, Scan};
 use crate::texts::burst_from;
@@ -72,13 +72,13 @@ impl InVain {
         self.bursts < MOST_IN_VAIN
     }
 
-    /// The same after one burst more. A run is worth its look where an eighth of the bytes is passed so.
+    /// The same after one burst more.
     #[inline]
-    fn after(self, done: usize, passed: Option<usize>) -> InVain {
-        let bursts = match passed {
-            Some(passed) if 0 < passed && done / 8 <= passed => 0,
-            None if self.looks() => self.bursts,
-            None if UNTIL_AGAIN <= self.bursts => MOST_IN_VAIN - 1,
+    fn after(self, runs: Runs) -> InVain {
+        let bursts = match runs {
+            Runs::Many => 0,
+            Runs::NotLookedFor if self.looks() => self.bursts,
+            Runs::NotLookedFor if UNTIL_AGAIN <= self.bursts => MOST_IN_VAIN - 1,
             _ => self.bursts.saturating_add(1),
         };
         InVain { bursts }
@@ -100,8 +100,8 @@ impl Scan {
         ensures { WentFurther (M.machine machine.now) ends.old ends.new self.old self.new result }
     {
         let held = self.state.reading.window.len();
-        // After the end nothing is ready. That the bytes held are among those taken is asked, since no invariant says it.
-        if self.state.reading.at_end || self.state.reading.taken < held as u64 {
+        // After the end nothing is ready.
+        if self.state.reading.at_end {
             return Ok(most);
         }
         let left = self.state.reading.max_reads - self.state.reading.taken;
@@ -116,7 +116,7 @@ impl Scan {
         let looking = in_vain.looks();
         let went = burst_from(machine, &mut ends.outlet, text, held, place, looking);
         let burst = went.burst;
-        *in_vain = in_vain.after(burst.done, burst.passed);
+        *in_vain = in_vain.after(burst.runs);
         // What no turn has asked for stays with the source.
         let got = burst.asked - held;
         ends.intake.give(got);

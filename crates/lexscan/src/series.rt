@@ -6,7 +6,7 @@ ghost use Rattle.lexscan.specs.Pushes.{IsReachable};
 ghost use Rattle.lexscan.specs.Scans.{IsGoing, ScanInvariant};
 ghost use Rattle.lexscan.specs.Series.{AreStarts, IsBrief, SeriesMade, ListedOver};
 
-use crate::burst::{Burst, starts_line};
+use crate::burst::{Burst, Runs, starts_line};
 use crate::find::has_backlog;
 use crate::further::advance;
 use crate::glance::{ToldMatch, told_match};
@@ -141,7 +141,7 @@ fn series_over<M: Machine>(
         line_start: starts_line(place.line_start, text, done),
         condition,
         fault: false,
-        passed: None,
+        runs: Runs::NotLookedFor,
     }
 }
 

@@ -3,9 +3,9 @@ ghost use Rattle.std.specs.Prelude.{◌≡◌, ℕ, ◌<◌, ◌≤◌, List, []
 ghost use Rattle.lex_semantics.specs.Spec.{More};
 ghost use Rattle.lex_machine.specs.Glances.{FirstDoes, Leads};
 ghost use Rattle.lexscan_window.specs.Intakes.{can_write};
-ghost use Rattle.lexscan.specs.Texts.{IsMoreMatch, TextBurstMade};
+ghost use Rattle.lexscan.specs.Bursts.{IsMoreMatch, BurstMade};
 
-use crate::burst::{Burst, burst_over};
+use crate::burst::{Burst, Runs, burst_over};
 use lex_io::Sink;
 use lex_machine::{Cut, Gist, Machine, Statement, Way};
 use lexscan_matching::{do_gist, longest_match, names_rule};
@@ -70,7 +70,8 @@ fn text_turn<M: Machine, K: Sink>(
     requires leads { (first ≡ (M.machine machine.now).start place.condition place.line_start)
         × Leads (M.machine machine.now) first (drop place.at text.now) way }
 
-    ensures { TextBurstMade (M.machine machine.now) outlet.old outlet.new text.now held place result }
+    ensures { BurstMade (M.machine machine.now) outlet.old outlet.new text.now held place.at place result.burst
+        result.kept }
 {
     let at = place.at;
     let longest = longest_match(machine, first, &text[at..], way);
@@ -89,7 +90,7 @@ fn text_turn<M: Machine, K: Sink>(
             line_start: text[end - 1] == b'\n',
             condition: after,
             fault: false,
-            passed: None,
+            runs: Runs::NotLookedFor,
         },
         kept: 0,
     }
@@ -112,7 +113,7 @@ fn stopped(asked: usize, place: TextPlace, fault: bool) -> TextBurst
             line_start: place.line_start,
             condition: place.condition,
             fault,
-            passed: None,
+            runs: Runs::NotLookedFor,
         },
         kept: place.at,
     }
@@ -132,7 +133,8 @@ fn text_over<M: Machine, K: Sink>(
     requires held { held ≤ length text.now }
     requires inside { place.at ≤ held }
 
-    ensures { TextBurstMade (M.machine machine.now) outlet.old outlet.new text.now held place result }
+    ensures { BurstMade (M.machine machine.now) outlet.old outlet.new text.now held place.at place result.burst
+        result.kept }
 {
     let mut next = place;
     let mut asked = held;
@@ -167,7 +169,8 @@ fn burst_behind_text<M: Machine, K: Sink>(
     requires held { held ≤ length text.now }
     requires inside { place.at ≤ held }
 
-    ensures { TextBurstMade (M.machine machine.now) outlet.old outlet.new text.now held place result }
+    ensures { BurstMade (M.machine machine.now) outlet.old outlet.new text.now held place.at place result.burst
+        result.kept }
 {
     let before = text_over(machine, outlet, text, held, place);
     if before.kept != 0 || before.burst.fault {
@@ -195,7 +198,7 @@ fn burst_behind_text<M: Machine, K: Sink>(
             line_start: burst.line_start,
             condition: burst.condition,
             fault: burst.fault,
-            passed: burst.passed,
+            runs: burst.runs,
         },
         kept: 0,
     }
@@ -217,7 +220,8 @@ pub fn burst_from<M: Machine, K: Sink>(
     requires held { held ≤ length text.now }
     requires inside { place.at ≤ held }
 
-    ensures { TextBurstMade (M.machine machine.now) outlet.old outlet.new text.now held place result }
+    ensures { BurstMade (M.machine machine.now) outlet.old outlet.new text.now held place.at place result.burst
+        result.kept }
 {
     if place.at != 0 {
         return burst_behind_text(machine, outlet, text, held, place, looking);

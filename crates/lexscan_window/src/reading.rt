@@ -14,7 +14,7 @@ use lex_io::{Sink, Source};
 use lex_machine::Machine;
 
 /// Takes the next byte into the window, or learns that there is none.
-#[inline]
+#[inline(always)]
 fn take_plain<S: Source, K: Sink>(
     intake: &mut Intake<'_, S>,
     outlet: &mut Outlet<'_, K>,
@@ -49,6 +49,22 @@ fn take_plain<S: Source, K: Sink>(
             Ok(Some(byte))
         }
     }
+}
+
+/// The same as a call, for a read that may wait.
+#[inline(never)]
+fn take_apart<S: Source, K: Sink>(
+    intake: &mut Intake<'_, S>,
+    outlet: &mut Outlet<'_, K>,
+    reading: &mut Reading,
+) -> Result<Option<u8>, RunError>
+    requires live { can_read intake.old ≡ true }
+    requires sink { can_write outlet.old ≡ true }
+    requires more { reading.old.at_end ≡ false }
+
+    ensures { ByteTaken intake.old intake.new outlet.old outlet.new reading.old reading.new result }
+{
+    take_plain(intake, outlet, reading)
 }
 
 /// Takes the next byte into the window, or learns that there is none. There is room for its state before it is read.
@@ -115,7 +131,7 @@ pub fn fill<M: Machine, S: Source, K: Sink>(
 {
     // Only a read of one byte may wait; bytes that are ready are taken many at a time.
     if intake.ahead().is_empty() {
-        return match take_plain(intake, outlet, reading) {
+        return match take_apart(intake, outlet, reading) {
             Err(e) => Err(e),
             Ok(None) => Ok(Walk::new(0, first, first, Stop::End)),
             Ok(Some(byte)) => Ok(walk_one(machine, first, byte)),

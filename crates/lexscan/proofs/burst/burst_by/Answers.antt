@@ -145,7 +145,8 @@ returns g c =
       failures = grind (arith, common_steps);
       live = grind (arith, common_steps);
       condition = grind (arith, common_steps);
-      done = grind (arith, common_steps);
+      no_earlier = omega arith;
+      kept = grind (arith, common_steps);
       held = grind (arith, common_steps);
       asked = grind (arith, common_steps);
     }

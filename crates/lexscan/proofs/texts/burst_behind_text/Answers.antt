@@ -1,5 +1,6 @@
-use Rattle.std.proofs.Common.{◌≡◌, ◌+◌, ◌-◌, ◌≤◌, length, drop, ap, ◌∙◌, arith}
+use Rattle.std.proofs.Common.{◌≡◌, ◌+◌, ◌-◌, ◌≤◌, length, ap, subst, ◌∙◌, arith}
 use Rattle.std.proofs.lemmas.List.{take_rest, length-drop}
+use Rattle.lexscan.specs.Bursts.{TurnsMade, BurstsBy}
 use Rattle.lexscan.proofs.Chaining as Chain
 use Rattle.lexscan.proofs.texts.burst_behind_text.Goals as goal
 
@@ -18,13 +19,14 @@ returns g c =
     let failures = rw c.if-before.false at e.failures in
     record {
       same = f.same ∙ e.same;
-      bursts = Chain.after_text M g.K.Sink.wrote g.met.K.Sink.wrote_more c.args.outlet.now.sink.now c.text_over-before.new.outlet.sink.now c.burst_over-burst.new.outlet.sink.now text c.args.held c.args.place before.burst.done before.kept before.burst.asked before.burst.condition before.burst.line_start
-          none e.held order (rw c.if-before.false at e.bursts) b f.held inside b.fault f.bursts;
+      bursts = Chain.after_by M g.K.Sink.wrote g.met.K.Sink.wrote_more c.args.outlet.now.sink.now c.text_over-before.new.outlet.sink.now c.burst_over-burst.new.outlet.sink.now text c.args.held c.args.place before.burst.done 0 before.burst.asked before.burst.condition before.burst.line_start
+          e.held order (subst (λ k. TurnsMade M g.K.Sink.wrote c.args.outlet.now.sink.now c.text_over-before.new.outlet.sink.now text c.args.held c.args.place.at c.args.place.condition c.args.place.line_start before.burst.done k before.burst.asked before.burst.condition before.burst.line_start) none (rw c.if-before.false at e.bursts))
+          b 0 f.held inside b.fault (subst (λ l. BurstsBy b.fault M g.K.Sink.wrote c.text_over-before.new.outlet.sink.now c.burst_over-burst.new.outlet.sink.now l (before.burst.asked - before.burst.done) 0 before.burst.condition before.burst.line_start b 0) (take_rest text before.burst.done) f.bursts);
       failures = omega (arith, failures, f.failures);
       live = f.live;
       condition = f.condition;
       no_earlier = omega (arith, e.no_earlier, none);
-      kept = omega (arith, f.done);
+      kept = omega (arith, f.kept);
       held = omega (arith, e.held, f.held, order);
       asked = inside;
     }

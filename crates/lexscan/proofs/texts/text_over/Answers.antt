@@ -1,9 +1,9 @@
-use Rattle.std.proofs.Common.{◌+◌, ◌-◌, length, take, drop, refl, ap, subst, ◌∙◌, arith}
+use Rattle.std.proofs.Common.{◌+◌, drop, refl, ap, subst, ◌∙◌, arith}
 use Rattle.std.proofs.lemmas.List.{take_rest}
 use Rattle.lex_machine.specs.Glances.{Leads}
 use Rattle.lex_machine.proofs.Growing.{is_text_from}
-use Rattle.lexscan.specs.Bursts.{fault_of}
-use Rattle.lexscan.specs.Texts.{TextsBy}
+use Rattle.lexscan.specs.Bursts.{fault_of, BurstsBy}
+use Rattle.lexscan.proofs.Bursting as Turned
 use Rattle.lexscan.proofs.Chaining as Chain
 use Rattle.lexscan.proofs.texts.text_over.Goals as goal
 
@@ -12,7 +12,7 @@ matches-init g c = record {
   same = refl;
   sink = refl;
   live = c.requires.live;
-  went = Chain.went_none (g.M.Machine.machine c.args.machine.now) g.K.Sink.wrote c.args.outlet.now.sink.now c.args.text.now c.args.held c.args.place.at c.args.place.condition c.args.place.line_start c.requires.held (g.met.K.Sink.wrote_none _);
+  went = Turned.went_none (g.M.Machine.machine c.args.machine.now) g.K.Sink.wrote c.args.outlet.now.sink.now c.args.text.now c.args.held c.args.place.at c.args.place.condition c.args.place.line_start c.requires.held (g.met.K.Sink.wrote_none _);
   condition = c.requires.condition;
   starts = c.start-first.ensures.state;
   known = c.start-first.ensures.known;
@@ -33,8 +33,8 @@ returns-in_default-more_part g c =
     let e = c.text_turn.ensures in
     record {
       same = e.same ∙ before.same;
-      bursts = Chain.on_by M g.K.Sink.wrote g.met.K.Sink.wrote_more s s u text c.args.held c.matches.asked c.args.place c.matches.next before.held before.went b e.held e.asked b.burst.fault
-          (subst (λ t. TextsBy b.burst.fault M g.K.Sink.wrote t u text c.matches.asked c.matches.next b) before.sink e.bursts);
+      bursts = Chain.on_by M g.K.Sink.wrote g.met.K.Sink.wrote_more s s u text c.args.held c.matches.asked c.args.place c.matches.next before.held before.went b.burst b.kept e.held e.asked b.burst.fault
+          (subst (λ t. BurstsBy b.burst.fault M g.K.Sink.wrote t u text c.matches.asked c.matches.next.at c.matches.next.condition c.matches.next.line_start b.burst b.kept) before.sink e.bursts);
       failures = e.failures ∙ ap (λ t. g.K.Sink.failures t + fault_of b.burst.fault) before.sink;
       live = e.live;
       condition = e.condition;
@@ -57,10 +57,9 @@ matches-preserved g c =
     let way = c.in-Some.way in
     let keep = c.in-Some-more_part.keep in
     let leads = subst (λ l. Leads M c.matches.first l way) (take_rest text q.at) c.in-Some.ensures.way in
-    let more = c.in-Some-more_part.ensures c.matches.first (take (length text - q.at) (drop q.at text)) c.in-Some.ensures.way in
-    let reaches = Chain.more_reaches M laws text bytes c.matches.asked q.at q.condition q.line_start c.matches.first way before.inside before.asked before.starts leads keep more in
-    let keeps = Chain.more_keeps M laws text bytes c.matches.asked q.at q.condition q.line_start c.matches.first way before.inside before.asked before.starts leads keep more in
-    let few = keeps.1 in
+    let more = c.in-Some-more_part.ensures c.matches.first (drop q.at text) leads in
+    let reaches = Turned.more_reaches M laws text bytes c.matches.asked q.at q.condition q.line_start c.matches.first way before.inside before.asked before.starts leads keep more in
+    let few = more.1 in
     record {
       same = before.same;
       sink = before.sink;

@@ -209,7 +209,7 @@ turns-smaller g c =
     let few' : c.turn_without_reject.new.self.state.reading.taken ≤ most = omega (arith, c.turn_without_reject.new.self.state.reading.few_reads, now.counts.max_reads) in
     let falls : Last.left_over most c.turn_without_reject.new.self.state < Last.left_over most c.go_further.new.self.state =
     Last.turn_falls (g.M.Machine.machine c.args.machine.now) (g.M.Machine.laws c.args.machine.now) most h.turns h.given m.0 h.out m.1 c.go_further.new.self.state c.turn_without_reject.new.self.state h.invariant (m.5.1 h.turns h.given h.out h.invariant) m.4 m.5.0 few few' in
-    let less : Last.left_over most c.go_further.new.self.state ≤ Last.left_over most c.turns.scan.state = Last.no_more_left most c.turns.scan.state c.go_further.new.self.state first.no_earlier in
+    let less : Last.left_over most c.go_further.new.self.state ≤ Last.left_over most c.turns.scan.state = Last.no_more_left most c.turns.scan.state c.go_further.new.self.state (first.no_earlier (Last.all_taken _ _ _ _ _ inv.running.invariant)) in
     subst (λ k. Last.left_over k c.turn_without_reject.new.self.state < Last.left_over c.turns.scan.state.reading.max_reads c.turns.scan.state) (sym now.counts.max_reads)
     (subst (λ k. Last.left_over most c.turn_without_reject.new.self.state < Last.left_over k c.turns.scan.state) first.max_reads (less_than (Last.left_over most c.turn_without_reject.new.self.state) (Last.left_over most c.go_further.new.self.state) (Last.left_over most c.turns.scan.state) falls less))
   where

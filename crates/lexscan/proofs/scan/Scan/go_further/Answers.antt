@@ -4,7 +4,6 @@ use Rattle.std.proofs.lemmas.List.{take-take}
 use Rattle.lexscan_window.specs.declared.state.State.{State}
 use Rattle.lexscan.proofs.Bursting.{grows}
 use Rattle.lexscan.proofs.Furthering as Further
-use Rattle.lexscan.proofs.Chaining as Chain
 use Rattle.lexscan_matching.proofs.Barrens.{true_burst}
 use Rattle.lexscan.proofs.scan.Scan.go_further.Goals as goal
 
@@ -26,7 +25,7 @@ returns-then-self g c = record {
   refusals = grind (arith, common_steps);
   at_end = grind (arith, common_steps);
   max_reads = grind (arith, common_steps);
-  no_earlier = grind (arith, common_steps);
+  no_earlier = λ _. grind (arith, common_steps);
   going = grind (arith, common_steps);
   working = grind (arith, common_steps);
   next = record {
@@ -51,7 +50,7 @@ returns g c = record {
         λ e. absurd (never (sym c.if-self.false ∙ e)),
         (
           went.turns,
-          Chain.went_further (g.M.Machine.machine c.args.machine.now) old (record c.advance.new.state { place = record c.advance.new.state.place { at = c.burst_from-went.result.kept } }) c.text-text.result.now ready c.len-held.result c.show-shown.result c.burst_from-went.result.burst.asked c.burst_from-went.result.burst.done c.burst_from-went.result.kept c.burst_from-went.result.burst.condition c.burst_from-went.result.burst.line_start
+          Further.went_further (g.M.Machine.machine c.args.machine.now) old (record c.advance.new.state { place = record c.advance.new.state.place { at = c.burst_from-went.result.kept } }) c.text-text.result.now ready c.len-held.result c.show-shown.result c.burst_from-went.result.burst.asked c.burst_from-went.result.burst.done c.burst_from-went.result.kept c.burst_from-went.result.burst.condition c.burst_from-went.result.burst.line_start
               c.len-held.ensures made few c.burst_from-went.ensures.held c.burst_from-went.ensures.asked
               (c.advance.ensures.held ∙ Further.accepted c.text-text.result.now old.reading.window.bytes c.show-shown.new.self.bytes c.show-shown.new.self.ahead c.ahead.result.now ready c.len-held.result c.show-shown.result c.burst_from-went.result.burst.asked c.burst_from-went.result.burst.done
               c.len-held.ensures made few c.burst_from-went.ensures.asked c.show-shown.ensures.bytes c.show-shown.ensures.ahead c.ahead.ensures) c.advance.ensures.taken c.if-self.false (c.advance.ensures.at_end ∙ c.if-self.false) refl c.advance.ensures.line_start c.advance.ensures.condition c.advance.ensures.stack c.requires.going.going
@@ -64,15 +63,15 @@ returns g c = record {
   refusals = grind (arith, common_steps);
   at_end = grind (arith, common_steps);
   max_reads = grind (arith, common_steps);
-  no_earlier = (let old : State = c.args.self.now.state in
+  no_earlier = λ all. (let old : State = c.args.self.now.state in
       let ready : List ℕ = g.S.Source.ready c.args.ends.now.intake.source.now in
       let few : c.show-shown.result ≤ length ready = omega (arith, c.show-shown.ensures.few, ap length c.ahead.ensures) in
       let made = text_made c.text-text.result.now old.reading.window.bytes c.show-shown.new.self.bytes c.show-shown.new.self.ahead c.ahead.result.now ready c.show-shown.result c.text-text.ensures c.show-shown.ensures.bytes c.show-shown.ensures.ahead c.ahead.ensures in
-      Chain.starts_no_earlier (g.M.Machine.machine c.args.machine.now) old (record c.advance.new.state { place = record c.advance.new.state.place { at = c.burst_from-went.result.kept } }) c.text-text.result.now ready c.len-held.result c.show-shown.result c.burst_from-went.result.burst.asked c.burst_from-went.result.burst.done c.burst_from-went.result.kept c.burst_from-went.result.burst.condition c.burst_from-went.result.burst.line_start
+      Further.starts_no_earlier (g.M.Machine.machine c.args.machine.now) old (record c.advance.new.state { place = record c.advance.new.state.place { at = c.burst_from-went.result.kept } }) c.text-text.result.now ready c.len-held.result c.show-shown.result c.burst_from-went.result.burst.asked c.burst_from-went.result.burst.done c.burst_from-went.result.kept c.burst_from-went.result.burst.condition c.burst_from-went.result.burst.line_start
       c.len-held.ensures made few c.burst_from-went.ensures.held c.burst_from-went.ensures.asked
       (c.advance.ensures.held ∙ Further.accepted c.text-text.result.now old.reading.window.bytes c.show-shown.new.self.bytes c.show-shown.new.self.ahead c.ahead.result.now ready c.len-held.result c.show-shown.result c.burst_from-went.result.burst.asked c.burst_from-went.result.burst.done
       c.len-held.ensures made few c.burst_from-went.ensures.asked c.show-shown.ensures.bytes c.show-shown.ensures.ahead c.ahead.ensures) c.advance.ensures.taken c.if-self.false (c.advance.ensures.at_end ∙ c.if-self.false) refl c.advance.ensures.line_start c.advance.ensures.condition c.advance.ensures.stack c.requires.going.going
-      (c.advance.ensures.ended ∙ c.requires.going.going) g.K.Sink.wrote c.args.ends.now.outlet.sink.now c.args.ends.now.outlet.sink.now (grind (arith, common_steps)) c.burst_from-went.ensures.kept c.burst_from-went.ensures.no_earlier);
+      (c.advance.ensures.ended ∙ c.requires.going.going) g.K.Sink.wrote c.args.ends.now.outlet.sink.now c.args.ends.now.outlet.sink.now all c.burst_from-went.ensures.kept c.burst_from-went.ensures.no_earlier);
   going = grind (arith, common_steps);
   working = grind (arith, common_steps);
   next = record {
@@ -112,7 +111,7 @@ returns-then-burst g c = record {
           drop h (take broke.before text),
           drop broke.before (take asked text),
           Further.given_all text old.reading.window.bytes ready h c.show-shown.result asked c.len-held.ensures made few c.burst_from-went.ensures.held high ∙ grows text h broke.before asked broke.few broke.more high,
-          Chain.broke_further (g.M.Machine.machine c.args.machine.now) old new text ready h c.show-shown.result asked c.burst_from-went.result.burst.done c.burst_from-went.result.kept c.burst_from-went.result.burst.condition c.burst_from-went.result.burst.line_start
+          Further.broke_further (g.M.Machine.machine c.args.machine.now) old new text ready h c.show-shown.result asked c.burst_from-went.result.burst.done c.burst_from-went.result.kept c.burst_from-went.result.burst.condition c.burst_from-went.result.burst.line_start
               c.len-held.ensures made few c.burst_from-went.ensures.held high
               (c.advance.ensures.held ∙ Further.accepted c.text-text.result.now old.reading.window.bytes c.show-shown.new.self.bytes c.show-shown.new.self.ahead c.ahead.result.now ready c.len-held.result c.show-shown.result c.burst_from-went.result.burst.asked c.burst_from-went.result.burst.done
               c.len-held.ensures made few c.burst_from-went.ensures.asked c.show-shown.ensures.bytes c.show-shown.ensures.ahead c.ahead.ensures) c.advance.ensures.taken c.if-self.false (c.advance.ensures.at_end ∙ c.if-self.false) refl c.advance.ensures.line_start c.advance.ensures.condition c.advance.ensures.stack c.requires.going.going
@@ -125,15 +124,15 @@ returns-then-burst g c = record {
   refusals = grind (arith, common_steps);
   at_end = grind (arith, common_steps);
   max_reads = grind (arith, common_steps);
-  no_earlier = (let old : State = c.args.self.now.state in
+  no_earlier = λ all. (let old : State = c.args.self.now.state in
       let ready : List ℕ = g.S.Source.ready c.args.ends.now.intake.source.now in
       let few : c.show-shown.result ≤ length ready = omega (arith, c.show-shown.ensures.few, ap length c.ahead.ensures) in
       let made = text_made c.text-text.result.now old.reading.window.bytes c.show-shown.new.self.bytes c.show-shown.new.self.ahead c.ahead.result.now ready c.show-shown.result c.text-text.ensures c.show-shown.ensures.bytes c.show-shown.ensures.ahead c.ahead.ensures in
-      Chain.starts_no_earlier (g.M.Machine.machine c.args.machine.now) old (record c.advance.new.state { place = record c.advance.new.state.place { at = c.burst_from-went.result.kept }; failed = true }) c.text-text.result.now ready c.len-held.result c.show-shown.result c.burst_from-went.result.burst.asked c.burst_from-went.result.burst.done c.burst_from-went.result.kept c.burst_from-went.result.burst.condition c.burst_from-went.result.burst.line_start
+      Further.starts_no_earlier (g.M.Machine.machine c.args.machine.now) old (record c.advance.new.state { place = record c.advance.new.state.place { at = c.burst_from-went.result.kept }; failed = true }) c.text-text.result.now ready c.len-held.result c.show-shown.result c.burst_from-went.result.burst.asked c.burst_from-went.result.burst.done c.burst_from-went.result.kept c.burst_from-went.result.burst.condition c.burst_from-went.result.burst.line_start
       c.len-held.ensures made few c.burst_from-went.ensures.held c.burst_from-went.ensures.asked
       (c.advance.ensures.held ∙ Further.accepted c.text-text.result.now old.reading.window.bytes c.show-shown.new.self.bytes c.show-shown.new.self.ahead c.ahead.result.now ready c.len-held.result c.show-shown.result c.burst_from-went.result.burst.asked c.burst_from-went.result.burst.done
       c.len-held.ensures made few c.burst_from-went.ensures.asked c.show-shown.ensures.bytes c.show-shown.ensures.ahead c.ahead.ensures) c.advance.ensures.taken c.if-self.false (c.advance.ensures.at_end ∙ c.if-self.false) refl c.advance.ensures.line_start c.advance.ensures.condition c.advance.ensures.stack c.requires.going.going
-      (c.advance.ensures.ended ∙ c.requires.going.going) g.K.Sink.wrote c.args.ends.now.outlet.sink.now c.args.ends.now.outlet.sink.now (grind (arith, common_steps)) c.burst_from-went.ensures.kept c.burst_from-went.ensures.no_earlier);
+      (c.advance.ensures.ended ∙ c.requires.going.going) g.K.Sink.wrote c.args.ends.now.outlet.sink.now c.args.ends.now.outlet.sink.now all c.burst_from-went.ensures.kept c.burst_from-went.ensures.no_earlier);
   going = grind (arith, common_steps);
   working = grind (arith, common_steps);
   next = record {

@@ -190,7 +190,7 @@ turns-smaller g c =
         let few' : new.reading.taken ≤ most = omega (arith, new.reading.few_reads, now.max_reads) in
         let lower : Last.left_over most new < Last.left_over most mid =
         Last.turn_falls M (g.M.Machine.laws c.args.machine.now) most (k.5.0 + n) (given ++ k.0) m.0 (out ++ k.1) m.1 mid new here (m.5.1 (k.5.0 + n) (given ++ k.0) (out ++ k.1) here) m.4 m.5.0 few few' in
-        let less : Last.left_over most mid ≤ Last.left_over most old = Last.no_more_left most old mid first.no_earlier in
+        let less : Last.left_over most mid ≤ Last.left_over most old = Last.no_more_left most old mid (first.no_earlier (Last.all_taken M n given out old h)) in
         subst (λ l. Last.left_over l new < Last.left_over old.reading.max_reads old) (sym now.max_reads)
         (subst (λ l. Last.left_over most new < Last.left_over l old) first.max_reads (less_than (Last.left_over most new) (Last.left_over most mid) (Last.left_over most old) lower less))
 
