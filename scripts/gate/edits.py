@@ -12,7 +12,8 @@ import sys
 
 ROOT = pathlib.Path(__file__).resolve().parents[2]
 PAGE = ROOT / "docs/EDITS.md"
-FOLDERS = ("must-fail", "wrong-bodies", "misreadings")
+OF_GATE = ("must-fail", "known-errors")
+FOLDERS = (*OF_GATE, "wrong-bodies", "misreadings")
 
 
 def guards(path):
@@ -37,7 +38,7 @@ def rows(crate):
     """The rows of a crate, by their names; those that the gate tries are bold."""
     found = [(path.stem, folder, path) for folder in FOLDERS for path in (crate / folder).glob("*.edit")]
     for name, folder, path in sorted(found):
-        bold = "**" if folder == "must-fail" else ""
+        bold = "**" if folder in OF_GATE else ""
         yield f"| {bold}`{name}`{bold} | {guards(path)} | {refused_by(path)} |"
 
 

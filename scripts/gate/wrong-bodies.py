@@ -3,14 +3,16 @@
 whether the prover refuses it in its own function, and by which clause.
 
     scripts/gate/wrong-bodies.py [CRATE..]        those of these crates, or of all
+        --gate            of known-errors/ alone, as the gate tries them, with what each check took
         --changed REV     of the crates whose src/ or specs/ differ from REV, and of those above whose inherited contracts do
-        --jobs N          N checks side by side (as many as processors)
-        --write           writes by what each is refused: as the second line of a file of wrong-bodies/, and in must-fail/refused-by.md
+        --jobs N          N checks side by side (as many as processors and free memory allow)
+        --write           writes by what each is refused: as the second line of its file, but of must-fail/ in refused-by.md there
         --itself          two bodies of lex_machine that are right, which must be told as proved, and one that is wrong
 
-The bodies stand in two folders of a crate, each a file with lines 'file:', 'old:' and 'new:' as `rt help` has them:
+The bodies stand in three folders of a crate, each a file with lines 'file:', 'old:' and 'new:' as `rt help` has them:
 
-    must-fail/*.edit      those that the gate tries too, one by one
+    must-fail/*.edit      errors that scanners are known for, which the kit tries in the gate, one by one
+    known-errors/*.edit   such errors too, which this script tries in the gate
     wrong-bodies/*.edit   the others
 
 Where the text stands in no function, a line 'function:' names the one whose proof must refuse it. Changes of a definition are
@@ -26,12 +28,15 @@ A line of the answer begins with one of these words, and the status is 1 where o
     bad          it cannot be applied or read, so no contract was tried
 
 Libraries below a crate have to be built: by `rt ci` here, or by `rt check`, which this calls where one is missing. Where `rt check` has
-kept its work in crates/NAME/out/incremental, checks begin with a copy of that, else from nothing."""
+kept its work in crates/NAME/out/incremental, checks begin with a copy of that, else from nothing.
+
+With --gate a line is written for each check too: of how many bodies, and the seconds of the processor and the memory that it took."""
 import argparse
 import importlib.util
 import os
 import re
 import shutil
+import signal
 import subprocess
 import sys
 import tempfile
@@ -43,7 +48,8 @@ from typing import NamedTuple
 
 sys.dont_write_bytecode = True
 ROOT = Path(__file__).resolve().parents[2]
-FOLDERS = ("must-fail", "wrong-bodies")
+OF_KIT, OF_GATE = "must-fail", "known-errors"
+FOLDERS = (OF_KIT, OF_GATE, "wrong-bodies")
 PARTS = ("src", "specs", "proofs")
 FUNCTION = re.compile(r'^\s*(?:pub(?:\([^)]*\))?\s+)?(?:const\s+)?(?:unsafe\s+)?(?:extern\s+"C"\s+)?(?:ghost\s+)?fn\s+(\w+)')
 IMPL = re.compile(r"^\s*(?:unsafe\s+)?impl\b")
@@ -59,6 +65,8 @@ GOAL = re.compile(r"`([\w+-]+)`")
 REFUSED_BY = "# refused by:"
 # The file of must-fail/ that says it of each of these.
 BESIDE = "refused-by.md"
+# The memory that a check is reckoned to take, in bytes.
+MEMORY = 3 << 30
 # What the words of the prover say that a goal is of, the most telling first.
 KINDS = (
     ("returned", re.compile(r"what the function ensures")),
@@ -89,6 +97,25 @@ def kit():
         return made
     except (OSError, AssertionError, AttributeError, SyntaxError) as error:
         sys.exit(f"wrong-bodies: this kit calls its prover otherwise than kits 13b and 13f ({error or 'a name is gone'}): see kit() in {__file__}")
+
+
+# How many checks run side by side.
+
+def free_memory():
+    """The free memory in bytes, within the limit of a control group too."""
+    free = 1024 * int(re.search(r"MemAvailable:\s+(\d+)", Path("/proc/meminfo").read_text())[1])
+    try:
+        limit = int(Path("/sys/fs/cgroup/memory.max").read_text())
+        held = re.search(r"(?m)^anon (\d+)", Path("/sys/fs/cgroup/memory.stat").read_text())
+        return min(free, limit - int(held[1]))
+    except (OSError, TypeError, ValueError):
+        # (there is no such group, or no limit)
+        return free
+
+
+def side_by_side():
+    """How many checks there is room for: as many as there are processors, and as free memory holds, but one in any case."""
+    return max(1, min(len(os.sched_getaffinity(0)), free_memory() // MEMORY))
 
 
 class Edit(NamedTuple):
@@ -203,10 +230,10 @@ def read(folder, kind, path):
     return Edit(folder.name, kind, path.stem, tuple(pairs), tuple(functions), tuple(functions.values()))
 
 
-def edits_of(folder):
-    """The edits of a crate, and what is wrong with those that cannot be applied."""
+def edits_of(folder, kinds):
+    """The edits of a crate in folders of these kinds, and what is wrong with those that cannot be applied."""
     good, bad = [], []
-    for kind in FOLDERS:
+    for kind in kinds:
         for path in sorted((folder / kind).glob("*.edit")):
             try:
                 good.append(read(folder, kind, path))
@@ -229,6 +256,16 @@ def linked(source, to):
     shutil.copytree(source, to, symlinks=True, copy_function=copy)
 
 
+def run_in(room, words):
+    """Runs a command in a folder, and returns what it wrote, its status, and what it used."""
+    how = {"stdin": subprocess.DEVNULL, "stdout": subprocess.PIPE, "stderr": subprocess.STDOUT, "errors": "replace", "text": True}
+    with subprocess.Popen(words, cwd=room, **how) as ran:
+        text = ran.stdout.read()
+        _, status, used = os.wait4(ran.pid, 0)
+        ran.returncode = os.waitstatus_to_exitcode(status)
+    return text, ran.returncode, used
+
+
 class Checked(NamedTuple):
     """What a check said: all of it, of each function, and its status."""
 
@@ -238,10 +275,10 @@ class Checked(NamedTuple):
 
 
 class Crate:
-    """A crate whose edits are tried."""
+    """A crate whose edits are tried. Of each check is told how many edits it had, and what it used."""
 
-    def __init__(self, rtlib, made):
-        self.rtlib, self.made, self.folder = rtlib, made, Path(made.folder)
+    def __init__(self, rtlib, made, tell_check=lambda *_: None):
+        self.rtlib, self.made, self.folder, self.tell_check = rtlib, made, Path(made.folder), tell_check
 
     def build_below(self):
         """Builds the libraries below, where one is missing or older than its text."""
@@ -252,6 +289,7 @@ class Crate:
             return made.is_file() and newest < made.stat().st_mtime or it.is_built()
 
         if not all(is_fresh(it) for it in self.made.below()):
+            print(f"the libraries below {self.made.name} are built anew, since one is missing or older than its text", flush=True)
             subprocess.run(["rt", "check", "--only", ""], cwd=self.folder, stdout=subprocess.DEVNULL, check=False)
 
     def check(self, edits, functions):
@@ -269,7 +307,9 @@ class Crate:
                     shutil.copytree(self.folder / part, f"{room}/{part}")
             for file, text in texts.items():
                 Path(room, file).write_text(text)
-            return self.check_in(room, [word for name in functions for word in ("--only", name)])
+            checked, used = self.check_in(room, [word for name in functions for word in ("--only", name)])
+        self.tell_check(self.made.name, len(edits), used)
+        return checked
 
     def check_in(self, room, only):
         """Checks what stands in a folder, over a copy of the crate's kept work where there is some."""
@@ -278,10 +318,11 @@ class Crate:
         if kept.is_dir():
             linked(kept, f"{room}/kept")
             words += ["--incremental", f"{room}/kept"]
-        how = {"stdin": subprocess.DEVNULL, "stdout": subprocess.PIPE, "stderr": subprocess.STDOUT, "errors": "replace", "text": True}
-        ran = subprocess.run(words, cwd=room, check=False, **how)
-        said = {it[1]: (it[2], it[3]) for it in SAID.finditer(ran.stdout)}
-        return Checked(ran.stdout, said, ran.returncode)
+        text, status, used = run_in(room, words)
+        if status == -signal.SIGKILL:
+            # (most likely for memory, as `rt ci` takes it: once more)
+            text, status, used = run_in(room, words)
+        return Checked(text, {it[1]: (it[2], it[3]) for it in SAID.finditer(text)}, status), used
 
 
 # What is told of an edit.
@@ -485,10 +526,10 @@ def refusal(why):
 
 
 def record(edit, why):
-    """Writes into a wrong body by what it is refused. For those that the gate tries it stands in a file beside them, so that
-    what the gate tries stays as it is."""
+    """Writes into a wrong body by what it is refused. For those that the kit tries it stands in a file beside them, so that
+    what the kit tries stays as it is."""
     folder = ROOT / "crates" / edit.crate / edit.folder
-    if edit.folder == "must-fail":
+    if edit.folder == OF_KIT:
         beside = folder / BESIDE
         lines = {line.split("`")[1]: line for line in beside.read_text().splitlines()} if beside.exists() else {}
         lines[edit.name] = f"`{edit.name}`: {refusal(why)}"
@@ -501,10 +542,11 @@ def record(edit, why):
 
 
 class Report:
-    """What is told, a line for each wrong body, and how many of each kind."""
+    """What is told, a line for each wrong body, and how many of each kind. Where checks are told too, a line for each of these."""
 
-    def __init__(self):
+    def __init__(self, tells_checks):
         self.count, self.kinds, self.lock = Counter(), Counter(), threading.Lock()
+        self.tells_checks, self.seconds = tells_checks, 0
 
     def tell(self, name, word, why):
         with self.lock:
@@ -512,19 +554,34 @@ class Report:
             self.kinds[why.split(": ")[1] if word == "refused" else word] += 1
             print(f"{word:10} {name}: {why}", flush=True)
 
+    def tell_check(self, crate, number, used):
+        seconds = used.ru_utime + used.ru_stime
+        with self.lock:
+            self.seconds += seconds
+            if self.tells_checks:
+                print(f"{'checked':10} {crate}: {number} in {seconds:.0f} s of the processor and {used.ru_maxrss / 2**20:.1f} GB", flush=True)
+
     def total(self, crates, batches):
         told, kinds = (", ".join(f"{number} {word}" for word, number in of.most_common()) for of in (self.count, self.kinds))
-        return f"{sum(self.count.values())} wrong bodies of {crates} crates in {batches} batches: {told or 'none'}\nby what is refused first: {kinds or 'none'}"
+        head = f"{sum(self.count.values())} wrong bodies of {crates} crates in {batches} batches, {self.seconds:.0f} s of the processor"
+        return f"{head}: {told or 'none'}\nby what is refused first: {kinds or 'none'}"
+
+    def passed(self):
+        """The last line of the gate, as the kit has it."""
+        return f"{self.count['refused']} passed, {sum(self.count.values()) - self.count['refused']} failed"
+
+    def is_good(self):
+        return set(self.count) <= {"refused"}
 
 
-def batches_of(chosen, rtlib, report):
+def batches_of(chosen, kinds, rtlib, report):
     """The batches of some crates, the largest first, with the libraries built that their checks need."""
     found = []
     for made in chosen:
-        edits, bad = edits_of(Path(made.folder))
+        edits, bad = edits_of(Path(made.folder), kinds)
         for name, why in bad:
             report.tell(name, "bad", why)
-        crate = Crate(rtlib, made)
+        crate = Crate(rtlib, made, report.tell_check)
         if edits:
             crate.build_below()
         while edits:
@@ -534,31 +591,35 @@ def batches_of(chosen, rtlib, report):
     return sorted(found, key=lambda it: -len(it[1]))
 
 
-def try_all(chosen, rtlib, jobs, writes):
+def try_all(chosen, rtlib, given):
     """Tries the wrong bodies of some crates, writes by what each is refused where it is asked to, and returns whether each is."""
-    report, lock = Report(), threading.Lock()
-    batches = batches_of(chosen, rtlib, report)
+    report, lock = Report(given.gate), threading.Lock()
+    batches = batches_of(chosen, [OF_GATE] if given.gate else FOLDERS, rtlib, report)
 
     def work(crate, batch):
         for edit, told in tries(crate, batch).items():
             report.tell(edit, *told)
-            if writes and told[0] == "refused":
+            if given.write and told[0] == "refused":
                 with lock:
                     record(edit, told[1])
 
-    with ThreadPoolExecutor(jobs) as pool:
+    with ThreadPoolExecutor(given.jobs or side_by_side()) as pool:
         for done in [pool.submit(work, *it) for it in batches]:
             done.result()
     print(report.total(len({crate.folder for crate, _ in batches}), len(batches)))
-    return set(report.count) <= {"refused"}
+    if given.gate:
+        print(report.passed())
+    # (a gate that finds none to try has lost them)
+    return report.is_good() and (bool(report.count) or not given.gate)
 
 
 def words():
     """The words of the command line."""
     parser = argparse.ArgumentParser(usage=__doc__, add_help=False)
     parser.add_argument("crates", nargs="*")
+    parser.add_argument("--gate", action="store_true")
     parser.add_argument("--changed")
-    parser.add_argument("--jobs", type=int, default=len(os.sched_getaffinity(0)))
+    parser.add_argument("--jobs", type=int, default=0)
     parser.add_argument("--write", action="store_true")
     parser.add_argument("--itself", action="store_true")
     return parser.parse_args()
@@ -580,7 +641,7 @@ def main():
         sys.exit(f"wrong-bodies: no crate is named {' '.join(sorted(lacking))}")
     chosen = changed(crates, given.changed) if given.changed else crates
     chosen = [it for it in chosen if not given.crates or it.name in given.crates]
-    return 0 if try_all(chosen, rtlib, given.jobs, given.write) else 1
+    return 0 if try_all(chosen, rtlib, given) else 1
 
 
 if __name__ == "__main__":
