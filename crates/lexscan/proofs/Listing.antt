@@ -38,6 +38,7 @@ use Rattle.lexscan.proofs.Bursting.{grows}
 use Rattle.lexscan.proofs.Furthering as Further
 use Rattle.lexscan.proofs.Furthering.{no_further, stands_all}
 use Rattle.lexscan.proofs.Glancing as Glance
+use Rattle.lexscan.proofs.Lasting.{all_taken}
 use Rattle.lexscan.proofs.Pushing.{made_one, standing_on, certain_le}
 use Rattle.lexscan.proofs.Pulling.{goes_on}
 use Rattle.lexscan.proofs.Refusing.{earlier}
@@ -318,7 +319,7 @@ Nothing a xs b = ⊤
 
 -- what is held was taken
 pub held_taken : (M : Machine) (s : State) → IsReachable M s → length s.reading.window.bytes ≤ s.reading.taken
-held_taken M s reachable = certain_le (length s.reading.window.bytes) s.reading.taken (λ denied. reachable (λ n given out h. denied (omega (arith, ap length h.held, length-drop h.start given, h.taken))))
+held_taken M s reachable = certain_le (length s.reading.window.bytes) s.reading.taken (λ denied. reachable (λ n given out h. denied (all_taken M n given out s h)))
 
 -- A series over the bytes held and some of those that wait.
 module _ (M : Machine) (old new : ScanParts) (waiting text : List ℕ) (window : Held) (held shown : ℕ) (b : Burst) (before after : List BriefToken) (size : held ≡ length old.state.reading.window.bytes) (same : window.bytes ≡ old.state.reading.window.bytes)
