@@ -281,15 +281,19 @@ class Crate:
         self.rtlib, self.made, self.folder, self.tell_check = rtlib, made, Path(made.folder), tell_check
 
     def build_below(self):
-        """Builds the libraries below, where one is missing or older than its text."""
+        """Builds the libraries below, where one is missing or older than its text, or was built over others than those that are there."""
+        below = self.made.below()
+        # (those of `rt check` have a stamp, and those of `rt ci` fit one another alone)
+        are_mixed = len({Path(it.rlib).with_name("stamp").is_file() for it in below}) > 1
+
         def is_fresh(it):
             made = Path(it.rlib) / "format"
             newest = max((path.stat().st_mtime for part in PARTS[:2] for path in (Path(it.folder) / part).rglob("*.*")), default=0)
             # (what rt says itself takes long in the upper crates)
             return made.is_file() and newest < made.stat().st_mtime or it.is_built()
 
-        if not all(is_fresh(it) for it in self.made.below()):
-            print(f"the libraries below {self.made.name} are built anew, since one is missing or older than its text", flush=True)
+        if are_mixed or not all(is_fresh(it) for it in below):
+            print(f"libraries below {self.made.name} are missing, old or of other runs: `rt check` builds them", flush=True)
             subprocess.run(["rt", "check", "--only", ""], cwd=self.folder, stdout=subprocess.DEVNULL, check=False)
 
     def check(self, edits, functions):
