@@ -96,7 +96,7 @@ def kit():
         assert all(hasattr(made.Crate, name) for name in ("words", "below", "is_built"))
         return made
     except (OSError, AssertionError, AttributeError, SyntaxError) as error:
-        sys.exit(f"wrong-bodies: this kit calls its prover otherwise than kits 13b and 13f ({error or 'a name is gone'}): see kit() in {__file__}")
+        sys.exit(f"wrong-bodies: this kit calls its prover otherwise than kits 13b and 13f ({str(error) or 'a name is gone'}): see kit() in {__file__}")
 
 
 # How many checks run side by side.
@@ -574,9 +574,6 @@ class Report:
         """The last line of the gate, as the kit has it."""
         return f"{self.count['refused']} passed, {sum(self.count.values()) - self.count['refused']} failed"
 
-    def is_good(self):
-        return set(self.count) <= {"refused"}
-
 
 def batches_of(chosen, kinds, rtlib, report):
     """The batches of some crates, the largest first, with the libraries built that their checks need."""
@@ -611,10 +608,11 @@ def try_all(chosen, rtlib, given):
         for done in [pool.submit(work, *it) for it in batches]:
             done.result()
     print(report.total(len({crate.folder for crate, _ in batches}), len(batches)))
+    if given.gate and not report.count:
+        sys.exit(f"wrong-bodies: no {OF_GATE}/ of these crates has a wrong body to try")
     if given.gate:
         print(report.passed())
-    # (a gate that finds none to try has lost them)
-    return report.is_good() and (bool(report.count) or not given.gate)
+    return set(report.count) <= {"refused"}
 
 
 def words():
