@@ -96,7 +96,7 @@ def kit():
         assert all(hasattr(made.Crate, name) for name in ("words", "below", "is_built"))
         return made
     except (OSError, AssertionError, AttributeError, SyntaxError) as error:
-        sys.exit(f"wrong-bodies: this kit calls its prover otherwise than kits 13b and 13f ({error or 'a name is gone'}): see kit() in {__file__}")
+        sys.exit(f"wrong-bodies: this kit calls its prover otherwise than kits 13b and 13f ({str(error) or 'a name is gone'}): see kit() in {__file__}")
 
 
 # How many checks run side by side.
@@ -281,15 +281,19 @@ class Crate:
         self.rtlib, self.made, self.folder, self.tell_check = rtlib, made, Path(made.folder), tell_check
 
     def build_below(self):
-        """Builds the libraries below, where one is missing or older than its text."""
+        """Builds the libraries below, where one is missing or older than its text, or was built over others than those that are there."""
+        below = self.made.below()
+        # (those of `rt check` have a stamp, and those of `rt ci` fit one another alone)
+        are_mixed = len({Path(it.rlib).with_name("stamp").is_file() for it in below}) > 1
+
         def is_fresh(it):
             made = Path(it.rlib) / "format"
             newest = max((path.stat().st_mtime for part in PARTS[:2] for path in (Path(it.folder) / part).rglob("*.*")), default=0)
             # (what rt says itself takes long in the upper crates)
             return made.is_file() and newest < made.stat().st_mtime or it.is_built()
 
-        if not all(is_fresh(it) for it in self.made.below()):
-            print(f"the libraries below {self.made.name} are built anew, since one is missing or older than its text", flush=True)
+        if are_mixed or not all(is_fresh(it) for it in below):
+            print(f"libraries below {self.made.name} are missing, old or of other runs: `rt check` builds them", flush=True)
             subprocess.run(["rt", "check", "--only", ""], cwd=self.folder, stdout=subprocess.DEVNULL, check=False)
 
     def check(self, edits, functions):
@@ -570,9 +574,6 @@ class Report:
         """The last line of the gate, as the kit has it."""
         return f"{self.count['refused']} passed, {sum(self.count.values()) - self.count['refused']} failed"
 
-    def is_good(self):
-        return set(self.count) <= {"refused"}
-
 
 def batches_of(chosen, kinds, rtlib, report):
     """The batches of some crates, the largest first, with the libraries built that their checks need."""
@@ -607,10 +608,11 @@ def try_all(chosen, rtlib, given):
         for done in [pool.submit(work, *it) for it in batches]:
             done.result()
     print(report.total(len({crate.folder for crate, _ in batches}), len(batches)))
+    if given.gate and not report.count:
+        sys.exit(f"wrong-bodies: no {OF_GATE}/ of these crates has a wrong body to try")
     if given.gate:
         print(report.passed())
-    # (a gate that finds none to try has lost them)
-    return report.is_good() and (bool(report.count) or not given.gate)
+    return set(report.count) <= {"refused"}
 
 
 def words():
