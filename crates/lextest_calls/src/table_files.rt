@@ -1,58 +1,13 @@
 //! The greatest table file.
-ghost use Rattle.std.specs.Prelude.{◌<◌};
-
 use crate::building::made;
-use lexkit::{MemorySink, TableError, Tables, read_tables, write_tables};
+use lexkit::{Tables, read_tables};
 use std::alloc::{AllocError, Global};
 use std::test::Fail;
-
-/// Whether the bytes are a table's, which is written as they are.
-fn is_rewritten(alloc: Global, bytes: &[u8]) -> bool {
-    match rewritten(alloc, bytes) {
-        Ok(sink) => sink.written() == bytes,
-        Err(_) => false,
-    }
-}
-
-/// What is written of the table that is read from the bytes.
-fn rewritten(alloc: Global, bytes: &[u8]) -> Result<MemorySink, TableError> {
-    let tables = read_tables(alloc, bytes)?;
-    let mut sink = MemorySink::new(alloc);
-    match write_tables(&tables, &mut sink) {
-        Ok(()) => Ok(sink),
-        Err(_) => Err(TableError::OutOfMemory),
-    }
-}
 
 /// Whether a table has so many conditions, rules and classes.
 fn counts(tables: &Tables, conditions: usize, rules: usize, classes: u32) -> bool {
     let parts = tables.parts();
     parts.conditions.len() == conditions && parts.rules.len() == rules && parts.classes == classes
-}
-
-/// The number of a digit, as a letter of a number to the base 16.
-fn digit_of(digit: u8) -> u8
-    requires { digit < 16 }
-{
-    if digit < 10 {
-        b'0' + digit
-    } else {
-        b'a' + (digit - 10)
-    }
-}
-
-/// Adds a rule of this byte.
-fn add_byte(text: &mut Vec<u8>, byte: u8) -> Result<(), AllocError> {
-    let rule = [
-        b'\\',
-        b'x',
-        digit_of(byte / 16),
-        digit_of(byte % 16),
-        b' ',
-        b';',
-        b'\n',
-    ];
-    text.extend_from_slice(&rule)
 }
 
 /// `%x` and this many names: of one letter, of two, and so on.
@@ -71,18 +26,13 @@ pub(crate) fn conditions(alloc: Global, count: u32) -> Result<Vec<u8>, AllocErro
 fn greatest(alloc: Global) -> Result<Vec<u8>, AllocError> {
     let mut text = conditions(alloc, 254)?;
     for byte in 0..=255u8 {
-        add_byte(&mut text, byte)?;
+        let rule = format!(in alloc; "\\x{byte:02x} ;\n")?;
+        text.extend_from_slice(rule.as_bytes())?;
     }
     for _ in 0..3_840 {
         text.extend_from_slice(b"aa ;\n")?;
     }
     Ok(text)
-}
-
-/// Its table file.
-fn greatest_file(alloc: Global) -> Result<MemorySink, Fail> {
-    let text = greatest(alloc)?;
-    made(alloc, &text)
 }
 
 /// Whether a file has the table of so many conditions, rules and classes.
@@ -96,9 +46,8 @@ fn is_greatest(alloc: Global, file: &[u8]) -> bool {
 /// The file of the most conditions, rules and classes of bytes is read back.
 #[test]
 fn the_greatest_counts_are_read(rt: HostRuntime) -> Result<(), Fail> {
-    let file = greatest_file(rt.alloc())?;
-    assert!(rt;
-        is_greatest(rt.alloc(), file.written()) && is_rewritten(rt.alloc(), file.written())
-    );
+    let text = greatest(rt.alloc())?;
+    let file = made(rt.alloc(), &text)?;
+    assert!(rt; is_greatest(rt.alloc(), file.written()));
     Ok(())
 }
