@@ -42,7 +42,7 @@ pub(crate) fn made(alloc: Global, text: &[u8]) -> Result<MemorySink, Fail> {
 }
 
 /// The tables of a specification, written to a file and read back, as a scan by a table file has them.
-fn read_back(alloc: Global, text: &[u8]) -> Result<Tables, Fail> {
+pub(crate) fn read_back(alloc: Global, text: &[u8]) -> Result<Tables, Fail> {
     let file = made(alloc, text)?;
     Ok(read_tables(alloc, file.written())?)
 }

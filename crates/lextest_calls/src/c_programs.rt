@@ -205,7 +205,7 @@ const PROGRAMS: &[Program] = &[
         ],
     ),
     (
-        "a table and one that shares it serve scans by pieces side by side once it is unloaded, a scan and a list of tokens",
+        "a table that is shared serves scans by pieces side by side once it is unloaded, a scan and a list of tokens",
         LOADED,
         &[
             Step::Table(OfTable::Load(Answer::Done)),
@@ -243,7 +243,7 @@ const PROGRAMS: &[Program] = &[
         ],
     ),
     (
-        "more is wanted before the first piece; a fault is told again, and pieces behind it count for nothing",
+        "more is wanted before the first piece, and pieces behind a fault count for nothing",
         b"%option stack\n%%\na ;\nb yy_pop_state();\n",
         &[
             Step::Stream(OfStream::Open(true, Answer::Done)),
@@ -259,7 +259,7 @@ const PROGRAMS: &[Program] = &[
         ],
     ),
     (
-        "tokens that one piece decides come one by one, each with its text, where a piece and the end come between them",
+        "tokens that one piece decides come one by one, also where a piece and the end come between them",
         b"%%\n[a-z]+ ;\n[0-9]+ ;\n[ \\n] ;\n",
         &[
             Step::Stream(OfStream::Open(true, Answer::Done)),
@@ -281,7 +281,7 @@ const PROGRAMS: &[Program] = &[
         ],
     ),
     (
-        "two streams by one table go on once it is unloaded, and a text is handed out in parts as often as it is asked for",
+        "two streams by one table go on once it is unloaded, and a text is handed out in parts",
         b"%%\n[a-z]+ ;\n",
         &[
             Step::Table(OfTable::Load(Answer::Done)),

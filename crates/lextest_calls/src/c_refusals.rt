@@ -12,8 +12,8 @@ use std::test::Fail;
 /// A text, and the line, the kind and the place that are told of it.
 type Refused = (&'static [u8], u32, u32, usize);
 
-/// Whether a text is refused so. Its lines of rules are too, unless only the automaton passes a limit: then it has a rule, in line 2. In
-/// the buffer, which began with 7, nothing else is written.
+/// Whether a text is refused so. Its lines of rules are too, unless only the automaton passes a limit: then it has a rule, in line 2.
+/// The buffer for them begins with 7.
 fn is_refused(alloc: Global, text: &[u8], line: u32, kind: u32, place: usize) -> bool {
     let mut buffer = [7u32; 1];
     let (answer, _, fault) = generate(alloc, text, &mut [0u8; 8]);
@@ -76,13 +76,6 @@ fn tells_each_refusal_of_a_text(rt: HostRuntime) {
 /// A part of a text and how often it stands there, what stands after it, and the line, the kind and the place that are told.
 type Long = (&'static [u8], usize, &'static [u8], u32, u32, usize);
 
-/// Whether the text of a row is refused so.
-fn is_long_refused(alloc: Global, row: &Long) -> Result<bool, AllocError> {
-    let &(part, times, after, line, kind, place) = row;
-    let text = repeated(alloc, b"%%\n", part, times, after)?;
-    Ok(is_refused(alloc, &text, line, kind, place))
-}
-
 #[test]
 fn tells_each_limit_of_a_specification(rt: HostRuntime) -> Result<(), Fail> {
     const ROWS: &[Long] = &[
@@ -91,8 +84,9 @@ fn tells_each_limit_of_a_specification(rt: HostRuntime) -> Result<(), Fail> {
         (b"(", 65, b"a ;\n", 2, 113, 64),
         (b"a", 65_536, b" ;\n", 2, 114, 65_535),
     ];
-    for row in ROWS {
-        assert!(rt; is_long_refused(rt.alloc(), row)?);
+    for &(part, times, after, line, kind, place) in ROWS {
+        let text = repeated(rt.alloc(), b"%%\n", part, times, after)?;
+        assert!(rt; is_refused(rt.alloc(), &text, line, kind, place), "{kind}");
     }
     let many = conditions(rt.alloc(), 255)?;
     assert!(rt; is_refused(rt.alloc(), &many, 1, 22, 0));

@@ -2,11 +2,11 @@
 use crate::c_rows::Row;
 use crate::for_c::{
     NO_TOKEN, Place, UNTOUCHED, answers, are_listed, count_told, ends, feed, feeds, finishes,
-    has_name, holds, list, list_by, open, scan, scan_by, shows,
+    has_name, holds, list, list_by, open, scan, shows,
 };
 use liblex_calls::{
     Answer, LoadedTables, Scan, TokenStream, close_scan, close_stream, load_tables, open_loaded,
-    open_scan, open_stream_loaded, share_tables, unload_tables,
+    open_scan, open_stream_loaded, scan_loaded, share_tables, unload_tables,
 };
 use std::alloc::Global;
 
@@ -210,7 +210,9 @@ fn scans(alloc: Global, file: &[u8], wanted: Scanned) -> bool {
 fn scans_by(alloc: Global, tables: &mut LoadedTables, wanted: Scanned) -> bool {
     let (input, answer, out, status) = wanted;
     let mut buffer = [UNTOUCHED; 16];
-    let (got, count, ended) = scan_by(alloc, tables, input, &mut buffer);
+    let mut count = 9;
+    let mut ended = 9;
+    let got = scan_loaded(alloc, tables, input, &mut buffer, &mut count, &mut ended);
     (got, ended) == (answer, status) && holds(&buffer, 16, count, out)
 }
 

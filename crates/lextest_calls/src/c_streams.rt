@@ -1,5 +1,5 @@
-//! Streams of tokens and lists of them as a program in C calls them: the same tokens from pieces of any size, and what is answered where
-//! memory is refused.
+//! Streams of tokens as a program in C calls them: the same tokens from pieces of any size. Streams and lists of tokens where memory is
+//! refused.
 use crate::building::made;
 use crate::c_rows::{DEFAULT, Row, SCANS, Scan};
 use crate::for_c::{NO_TOKEN, answers, are_listed, count_told, ends, feed, list_by, open};
@@ -53,7 +53,7 @@ fn pieces_of_any_size_have_the_same_tokens(rt: HostRuntime) -> Result<(), Fail> 
     Ok(())
 }
 
-/// Whether a stream takes all pieces, and one that was refused for want of memory where it is fed once more.
+/// Whether a stream takes all pieces. One that is refused since memory ran out is fed once more.
 fn takes_pieces(alloc: Global, stream: &mut TokenStream) -> bool {
     const PIECES: &[&[u8]] = &[b"ab", b"c", b"\nd"];
     let mut so = true;

@@ -4,7 +4,7 @@ use crate::c_rows::Row;
 use liblex_calls::{
     Answer, LoadedTables, NextToken, Scan, TextFault, TextToken, TokenStream, end_stream,
     feed_into, feed_stream, finish_into, generate_into, next_token, open_stream, options_of,
-    rule_lines_into, rule_name_into, scan_into, scan_loaded, text_into, tokens_into, tokens_loaded,
+    rule_lines_into, rule_name_into, scan_into, text_into, tokens_into, tokens_loaded,
 };
 use std::alloc::Global;
 
@@ -98,19 +98,6 @@ pub(crate) fn scan(
     let mut count = 9;
     let mut status = 9;
     let answer = scan_into(alloc, file, input, out, &mut count, &mut status);
-    (answer, count, status)
-}
-
-/// The same by a table that is loaded.
-pub(crate) fn scan_by(
-    alloc: Global,
-    tables: &mut LoadedTables,
-    input: &[u8],
-    out: &mut [u8],
-) -> (Answer, usize, u8) {
-    let mut count = 9;
-    let mut status = 9;
-    let answer = scan_loaded(alloc, tables, input, out, &mut count, &mut status);
     (answer, count, status)
 }
 

@@ -31,8 +31,7 @@ fn holds_all(
         && turn(scanner) == Err(RunError::Failed)
 }
 
-/// Whether all turns are taken, of which each keeps one byte; or one of the first, of which so many may be, is refused and holds what it
-/// has to.
+/// Whether all turns are taken, each of which keeps one byte. So many of the first may be refused: such a one holds what it has to.
 fn goes_through(alloc: Global, machine: &Flat, input: &[u8], may_be: usize) -> bool {
     let mut source = MemorySource::new(input);
     let mut sink = MemorySink::new(alloc);
@@ -163,8 +162,8 @@ fn refused_generate(rt: HostRuntime) -> Result<(), Fail> {
     Ok(())
 }
 
-/// Whether the fault of a scan, by a table file or not, says that memory ran out: in the scan, or before it, where nothing may have been
-/// read or written.
+/// Whether the fault of a scan, by a table file or not, says that memory ran out. It did so in the scan, or before anything was read or
+/// written.
 fn is_want_in_a_scan(error: ScanError, by_table: bool, is_untouched: bool) -> bool {
     match error {
         ScanError::Generate(fault) => is_want_of_memory(fault) && !by_table && is_untouched,
@@ -173,18 +172,21 @@ fn is_want_in_a_scan(error: ScanError, by_table: bool, is_untouched: bool) -> bo
     }
 }
 
-/// A scan, by a table file where there is one. What it promises is left out, so that what calls it is proved in less time.
+/// What a scan of a row answers, how often it called its source, and what it wrote. It is by a table file, where there is one. What it
+/// promises is left out, so that what calls it is proved in less time.
 fn scan(
     alloc: Global,
-    text: &[u8],
+    row: &Scan,
     file: Option<&[u8]>,
-    source: &mut MemorySource<'_>,
-    sink: &mut ToWrite<Vec<u8>>,
-) -> Result<u8, ScanError> {
-    match file {
-        Some(file) => scan_table(alloc, file, source, sink),
-        None => scan_spec(alloc, text, Options::new(), source, sink),
-    }
+) -> Result<(Result<u8, ScanError>, u64, Vec<u8>), AllocError> {
+    let &(text, input, ..) = row;
+    let mut source = MemorySource::new(input);
+    let mut sink = ToWrite::new(Vec::with_capacity(alloc, 16)?);
+    let got = match file {
+        Some(file) => scan_table(alloc, file, &mut source, &mut sink),
+        None => scan_spec(alloc, text, Options::new(), &mut source, &mut sink),
+    };
+    Ok((got, source.calls(), sink.into_inner()))
 }
 
 /// What a scan answers, and whether it wrote all, or a beginning of it where memory ran out.
@@ -192,15 +194,12 @@ type Scanned = (Result<u8, ScanError>, bool);
 
 /// A scan of a row: what is answered, and whether what was written is as it has to be.
 fn scanned(alloc: Global, row: &Scan, file: Option<&[u8]>) -> Result<Scanned, AllocError> {
-    let (text, input, want, status) = *row;
-    let mut source = MemorySource::new(input);
-    let mut sink = ToWrite::new(Vec::with_capacity(alloc, 16)?);
-    let got = scan(alloc, text, file, &mut source, &mut sink);
-    let written = sink.into_inner();
+    let &(_, _, want, status) = row;
+    let (got, calls, written) = scan(alloc, row, file)?;
     let so = match got {
         Ok(answer) => answer == status && written.len() == want.len(),
         Err(error) => {
-            let is_untouched = source.calls() == 0 && written.is_empty();
+            let is_untouched = calls == 0 && written.is_empty();
             is_want_in_a_scan(error, file.is_some(), is_untouched)
         }
     };

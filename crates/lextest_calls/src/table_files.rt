@@ -1,14 +1,7 @@
 //! The greatest table file.
-use crate::building::made;
-use lexkit::{Tables, read_tables};
+use crate::building::read_back;
 use std::alloc::{AllocError, Global};
 use std::test::Fail;
-
-/// Whether a table has so many conditions, rules and classes.
-fn counts(tables: &Tables, conditions: usize, rules: usize, classes: u32) -> bool {
-    let parts = tables.parts();
-    parts.conditions.len() == conditions && parts.rules.len() == rules && parts.classes == classes
-}
 
 /// `%x` and this many names: of one letter, of two, and so on.
 pub(crate) fn conditions(alloc: Global, count: u32) -> Result<Vec<u8>, AllocError> {
@@ -35,19 +28,11 @@ fn greatest(alloc: Global) -> Result<Vec<u8>, AllocError> {
     Ok(text)
 }
 
-/// Whether a file has the table of so many conditions, rules and classes.
-fn is_greatest(alloc: Global, file: &[u8]) -> bool {
-    match read_tables(alloc, file) {
-        Ok(tables) => counts(&tables, 255, 4_096, 256),
-        Err(_) => false,
-    }
-}
-
 /// The file of the most conditions, rules and classes of bytes is read back.
 #[test]
 fn the_greatest_counts_are_read(rt: HostRuntime) -> Result<(), Fail> {
-    let text = greatest(rt.alloc())?;
-    let file = made(rt.alloc(), &text)?;
-    assert!(rt; is_greatest(rt.alloc(), file.written()));
+    let tables = read_back(rt.alloc(), &greatest(rt.alloc())?)?;
+    let parts = tables.parts();
+    assert!(rt; (parts.conditions.len(), parts.rules.len(), parts.classes) == (255, 4_096, 256));
     Ok(())
 }
