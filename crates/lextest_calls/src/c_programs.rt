@@ -2,6 +2,7 @@
 use crate::building::made;
 use crate::c_steps::{OfPieces, OfStream, OfTable, Step, goes_so};
 use liblex_calls::Answer;
+use std::alloc::Global;
 use std::test::Fail;
 
 /// What is shown, the text of which a program has the table file, and what it does.
@@ -217,8 +218,6 @@ const PROGRAMS: &[Program] = &[
             Step::Pieces(OfPieces::Finish(8, Answer::Done, b"N", 0)),
             Step::OtherPieces(OfPieces::Feed(b"b", 0, Answer::TooSmall, b"b")),
             Step::OtherPieces(OfPieces::Finish(8, Answer::Done, b"b", 0)),
-            Step::Pieces(OfPieces::Close),
-            Step::OtherPieces(OfPieces::Close),
             Step::Sharing(OfTable::Scan((b"a1 stop!", Answer::Done, b"aN ", 3))),
             Step::Sharing(OfTable::List((
                 b"a1 stop!",
@@ -298,11 +297,16 @@ const PROGRAMS: &[Program] = &[
     ),
 ];
 
+/// Whether a program goes so by the table file of a text.
+fn goes_so_by(alloc: Global, text: &[u8], steps: &[Step]) -> Result<bool, Fail> {
+    let file = made(alloc, text)?;
+    Ok(goes_so(alloc, file.written(), steps))
+}
+
 #[test]
 fn programs_go_so(rt: HostRuntime) -> Result<(), Fail> {
     for &(what, text, steps) in PROGRAMS {
-        let file = made(rt.alloc(), text)?;
-        assert!(rt; goes_so(rt.alloc(), file.written(), steps), "{what}");
+        assert!(rt; goes_so_by(rt.alloc(), text, steps)?, "{what}");
     }
     Ok(())
 }

@@ -76,6 +76,19 @@ fn tells_each_refusal_of_a_text(rt: HostRuntime) {
 /// A part of a text and how often it stands there, what stands after it, and the line, the kind and the place that are told.
 type Long = (&'static [u8], usize, &'static [u8], u32, u32, usize);
 
+/// Whether the text of a row is refused so.
+fn is_long_refused(alloc: Global, row: &Long) -> Result<bool, AllocError> {
+    let &(part, times, after, line, kind, place) = row;
+    let text = repeated(alloc, b"%%\n", part, times, after)?;
+    Ok(is_refused(alloc, &text, line, kind, place))
+}
+
+/// Whether a text of more conditions than there may be is refused so.
+fn are_too_many(alloc: Global) -> Result<bool, AllocError> {
+    let text = conditions(alloc, 255)?;
+    Ok(is_refused(alloc, &text, 1, 22, 0))
+}
+
 #[test]
 fn tells_each_limit_of_a_specification(rt: HostRuntime) -> Result<(), Fail> {
     const ROWS: &[Long] = &[
@@ -84,12 +97,10 @@ fn tells_each_limit_of_a_specification(rt: HostRuntime) -> Result<(), Fail> {
         (b"(", 65, b"a ;\n", 2, 113, 64),
         (b"a", 65_536, b" ;\n", 2, 114, 65_535),
     ];
-    for &(part, times, after, line, kind, place) in ROWS {
-        let text = repeated(rt.alloc(), b"%%\n", part, times, after)?;
-        assert!(rt; is_refused(rt.alloc(), &text, line, kind, place), "{kind}");
+    for row in ROWS {
+        assert!(rt; is_long_refused(rt.alloc(), row)?);
     }
-    let many = conditions(rt.alloc(), 255)?;
-    assert!(rt; is_refused(rt.alloc(), &many, 1, 22, 0));
+    assert!(rt; are_too_many(rt.alloc())?);
     Ok(())
 }
 
@@ -119,21 +130,28 @@ fn is_none_changed(alloc: Global, file: &[u8], at: usize, put: &[u8]) -> Result<
     Ok(goes_so(alloc, &changed, REFUSING))
 }
 
-/// A file that is cut short, one with a byte more, and one with another name, with a version that is none and with too many
-/// conditions, as docs/TABLE-FORMAT.md has these.
-#[test]
-fn tells_each_refusal_of_a_table_file(rt: HostRuntime) -> Result<(), Fail> {
+/// Whether no changed file is one: with another name, with a version that is none and with too many conditions, and with a byte more.
+fn no_change_is_one(alloc: Global, file: &[u8]) -> Result<bool, AllocError> {
     const CHANGES: &[(usize, &[u8])] = &[
         (0, b"M"),
         (6, b"\0\x03"),
         (8, b"\0\0\x01\0"),
         (usize::MAX, b"\0"),
     ];
+    for &(at, put) in CHANGES {
+        if !is_none_changed(alloc, file, at, put)? {
+            return Ok(false);
+        }
+    }
+    Ok(true)
+}
+
+/// A file that is cut short or changed, as docs/TABLE-FORMAT.md has these.
+#[test]
+fn tells_each_refusal_of_a_table_file(rt: HostRuntime) -> Result<(), Fail> {
     let file = made(rt.alloc(), b"%%\na ;\n")?;
     let bytes = file.written();
-    assert!(rt; !goes_so(rt.alloc(), bytes, REFUSING) && no_front_is_one(rt.alloc(), bytes));
-    for &(at, put) in CHANGES {
-        assert!(rt; is_none_changed(rt.alloc(), bytes, at, put)?, "{at}");
-    }
+    let so = no_front_is_one(rt.alloc(), bytes) && no_change_is_one(rt.alloc(), bytes)?;
+    assert!(rt; so && !goes_so(rt.alloc(), bytes, REFUSING));
     Ok(())
 }

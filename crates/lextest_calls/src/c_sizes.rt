@@ -2,7 +2,7 @@
 //! that memory is left. Here there is ample, so no call may answer that it ran out. Most of an input is one match, which takes
 //! little time.
 use crate::building::{made, repeated};
-use crate::for_c::{NO_TOKEN, feeds, finishes, generate, lines, list, scan, token};
+use crate::for_c::{NO_TOKEN, Place, are_listed, feeds, finishes, generate, lines, list, scan};
 use liblex_calls::{Answer, Scan, close_scan, open_scan};
 use std::alloc::{AllocError, Global};
 use std::test::Fail;
@@ -37,33 +37,49 @@ fn makes_files(rt: HostRuntime) -> Result<(), Fail> {
     Ok(())
 }
 
+/// Whether the lines of the most rules are told.
+fn tells_lines(alloc: Global) -> Result<bool, AllocError> {
+    let text = repeated(alloc, b"%%\n", b"a ;\n", 4_096, b"")?;
+    let mut told = [0u32; 4_096];
+    let got = lines(alloc, &text, &mut told);
+    Ok(got == (Answer::Done, 4_096) && told[4_095] == 4_097)
+}
+
 #[test]
 fn tells_the_lines_of_the_most_rules(rt: HostRuntime) -> Result<(), Fail> {
-    let text = repeated(rt.alloc(), b"%%\n", b"a ;\n", 4_096, b"")?;
-    let mut told = [0u32; 4_096];
-    let got = lines(rt.alloc(), &text, &mut told);
-    assert!(rt; got == (Answer::Done, 4_096) && told[4_095] == 4_097);
+    assert!(rt; tells_lines(rt.alloc())?);
     Ok(())
 }
 
+/// A letter, more than 2^20 times.
+fn word(alloc: Global, letter: &[u8; 1], after: &[u8]) -> Result<Vec<u8>, AllocError> {
+    repeated(alloc, b"", letter, LONG, after)
+}
+
 /// Whether an input that is one match is scanned, and an output as long is written.
-fn scans_long(alloc: Global, file: &[u8], input: &[u8]) -> Result<bool, AllocError> {
-    let mut out = Vec::new(alloc);
-    out.resize(LONG, 0)?;
-    let scanned = scan(alloc, file, input, &mut out);
-    Ok(scanned == (Answer::Done, LONG, 0) && out.as_slice() == input)
+fn scans_long(alloc: Global, file: &[u8]) -> Result<bool, AllocError> {
+    let input = word(alloc, b"x", b"")?;
+    let mut out = word(alloc, b"0", b"")?;
+    let scanned = scan(alloc, file, &input, &mut out);
+    Ok(scanned == (Answer::Done, LONG, 0) && out == input)
 }
 
 /// Whether a long word and 50,000 blanks are listed, of which there is room for two. Each blank is a token of the default rule.
-fn lists_many(alloc: Global, file: &[u8], word: &[u8]) -> Result<bool, AllocError> {
+fn lists_many(alloc: Global, file: &[u8]) -> Result<bool, AllocError> {
+    const TOKENS: &[Place] = &[(0, LONG, 0), (LONG, 1_100_001, u32::MAX)];
     let mut tokens = [NO_TOKEN; 2];
-    let input = repeated(alloc, word, b" ", 50_000, b"")?;
+    let mut input = word(alloc, b"x", b"")?;
+    input.resize(1_150_000, b' ')?;
     let listed = list(alloc, file, &input, &mut tokens);
-    Ok(
-        listed == (Answer::TooSmall, 50_001, 0)
-            && tokens[0] == token(0, LONG, 0)
-            && tokens[1] == token(LONG, 1_100_001, u32::MAX),
-    )
+    Ok(listed == (Answer::TooSmall, 50_001, 0) && are_listed(&tokens, TOKENS))
+}
+
+#[test]
+fn goes_over_long_inputs(rt: HostRuntime) -> Result<(), Fail> {
+    let file = made(rt.alloc(), WORDS)?;
+    let so = scans_long(rt.alloc(), file.written())? && lists_many(rt.alloc(), file.written())?;
+    assert!(rt; so);
+    Ok(())
 }
 
 /// Whether all of these lines wait, each of 4,000 bytes, that are fed with no room.
@@ -95,43 +111,38 @@ fn hands_out(alloc: Global, scan: &mut Scan, bytes: &[u8]) -> bool {
     so
 }
 
+/// Whether all bytes of many lines wait, and are handed out in their order.
+fn keeps_long_output(alloc: Global, scan: &mut Scan) -> Result<bool, AllocError> {
+    let line = repeated(alloc, b"", b"x", 3_999, b"\n")?;
+    let lines = repeated(alloc, b"", &line, 275, b"")?;
+    Ok(waits(alloc, scan, &lines) && hands_out(alloc, scan, &lines))
+}
+
 /// Whether a match of a long piece and a short one is made at the end.
-fn makes_a_long_match(alloc: Global, scan: &mut Scan, word: &[u8]) -> bool {
-    let long = word.get(..LONG).unwrap_or_default();
-    feeds(alloc, scan, long, 1, Answer::Done, b"")
-        && feeds(alloc, scan, b"z", 1, Answer::Done, b"")
-        && finishes(alloc, scan, 1, Answer::TooSmall, word, 0)
+fn makes_a_long_match(alloc: Global, scan: &mut Scan) -> Result<bool, AllocError> {
+    let all = word(alloc, b"y", b"z")?;
+    let long = all.get(..LONG).unwrap_or_default();
+    Ok(
+        feeds(alloc, scan, long, 1, Answer::Done, b"")
+            && feeds(alloc, scan, b"z", 1, Answer::Done, b"")
+            && finishes(alloc, scan, 1, Answer::TooSmall, &all, 0),
+    )
 }
 
 /// Whether a scan by pieces goes over much: lines that are written at once, then a match.
-fn scans_much(alloc: Global, file: &[u8], lines: &[u8], word: &[u8]) -> bool {
+fn scans_much(alloc: Global, file: &[u8]) -> Result<bool, AllocError> {
     let mut scan = Scan::closed();
-    let so = open_scan(alloc, &mut scan, file) == Answer::Done
-        && waits(alloc, &mut scan, lines)
-        && hands_out(alloc, &mut scan, lines)
-        && makes_a_long_match(alloc, &mut scan, word);
+    let opened = open_scan(alloc, &mut scan, file) == Answer::Done;
+    let kept = keeps_long_output(alloc, &mut scan);
+    let matched = makes_a_long_match(alloc, &mut scan);
     close_scan(alloc, &mut scan);
     scan.close(alloc);
-    so
-}
-
-#[test]
-fn goes_over_long_inputs(rt: HostRuntime) -> Result<(), Fail> {
-    let alloc = rt.alloc();
-    let file = made(alloc, WORDS)?;
-    let word = repeated(alloc, b"", &[b'x'; 100], 11_000, b"")?;
-    assert!(rt; scans_long(alloc, file.written(), &word)?);
-    assert!(rt; lists_many(alloc, file.written(), &word)?);
-    Ok(())
+    Ok(opened && kept? && matched?)
 }
 
 #[test]
 fn scans_many_pieces(rt: HostRuntime) -> Result<(), Fail> {
-    let alloc = rt.alloc();
-    let file = made(alloc, WORDS)?;
-    let line = repeated(alloc, b"", b"x", 3_999, b"\n")?;
-    let lines = repeated(alloc, b"", &line, 275, b"")?;
-    let word = repeated(alloc, b"", &[b'y'; 100], 11_000, b"z")?;
-    assert!(rt; scans_much(alloc, file.written(), &lines, &word));
+    let file = made(rt.alloc(), WORDS)?;
+    assert!(rt; scans_much(rt.alloc(), file.written())?);
     Ok(())
 }

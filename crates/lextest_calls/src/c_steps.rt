@@ -1,12 +1,12 @@
 //! What a program in C does, step by step, and what it is answered.
 use crate::c_rows::Row;
 use crate::for_c::{
-    NO_TOKEN, Place, UNTOUCHED, answers, are_listed, count_told, ends, feed, feeds, finishes,
-    has_name, holds, list, list_by, open, scan, shows,
+    NO_TOKEN, Place, UNTOUCHED, answers, are_listed, ends, feeds, finishes, has_name, holds, list,
+    list_by, opens, scan, shows, takes, tells_all,
 };
 use liblex_calls::{
-    Answer, LoadedTables, Scan, TokenStream, close_scan, close_stream, load_tables, open_loaded,
-    open_scan, open_stream_loaded, scan_loaded, share_tables, unload_tables,
+    Answer, LoadedTables, Scan, TokenStream, close_stream, load_tables, open_loaded, open_scan,
+    open_stream_loaded, scan_loaded, share_tables, unload_tables,
 };
 use std::alloc::Global;
 
@@ -104,8 +104,6 @@ pub(crate) enum OfPieces {
     Feed(&'static [u8], usize, Answer, &'static [u8]),
     /// It is told the end: the room, the answer, all that there is to be handed out, and the status.
     Finish(usize, Answer, &'static [u8], u8),
-    /// It is closed.
-    Close,
 }
 
 /// What is done with a stream of tokens.
@@ -166,10 +164,6 @@ fn does_pieces(
         OfPieces::Finish(room, answer, out, status) => {
             finishes(alloc, scan, *room, *answer, *out, *status)
         }
-        OfPieces::Close => {
-            close_scan(alloc, scan);
-            true
-        }
     }
 }
 
@@ -182,13 +176,13 @@ fn does_stream(
     step: &OfStream,
 ) -> bool {
     match step {
-        OfStream::Open(lines, answer) => open(alloc, stream, file, *lines) == *answer,
+        OfStream::Open(lines, answer) => opens(alloc, stream, file, *lines, *answer),
         OfStream::OpenLoaded(lines, answer) => {
             open_stream_loaded(alloc, stream, tables, *lines) == *answer
         }
-        OfStream::Feed(piece, answer) => feed(alloc, stream, *piece) == *answer,
+        OfStream::Feed(piece, answer) => takes(alloc, stream, *piece, *answer),
         OfStream::End => ends(alloc, stream),
-        OfStream::Tokens(rows) => count_told(stream, *rows, 0, true) == rows.len(),
+        OfStream::Tokens(rows) => tells_all(stream, *rows),
         OfStream::Text(room, answer, text) => shows(stream, *room, *answer, *text),
         OfStream::Answer(answer) => answers(stream, *answer, 0),
         OfStream::Close => {
@@ -234,23 +228,39 @@ fn lists_by(alloc: Global, tables: &mut LoadedTables, wanted: Listed) -> bool {
 
 /// Whether a step is answered so.
 fn does(alloc: Global, handles: &mut Handles, file: &[u8], step: &Step) -> bool {
-    let Handles {
-        tables,
-        sharing,
-        scan,
-        other_scan,
-        stream,
-        other_stream,
-    } = handles;
     match step {
         Step::Scan(wanted) => scans(alloc, file, *wanted),
         Step::List(wanted) => lists(alloc, file, *wanted),
-        Step::Table(step) => does_table(alloc, tables, sharing, file, step),
-        Step::Sharing(step) => does_table(alloc, sharing, tables, file, step),
-        Step::Pieces(step) => does_pieces(alloc, scan, tables, file, step),
-        Step::OtherPieces(step) => does_pieces(alloc, other_scan, sharing, file, step),
-        Step::Stream(step) => does_stream(alloc, stream, tables, file, step),
-        Step::OtherStream(step) => does_stream(alloc, other_stream, tables, file, step),
+        Step::Pieces(step) => {
+            does_pieces(alloc, &mut handles.scan, &mut handles.tables, file, step)
+        }
+        Step::Stream(step) => {
+            does_stream(alloc, &mut handles.stream, &mut handles.tables, file, step)
+        }
+        Step::Table(step) => {
+            does_table(alloc, &mut handles.tables, &mut handles.sharing, file, step)
+        }
+        Step::Sharing(step) => {
+            does_table(alloc, &mut handles.sharing, &mut handles.tables, file, step)
+        }
+        Step::OtherPieces(step) => {
+            does_pieces(
+                alloc,
+                &mut handles.other_scan,
+                &mut handles.sharing,
+                file,
+                step,
+            )
+        }
+        Step::OtherStream(step) => {
+            does_stream(
+                alloc,
+                &mut handles.other_stream,
+                &mut handles.tables,
+                file,
+                step,
+            )
+        }
     }
 }
 

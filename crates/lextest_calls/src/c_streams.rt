@@ -2,35 +2,42 @@
 //! refused.
 use crate::building::made;
 use crate::c_rows::{DEFAULT, Row, SCANS, Scan};
-use crate::for_c::{NO_TOKEN, answers, are_listed, count_told, ends, feed, list_by, open};
-use liblex_calls::{Answer, LoadedTables, TokenStream, load_tables};
+use crate::for_c::{
+    NO_TOKEN, answers, are_listed, count_told, ends, list_by, opens, takes, tells_all,
+};
+use liblex_calls::{Answer, LoadedTables, TokenStream, feed_stream, load_tables, open_stream};
 use std::alloc::Global;
 use std::test::Fail;
 
 /// Whether a stream has ended, and tells that again, also where it is fed.
 fn stays_ended(alloc: Global, stream: &mut TokenStream, status: u8) -> bool {
     answers(stream, Answer::Ended, status)
-        && feed(alloc, stream, b"1") == Answer::Ended
+        && takes(alloc, stream, b"1", Answer::Ended)
         && answers(stream, Answer::Ended, status)
 }
 
 /// Whether a stream is told its end, twice, and then takes no piece, twice, also where tokens are still to come.
 fn is_at_end(alloc: Global, stream: &mut TokenStream) -> bool {
     ends(alloc, stream)
-        && feed(alloc, stream, b"1") == Answer::Ended
+        && takes(alloc, stream, b"1", Answer::Ended)
         && ends(alloc, stream)
-        && feed(alloc, stream, b"1") == Answer::Ended
+        && takes(alloc, stream, b"1", Answer::Ended)
+}
+
+/// Whether a piece is taken, or the scan has ended.
+fn is_fed(alloc: Global, stream: &mut TokenStream, piece: &[u8]) -> bool {
+    let fed = feed_stream(alloc, stream, piece);
+    fed == Answer::Done || fed == Answer::Ended
 }
 
 /// Whether the input of a scan has its tokens in pieces of a size, and ends with its status.
 fn streams(alloc: Global, file: &[u8], scan: &Scan, size: usize, lines: bool) -> bool {
     let &(_, input, rows, status) = scan;
     let mut stream = TokenStream::closed();
-    let mut so = open(alloc, &mut stream, file, lines) == Answer::Done;
+    let mut so = opens(alloc, &mut stream, file, lines, Answer::Done);
     let mut told = 0;
     for piece in input.chunks(size.max(1)) {
-        let fed = feed(alloc, &mut stream, piece);
-        so = so && (fed == Answer::Done || fed == Answer::Ended);
+        so = is_fed(alloc, &mut stream, piece) && so;
         told = count_told(&mut stream, rows, told, lines);
     }
     so = is_at_end(alloc, &mut stream) && so;
@@ -40,48 +47,60 @@ fn streams(alloc: Global, file: &[u8], scan: &Scan, size: usize, lines: bool) ->
     so
 }
 
+/// Whether it has them in pieces of any size, with lines and columns and without.
+fn streams_in_pieces(alloc: Global, scan: &Scan) -> Result<bool, Fail> {
+    const SIZES: &[usize] = &[1, 2, 7, 4_096];
+    let file = made(alloc, scan.0)?;
+    let mut so = true;
+    for &size in SIZES {
+        so = streams(alloc, file.written(), scan, size, true) && so;
+        so = streams(alloc, file.written(), scan, size, false) && so;
+    }
+    Ok(so)
+}
+
 #[test]
 fn pieces_of_any_size_have_the_same_tokens(rt: HostRuntime) -> Result<(), Fail> {
-    for scan in SCANS {
-        let file = made(rt.alloc(), scan.0)?;
-        for size in [1, 2, 7, 4_096] {
-            let counted = streams(rt.alloc(), file.written(), scan, size, true);
-            let others = streams(rt.alloc(), file.written(), scan, size, false);
-            assert!(rt; counted && others, "{size}");
-        }
+    for (place, scan) in SCANS.iter().enumerate() {
+        assert!(rt; streams_in_pieces(rt.alloc(), scan)?, "row {place}");
     }
     Ok(())
 }
 
-/// Whether a stream takes all pieces. One that is refused since memory ran out is fed once more.
-fn takes_pieces(alloc: Global, stream: &mut TokenStream) -> bool {
-    const PIECES: &[&[u8]] = &[b"ab", b"c", b"\nd"];
-    let mut so = true;
-    for piece in PIECES {
-        let fed = feed(alloc, stream, piece);
-        let again = fed == Answer::OutOfMemory;
-        so = so && (fed == Answer::Done || again);
-        so = so && (!again || feed(alloc, stream, piece) == Answer::Done);
+/// Whether a piece is taken. One that is refused since memory ran out is fed once more.
+fn is_taken(alloc: Global, stream: &mut TokenStream, piece: &[u8]) -> bool {
+    match feed_stream(alloc, stream, piece) {
+        Answer::Done => true,
+        Answer::OutOfMemory => takes(alloc, stream, piece, Answer::Done),
+        _ => false,
     }
-    so
 }
 
 /// Whether a stream has all its tokens, or stops at a request for memory that was refused, which is told again.
-fn streams_or_stops(alloc: Global, file: &[u8]) -> bool {
+fn has_all_or_stops(alloc: Global, stream: &mut TokenStream) -> bool {
     const ROWS: &[Row] = &[
         (0, 0, 0, "abc", 1, 1),
         (DEFAULT, 3, 0, "\n", 1, 4),
         (0, 4, 0, "d", 2, 1),
     ];
+    let is_fed = is_taken(alloc, stream, b"ab")
+        && is_taken(alloc, stream, b"c")
+        && is_taken(alloc, stream, b"\nd")
+        && ends(alloc, stream);
+    let told = tells_all(stream, ROWS);
+    let stops = answers(stream, Answer::OutOfMemory, 0);
+    is_fed && (stops || told && answers(stream, Answer::Ended, 0))
+}
+
+/// The same of a stream that is opened, unless memory runs out there.
+fn streams_or_stops(alloc: Global, file: &[u8]) -> bool {
     let mut stream = TokenStream::closed();
-    let opened = open(alloc, &mut stream, file, true);
-    let mut so = opened == Answer::Done && takes_pieces(alloc, &mut stream);
-    so = so && ends(alloc, &mut stream);
-    let told = count_told(&mut stream, ROWS, 0, true);
-    let stops = answers(&mut stream, Answer::OutOfMemory, 0);
-    so = so && (stops || told == ROWS.len() && answers(&mut stream, Answer::Ended, 0));
+    let so = match open_stream(alloc, &mut stream, file, true) {
+        Answer::Done => has_all_or_stops(alloc, &mut stream),
+        answer => answer == Answer::OutOfMemory,
+    };
     stream.close(alloc);
-    so || opened == Answer::OutOfMemory
+    so
 }
 
 #[test]

@@ -152,14 +152,20 @@ pub(crate) fn finishes(
     got == answer && ended == status && holds(&buffer, room, count, out)
 }
 
-/// Opens a stream of tokens.
-pub(crate) fn open(alloc: Global, stream: &mut TokenStream, file: &[u8], lines: bool) -> Answer {
-    open_stream(alloc, stream, file, lines)
+/// Whether the opening of a stream of tokens is answered so.
+pub(crate) fn opens(
+    alloc: Global,
+    stream: &mut TokenStream,
+    file: &[u8],
+    lines: bool,
+    answer: Answer,
+) -> bool {
+    open_stream(alloc, stream, file, lines) == answer
 }
 
-/// Feeds a stream.
-pub(crate) fn feed(alloc: Global, stream: &mut TokenStream, piece: &[u8]) -> Answer {
-    feed_stream(alloc, stream, piece)
+/// Whether a piece for a stream is answered so.
+pub(crate) fn takes(alloc: Global, stream: &mut TokenStream, piece: &[u8], answer: Answer) -> bool {
+    feed_stream(alloc, stream, piece) == answer
 }
 
 /// Whether a stream is told its end.
@@ -220,6 +226,11 @@ pub(crate) fn count_told(
         }
     }
     rows.len()
+}
+
+/// Whether these tokens come next, with their lines and columns.
+pub(crate) fn tells_all(stream: &mut TokenStream, rows: &[Row]) -> bool {
+    count_told(stream, rows, 0, true) == rows.len()
 }
 
 /// Whether no token comes next, but this answer, with this status, twice.

@@ -140,14 +140,21 @@ fn scanned(
     Ok((got, late.get()))
 }
 
+/// Whether each line is answered before more is asked for, by a filter and by its table file.
+fn answers_lines(alloc: Global, filter: &[u8]) -> Result<bool, Fail> {
+    const IN_TIME: (Result<u8, ScanError>, bool) = (Ok(0), false);
+    let file = made(alloc, filter)?;
+    Ok(
+        scanned(alloc, filter, LINES, None, false)? == IN_TIME
+            && scanned(alloc, filter, LINES, Some(file.written()), false)? == IN_TIME
+            && scanned(alloc, filter, PARTS, None, false)? == IN_TIME,
+    )
+}
+
 #[test]
 fn answers_a_line_before_it_asks_for_more(rt: HostRuntime) -> Result<(), Fail> {
-    let alloc = rt.alloc();
-    for &filter in FILTERS {
-        assert!(rt; scanned(alloc, filter, LINES, None, false)? == (Ok(0), false));
-        let file = made(alloc, filter)?;
-        assert!(rt; scanned(alloc, filter, LINES, Some(file.written()), false)? == (Ok(0), false));
-        assert!(rt; scanned(alloc, filter, PARTS, None, false)? == (Ok(0), false));
+    for (place, &filter) in FILTERS.iter().enumerate() {
+        assert!(rt; answers_lines(rt.alloc(), filter)?, "filter {place}");
     }
     Ok(())
 }

@@ -219,6 +219,15 @@ fn token_at(place: usize) -> TextToken {
     }
 }
 
+/// Whether these are the first of all tokens.
+fn are_first(tokens: &[TextToken]) -> bool {
+    let mut so = true;
+    for (place, token) in tokens.iter().enumerate() {
+        so = so && *token == token_at(place);
+    }
+    so
+}
+
 /// What is answered where there is room for so many tokens, with how many there are; and whether those in the buffer are these.
 fn listed(alloc: Global, room: usize) -> Result<(Answer, usize, bool), Fail> {
     let file = made(alloc, b"%%\n[a-z]+ ;\n[0-9]+ ;\n\\n ;\n\" \" ;\n")?;
@@ -226,11 +235,7 @@ fn listed(alloc: Global, room: usize) -> Result<(Answer, usize, bool), Fail> {
     let mut tokens = Vec::new(alloc);
     tokens.resize(room, NO_TOKEN)?;
     let (answer, count, status) = list(alloc, file.written(), &input, &mut tokens);
-    let mut so = status == 0;
-    for (place, token) in tokens.iter().enumerate() {
-        so = so && *token == token_at(place);
-    }
-    Ok((answer, count, so))
+    Ok((answer, count, status == 0 && are_first(&tokens)))
 }
 
 /// There is room for all, up to the middle of a series, and for none.

@@ -1,15 +1,15 @@
 //! The greatest table file.
-use crate::building::read_back;
+use crate::building::{read_back, repeated};
 use std::alloc::{AllocError, Global};
 use std::test::Fail;
 
-/// `%x` and this many names: of one letter, of two, and so on.
-pub(crate) fn conditions(alloc: Global, count: u32) -> Result<Vec<u8>, AllocError> {
+/// `%x` and this many names, 255 at most: of one letter, of two, and so on.
+pub(crate) fn conditions(alloc: Global, count: usize) -> Result<Vec<u8>, AllocError> {
+    const LETTERS: &[u8] = &[b'c'; 255];
     let mut text = Vec::from_slice(alloc, b"%x".as_slice())?;
-    let mut name = Vec::from_slice(alloc, b" ".as_slice())?;
-    for _ in 0..count {
-        name.push(b'c')?;
-        text.extend_from_slice(&name)?;
+    for length in 1..=count {
+        text.push(b' ')?;
+        text.extend_from_slice(LETTERS.get(..length).unwrap_or(LETTERS))?;
     }
     text.extend_from_slice(b"\n%%\n")?;
     Ok(text)
@@ -22,17 +22,21 @@ fn greatest(alloc: Global) -> Result<Vec<u8>, AllocError> {
         let rule = format!(in alloc; "\\x{byte:02x} ;\n")?;
         text.extend_from_slice(rule.as_bytes())?;
     }
-    for _ in 0..3_840 {
-        text.extend_from_slice(b"aa ;\n")?;
-    }
-    Ok(text)
+    repeated(alloc, &text, b"aa ;\n", 3_840, b"")
+}
+
+/// Whether its table file is read back with as many.
+fn is_read_back(alloc: Global) -> Result<bool, Fail> {
+    let text = greatest(alloc)?;
+    let tables = read_back(alloc, &text)?;
+    let parts = tables.parts();
+    let counts = (parts.conditions.len(), parts.rules.len(), parts.classes);
+    Ok(counts == (255, 4_096, 256))
 }
 
 /// The file of the most conditions, rules and classes of bytes is read back.
 #[test]
 fn the_greatest_counts_are_read(rt: HostRuntime) -> Result<(), Fail> {
-    let tables = read_back(rt.alloc(), &greatest(rt.alloc())?)?;
-    let parts = tables.parts();
-    assert!(rt; (parts.conditions.len(), parts.rules.len(), parts.classes) == (255, 4_096, 256));
+    assert!(rt; is_read_back(rt.alloc())?);
     Ok(())
 }
