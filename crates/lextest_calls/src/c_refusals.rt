@@ -27,9 +27,8 @@ fn is_refused(alloc: Global, text: &[u8], line: u32, kind: u32, place: usize) ->
         && (told, count, buffer[0]) == listed
 }
 
-/// Where only the automaton passes a limit, no line is at fault.
-#[test]
-fn tells_each_refusal_of_a_text(rt: HostRuntime) {
+/// Refusals of definitions, of conditions and of where patterns end.
+fn of_lines() -> &'static [Refused] {
     const ROWS: &[Refused] = &[
         (b"", 1, 1, 0),
         (b"D [0-9]\n", 2, 1, 0),
@@ -44,6 +43,13 @@ fn tells_each_refusal_of_a_text(rt: HostRuntime) {
         (b"%%\n<<EOF>> ;\n<<EOF>> ;\n", 3, 10, 0),
         (b"%%\na return 1;\n", 2, 11, 0),
         (b"%%\na yyless(1); yymore();\n", 2, 12, 0),
+    ];
+    ROWS
+}
+
+/// Refusals of actions and options.
+fn of_actions() -> &'static [Refused] {
+    const ROWS: &[Refused] = &[
         (b"%%\na yymore(); REJECT;\n", 2, 13, 0),
         (b"%%\na REJECT; ECHO;\n", 2, 14, 0),
         (b"%%\n<<EOF>> ECHO;\n", 2, 15, 0),
@@ -52,6 +58,13 @@ fn tells_each_refusal_of_a_text(rt: HostRuntime) {
         (b"%%\na { ECHO;\n", 2, 18, 0),
         (b"%%\na |\n", 2, 19, 0),
         (b"%option reentrant\n%%\n", 1, 20, 0),
+    ];
+    ROWS
+}
+
+/// Refusals of patterns. Where only the automaton passes a limit, no line is at fault.
+fn of_patterns() -> &'static [Refused] {
+    const ROWS: &[Refused] = &[
         (b"%%\n\"a ;\n", 2, 101, 0),
         (b"%%\n[a ;\n", 2, 102, 0),
         (b"%%\n[z-a] ;\n", 2, 103, 1),
@@ -68,9 +81,23 @@ fn tells_each_refusal_of_a_text(rt: HostRuntime) {
         (b"%%\n(a{255}){65} ;\n", 0, 201, 0),
         (b"%%\n(a|b)*a(a|b){14} ;\n", 0, 202, 0),
     ];
-    for &(text, line, kind, place) in ROWS {
-        assert!(rt; is_refused(rt.alloc(), text, line, kind, place), "{kind}");
+    ROWS
+}
+
+/// Whether each text is refused so.
+fn all_are_refused(alloc: Global, rows: &[Refused]) -> bool {
+    let mut so = true;
+    for &(text, line, kind, place) in rows {
+        so = is_refused(alloc, text, line, kind, place) && so;
     }
+    so
+}
+
+#[test]
+fn tells_each_refusal_of_a_text(rt: HostRuntime) {
+    assert!(rt; all_are_refused(rt.alloc(), of_lines()));
+    assert!(rt; all_are_refused(rt.alloc(), of_actions()));
+    assert!(rt; all_are_refused(rt.alloc(), of_patterns()));
 }
 
 /// A part of a text and how often it stands there, what stands after it, and the line, the kind and the place that are told.

@@ -1,7 +1,7 @@
 //! Streams of tokens as a program in C calls them: the same tokens from pieces of any size. Streams and lists of tokens where memory is
 //! refused.
 use crate::building::made;
-use crate::c_rows::{DEFAULT, Row, SCANS, Scan};
+use crate::c_rows::{self, DEFAULT, Row, Scan};
 use crate::for_c::{
     NO_TOKEN, answers, are_listed, count_told, ends, list_by, opens, takes, tells_all,
 };
@@ -59,11 +59,25 @@ fn streams_in_pieces(alloc: Global, scan: &Scan) -> Result<bool, Fail> {
     Ok(so)
 }
 
+/// Whether each of some scans does.
+fn all_stream_in_pieces(alloc: Global, scans: &[Scan]) -> Result<bool, Fail> {
+    let mut so = true;
+    for scan in scans {
+        so = streams_in_pieces(alloc, scan)? && so;
+    }
+    Ok(so)
+}
+
 #[test]
 fn pieces_of_any_size_have_the_same_tokens(rt: HostRuntime) -> Result<(), Fail> {
-    for (place, scan) in SCANS.iter().enumerate() {
-        assert!(rt; streams_in_pieces(rt.alloc(), scan)?, "row {place}");
-    }
+    let alloc = rt.alloc();
+    assert!(rt; all_stream_in_pieces(alloc, c_rows::first())?);
+    assert!(rt; all_stream_in_pieces(alloc, c_rows::second())?);
+    assert!(rt; all_stream_in_pieces(alloc, c_rows::third())?);
+    assert!(rt; all_stream_in_pieces(alloc, c_rows::fourth())?);
+    assert!(rt; all_stream_in_pieces(alloc, c_rows::fifth())?);
+    assert!(rt; all_stream_in_pieces(alloc, c_rows::sixth())?);
+    assert!(rt; all_stream_in_pieces(alloc, c_rows::seventh())?);
     Ok(())
 }
 

@@ -161,115 +161,132 @@ const SEVEN_TURNS: &[Step] = &[
     Step::Fail(RunError::Failed),
 ];
 
-const SCANS: &[Scan] = &[
-    // What is asked for is taken and held.
-    (
-        "%%\n",
-        b"abc",
-        Failing::Never,
-        &[
-            Step::GoTo(1, ""),
-            Step::GoTo(2, ""),
-            Step::GoTo(3, ""),
-            Step::End(0),
-            Step::End(0),
-        ],
-        "abc",
-    ),
-    (
-        NUMBERS,
-        b"if 42 x",
-        Failing::Never,
-        &[
-            Step::GoTo(2, ""),
-            Step::GoTo(3, ""),
-            Step::GoTo(5, ""),
-            Step::GoTo(6, ""),
-            Step::GoTo(7, ""),
-            Step::End(0),
-            Step::End(0),
-        ],
-        "K N x",
-    ),
-    (
-        "%%\nabc printf(\"X\");\n",
-        b"abab",
-        Failing::Never,
-        &[
-            Step::GoTo(3, "ba"),
-            Step::GoTo(3, "a"),
-            Step::GoTo(4, "b"),
-            Step::GoTo(4, ""),
-            Step::End(0),
-            Step::End(0),
-        ],
-        "abab",
-    ),
-    (
-        MEGA,
-        b"mega-kludge",
-        Failing::Never,
-        &[
-            Step::GoTo(5, "mega-"),
-            Step::GoTo(11, ""),
-            Step::End(0),
-            Step::End(0),
-        ],
-        "mega-mega-kludge",
-    ),
-    (
-        TRAIL,
-        b"abcdab",
-        Failing::Never,
-        &[
-            Step::GoTo(4, "cd"),
-            Step::GoTo(4, "d"),
-            Step::GoTo(4, ""),
-            Step::GoTo(6, "b"),
-            Step::GoTo(6, ""),
-            Step::End(0),
-            Step::End(0),
-        ],
-        "[ab]cdab",
-    ),
-    (
-        "%%\nab exit(7);\n",
-        b"abXYZ",
-        Failing::Never,
-        &[Step::End(7), Step::End(7)],
-        "",
-    ),
-    (
-        "%%\na yymore();\nb yymore(); exit(3);\n",
-        b"abc",
-        Failing::Never,
-        &[Step::GoTo(1, "a"), Step::End(3), Step::End(3)],
-        "",
-    ),
-    (
-        "%%\naa yymore();\nb ECHO; yyless(1);\n",
-        b"aab",
-        Failing::Never,
-        &[
-            Step::GoTo(2, "aa"),
-            Step::GoTo(3, "ab"),
-            Step::GoTo(3, "b"),
-            Step::GoTo(3, ""),
-            Step::End(0),
-            Step::End(0),
-        ],
-        "aabab",
-    ),
-    // The end is asked for once: a source that has answered it is not called again, whatever it would give then.
-    (
+/// What is asked for is taken and held.
+fn held() -> &'static [Scan] {
+    const SCANS: &[Scan] = &[
+        (
+            "%%\n",
+            b"abc",
+            Failing::Never,
+            &[
+                Step::GoTo(1, ""),
+                Step::GoTo(2, ""),
+                Step::GoTo(3, ""),
+                Step::End(0),
+                Step::End(0),
+            ],
+            "abc",
+        ),
+        (
+            NUMBERS,
+            b"if 42 x",
+            Failing::Never,
+            &[
+                Step::GoTo(2, ""),
+                Step::GoTo(3, ""),
+                Step::GoTo(5, ""),
+                Step::GoTo(6, ""),
+                Step::GoTo(7, ""),
+                Step::End(0),
+                Step::End(0),
+            ],
+            "K N x",
+        ),
+        (
+            "%%\nabc printf(\"X\");\n",
+            b"abab",
+            Failing::Never,
+            &[
+                Step::GoTo(3, "ba"),
+                Step::GoTo(3, "a"),
+                Step::GoTo(4, "b"),
+                Step::GoTo(4, ""),
+                Step::End(0),
+                Step::End(0),
+            ],
+            "abab",
+        ),
+        (
+            MEGA,
+            b"mega-kludge",
+            Failing::Never,
+            &[
+                Step::GoTo(5, "mega-"),
+                Step::GoTo(11, ""),
+                Step::End(0),
+                Step::End(0),
+            ],
+            "mega-mega-kludge",
+        ),
+    ];
+    SCANS
+}
+
+/// The same where trailing context, exit, yymore and yyless have a part in it.
+fn held_by_statements() -> &'static [Scan] {
+    const SCANS: &[Scan] = &[
+        (
+            TRAIL,
+            b"abcdab",
+            Failing::Never,
+            &[
+                Step::GoTo(4, "cd"),
+                Step::GoTo(4, "d"),
+                Step::GoTo(4, ""),
+                Step::GoTo(6, "b"),
+                Step::GoTo(6, ""),
+                Step::End(0),
+                Step::End(0),
+            ],
+            "[ab]cdab",
+        ),
+        (
+            "%%\nab exit(7);\n",
+            b"abXYZ",
+            Failing::Never,
+            &[Step::End(7), Step::End(7)],
+            "",
+        ),
+        (
+            "%%\na yymore();\nb yymore(); exit(3);\n",
+            b"abc",
+            Failing::Never,
+            &[Step::GoTo(1, "a"), Step::End(3), Step::End(3)],
+            "",
+        ),
+        (
+            "%%\naa yymore();\nb ECHO; yyless(1);\n",
+            b"aab",
+            Failing::Never,
+            &[
+                Step::GoTo(2, "aa"),
+                Step::GoTo(3, "ab"),
+                Step::GoTo(3, "b"),
+                Step::GoTo(3, ""),
+                Step::End(0),
+                Step::End(0),
+            ],
+            "aabab",
+        ),
+    ];
+    SCANS
+}
+
+/// The end is asked for once: a source that has answered it is not called again, whatever it would give then.
+fn ended() -> &'static [Scan] {
+    const SCANS: &[Scan] = &[(
         TRAIL,
         b"abcdabz",
         Failing::End(6),
         &[Step::Go(5), Step::Answer(Ok(Turn::Ended(0)), 6, 0)],
         "[ab]cdab",
-    ),
-    // A thousand letters are taken in the first turn, and returned one by one.
-    (
+    )];
+    SCANS
+}
+
+/// A thousand letters are taken in the first turn, and returned one by one.
+fn returned() -> &'static [Scan] {
+    const SCANS: &[Scan] = &[(
         ONE_BY_ONE,
         THOUSAND,
         Failing::Never,
@@ -280,127 +297,167 @@ const SCANS: &[Scan] = &[
             Step::Answer(Ok(Turn::Ended(0)), 1_000, 0),
         ],
         "",
-    ),
-    // A refused turn holds what was taken.
-    (
-        MEGA,
-        b"mega-kludge",
-        Failing::Write(5),
-        &[
-            Step::Answer(WENT, 5, 5),
-            Step::Answer(UNWRITTEN, 11, 11),
-            Step::Answer(FAILED, 11, 11),
-        ],
-        "mega-",
-    ),
-    (
-        MEGA,
-        b"mega-kludge",
-        Failing::Read(5),
-        &[
-            Step::Answer(WENT, 5, 5),
-            Step::Answer(UNREAD, 5, 5),
-            Step::Answer(FAILED, 5, 5),
-        ],
-        "mega-",
-    ),
-    (
-        FRONTS,
-        b"abcd",
-        Failing::Write(3),
-        &[
-            Step::Answer(UNWRITTEN, 4, 4),
-            Step::Answer(FAILED, 4, 4),
-            Step::Answer(FAILED, 4, 4),
-        ],
-        "abc",
-    ),
-    (
-        POPS,
-        b"xa",
-        Failing::Never,
-        &[
-            Step::Answer(WENT, 1, 0),
-            Step::Answer(Err(RunError::Stack), 2, 1),
-            Step::Answer(FAILED, 2, 1),
-        ],
-        "xA",
-    ),
-    // A source that gives 0 to 10 bytes lets so many turns go on.
-    (COMMENTS, b"a/*b*/c/*d", Failing::Read(0), NO_TURN, ""),
-    (COMMENTS, b"a/*b*/c/*d", Failing::Read(1), ONE_TURN, "a"),
-    (COMMENTS, b"a/*b*/c/*d", Failing::Read(2), ONE_TURN, "a"),
-    (COMMENTS, b"a/*b*/c/*d", Failing::Read(3), TWO_TURNS, "a"),
-    (COMMENTS, b"a/*b*/c/*d", Failing::Read(4), THREE_TURNS, "a"),
-    (COMMENTS, b"a/*b*/c/*d", Failing::Read(5), THREE_TURNS, "a"),
-    (COMMENTS, b"a/*b*/c/*d", Failing::Read(6), FOUR_TURNS, "a"),
-    (COMMENTS, b"a/*b*/c/*d", Failing::Read(7), FIVE_TURNS, "ac"),
-    (COMMENTS, b"a/*b*/c/*d", Failing::Read(8), FIVE_TURNS, "ac"),
-    (COMMENTS, b"a/*b*/c/*d", Failing::Read(9), SIX_TURNS, "ac"),
-    (
-        COMMENTS,
-        b"a/*b*/c/*d",
-        Failing::Read(10),
-        SEVEN_TURNS,
-        "ac",
-    ),
-    // A sink that takes 0 to 9 of the ten bytes of the first turn has the first ones.
-    (FRONTS, b"abcd", Failing::Write(0), UNWRITTEN_AT_ONCE, ""),
-    (FRONTS, b"abcd", Failing::Write(1), UNWRITTEN_AT_ONCE, "a"),
-    (FRONTS, b"abcd", Failing::Write(2), UNWRITTEN_AT_ONCE, "ab"),
-    (FRONTS, b"abcd", Failing::Write(3), UNWRITTEN_AT_ONCE, "abc"),
-    (
-        FRONTS,
-        b"abcd",
-        Failing::Write(4),
-        UNWRITTEN_AT_ONCE,
-        "abcd",
-    ),
-    (
-        FRONTS,
-        b"abcd",
-        Failing::Write(5),
-        UNWRITTEN_AT_ONCE,
-        "abcda",
-    ),
-    (
-        FRONTS,
-        b"abcd",
-        Failing::Write(6),
-        UNWRITTEN_AT_ONCE,
-        "abcdab",
-    ),
-    (
-        FRONTS,
-        b"abcd",
-        Failing::Write(7),
-        UNWRITTEN_AT_ONCE,
-        "abcdabc",
-    ),
-    (
-        FRONTS,
-        b"abcd",
-        Failing::Write(8),
-        UNWRITTEN_AT_ONCE,
-        "abcdabca",
-    ),
-    (
-        FRONTS,
-        b"abcd",
-        Failing::Write(9),
-        UNWRITTEN_AT_ONCE,
-        "abcdabcab",
-    ),
-    // The flush fails at the end of an empty input, and before a pop of an empty stack is told.
-    ("%%\n", b"", Failing::Flush, UNWRITTEN_AT_ONCE, ""),
-    (POPS, b"a", Failing::Flush, UNWRITTEN_AT_ONCE, "A"),
-];
+    )];
+    SCANS
+}
+
+/// A refused turn holds what was taken.
+fn refused() -> &'static [Scan] {
+    const SCANS: &[Scan] = &[
+        (
+            MEGA,
+            b"mega-kludge",
+            Failing::Write(5),
+            &[
+                Step::Answer(WENT, 5, 5),
+                Step::Answer(UNWRITTEN, 11, 11),
+                Step::Answer(FAILED, 11, 11),
+            ],
+            "mega-",
+        ),
+        (
+            MEGA,
+            b"mega-kludge",
+            Failing::Read(5),
+            &[
+                Step::Answer(WENT, 5, 5),
+                Step::Answer(UNREAD, 5, 5),
+                Step::Answer(FAILED, 5, 5),
+            ],
+            "mega-",
+        ),
+        (
+            FRONTS,
+            b"abcd",
+            Failing::Write(3),
+            &[
+                Step::Answer(UNWRITTEN, 4, 4),
+                Step::Answer(FAILED, 4, 4),
+                Step::Answer(FAILED, 4, 4),
+            ],
+            "abc",
+        ),
+        (
+            POPS,
+            b"xa",
+            Failing::Never,
+            &[
+                Step::Answer(WENT, 1, 0),
+                Step::Answer(Err(RunError::Stack), 2, 1),
+                Step::Answer(FAILED, 2, 1),
+            ],
+            "xA",
+        ),
+    ];
+    SCANS
+}
+
+/// A source that gives 0 to 10 bytes lets so many turns go on.
+fn cut_short() -> &'static [Scan] {
+    const SCANS: &[Scan] = &[
+        (COMMENTS, b"a/*b*/c/*d", Failing::Read(0), NO_TURN, ""),
+        (COMMENTS, b"a/*b*/c/*d", Failing::Read(1), ONE_TURN, "a"),
+        (COMMENTS, b"a/*b*/c/*d", Failing::Read(2), ONE_TURN, "a"),
+        (COMMENTS, b"a/*b*/c/*d", Failing::Read(3), TWO_TURNS, "a"),
+        (COMMENTS, b"a/*b*/c/*d", Failing::Read(4), THREE_TURNS, "a"),
+        (COMMENTS, b"a/*b*/c/*d", Failing::Read(5), THREE_TURNS, "a"),
+        (COMMENTS, b"a/*b*/c/*d", Failing::Read(6), FOUR_TURNS, "a"),
+        (COMMENTS, b"a/*b*/c/*d", Failing::Read(7), FIVE_TURNS, "ac"),
+        (COMMENTS, b"a/*b*/c/*d", Failing::Read(8), FIVE_TURNS, "ac"),
+        (COMMENTS, b"a/*b*/c/*d", Failing::Read(9), SIX_TURNS, "ac"),
+        (
+            COMMENTS,
+            b"a/*b*/c/*d",
+            Failing::Read(10),
+            SEVEN_TURNS,
+            "ac",
+        ),
+    ];
+    SCANS
+}
+
+/// A sink that takes 0 to 9 of the ten bytes of the first turn has the first ones.
+fn filled() -> &'static [Scan] {
+    const SCANS: &[Scan] = &[
+        (FRONTS, b"abcd", Failing::Write(0), UNWRITTEN_AT_ONCE, ""),
+        (FRONTS, b"abcd", Failing::Write(1), UNWRITTEN_AT_ONCE, "a"),
+        (FRONTS, b"abcd", Failing::Write(2), UNWRITTEN_AT_ONCE, "ab"),
+        (FRONTS, b"abcd", Failing::Write(3), UNWRITTEN_AT_ONCE, "abc"),
+        (
+            FRONTS,
+            b"abcd",
+            Failing::Write(4),
+            UNWRITTEN_AT_ONCE,
+            "abcd",
+        ),
+        (
+            FRONTS,
+            b"abcd",
+            Failing::Write(5),
+            UNWRITTEN_AT_ONCE,
+            "abcda",
+        ),
+        (
+            FRONTS,
+            b"abcd",
+            Failing::Write(6),
+            UNWRITTEN_AT_ONCE,
+            "abcdab",
+        ),
+        (
+            FRONTS,
+            b"abcd",
+            Failing::Write(7),
+            UNWRITTEN_AT_ONCE,
+            "abcdabc",
+        ),
+        (
+            FRONTS,
+            b"abcd",
+            Failing::Write(8),
+            UNWRITTEN_AT_ONCE,
+            "abcdabca",
+        ),
+        (
+            FRONTS,
+            b"abcd",
+            Failing::Write(9),
+            UNWRITTEN_AT_ONCE,
+            "abcdabcab",
+        ),
+    ];
+    SCANS
+}
+
+/// The flush fails at the end of an empty input, and before a pop of an empty stack is told.
+fn unflushed() -> &'static [Scan] {
+    const SCANS: &[Scan] = &[
+        ("%%\n", b"", Failing::Flush, UNWRITTEN_AT_ONCE, ""),
+        (POPS, b"a", Failing::Flush, UNWRITTEN_AT_ONCE, "A"),
+    ];
+    SCANS
+}
+
+/// Whether the turns of each row do what it says.
+fn all_go_so(alloc: Global, rows: &[Scan]) -> Result<bool, Fail> {
+    let mut so = true;
+    for row in rows {
+        so = goes_so(alloc, row)? && so;
+    }
+    Ok(so)
+}
 
 #[test]
 fn turns_go_so(rt: HostRuntime) -> Result<(), Fail> {
-    for (place, row) in SCANS.iter().enumerate() {
-        assert!(rt; goes_so(rt.alloc(), row)?, "row {place}");
-    }
+    let alloc = rt.alloc();
+    assert!(rt; all_go_so(alloc, held())?);
+    assert!(rt; all_go_so(alloc, held_by_statements())?);
+    assert!(rt; all_go_so(alloc, ended())?);
+    assert!(rt; all_go_so(alloc, returned())?);
+    assert!(rt; all_go_so(alloc, refused())?);
+    assert!(rt; all_go_so(alloc, cut_short())?);
+    assert!(rt; all_go_so(alloc, filled())?);
+    assert!(rt; all_go_so(alloc, unflushed())?);
     Ok(())
 }
 
