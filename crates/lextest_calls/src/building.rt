@@ -1,4 +1,4 @@
-//! Automata within the greatest limits. Of what `build` promises this keeps what a machine needs.
+//! Texts, automata within the greatest limits, and table files. Of what `build` promises this keeps what a machine needs.
 ghost use Rattle.std.specs.Prelude.{◌≡◌, length, IfOk};
 ghost use Rattle.lexauto.specs.MachineLaws.{MachineLaws};
 ghost use Rattle.lexauto.specs.TableFor.{TableFor};
@@ -9,7 +9,7 @@ use crate::scanning::PLAIN;
 use lexauto::{BuildError, Dfa, Limits, build};
 use lexkit::{Flat, MemorySink, Options, TableError, Tables, generate, read_tables, write_tables};
 use lexspec::{Spec, SpecError, read_spec};
-use std::alloc::Global;
+use std::alloc::{AllocError, Global};
 use std::test::Fail;
 
 const MOST: Limits = Limits {
@@ -42,7 +42,7 @@ pub(crate) fn made(alloc: Global, text: &[u8]) -> Result<MemorySink, Fail> {
 }
 
 /// The tables of a specification, written to a file and read back, as a scan by a table file has them.
-fn read_back(alloc: Global, text: &[u8]) -> Result<Tables, Fail> {
+pub(crate) fn read_back(alloc: Global, text: &[u8]) -> Result<Tables, Fail> {
     let file = made(alloc, text)?;
     Ok(read_tables(alloc, file.written())?)
 }
@@ -51,4 +51,20 @@ fn read_back(alloc: Global, text: &[u8]) -> Result<Tables, Fail> {
 pub(crate) fn machine_of(alloc: Global, text: &str) -> Result<Flat, Fail> {
     let tables = read_back(alloc, text.as_bytes())?;
     Ok(Flat::new(alloc, tables)?)
+}
+
+/// A text with a part of it so many times.
+pub(crate) fn repeated(
+    alloc: Global,
+    before: &[u8],
+    part: &[u8],
+    times: usize,
+    after: &[u8],
+) -> Result<Vec<u8>, AllocError> {
+    let mut text = Vec::from_slice(alloc, before)?;
+    for _ in 0..times {
+        text.extend_from_slice(part)?;
+    }
+    text.extend_from_slice(after)?;
+    Ok(text)
 }

@@ -1,44 +1,34 @@
 //! What a program in C is told of each kind of refusal. No contract says that a refusal is not told as want of memory;
 //! here there is ample. The texts are those of docs/MANUAL.md, with the lines and the places that it has of them. The numbers are those
 //! of include/lex.h.
-use crate::building::made;
-use crate::for_c::{NO_TOKEN, NONE, list, scan};
+use crate::building::{made, repeated};
+use crate::c_steps::{OfPieces, OfStream, OfTable, Step, goes_so};
+use crate::for_c::{generate, lines};
 use crate::table_files::conditions;
-use liblex_calls::{
-    Answer, LoadedTables, Scan, TextFault, TokenStream, generate_into, load_tables, open_scan,
-    open_stream, options_of, rule_lines_into,
-};
+use liblex_calls::{Answer, TextFault};
 use std::alloc::{AllocError, Global};
 use std::test::Fail;
 
 /// A text, and the line, the kind and the place that are told of it.
 type Refused = (&'static [u8], u32, u32, usize);
 
-/// Whether a text is refused so.
-fn is_told(alloc: Global, text: &[u8], line: u32, kind: u32, place: usize) -> bool {
-    let mut buffer = [0u8; 8];
-    let mut count = 0;
-    let mut fault = NONE;
-    let options = options_of(0);
-    let answer = generate_into(alloc, text, options, &mut buffer, &mut count, &mut fault);
-    answer == Answer::Refused && fault == TextFault { line, kind, place }
-}
-
-/// What is answered of the lines of a text's rules, how many there are, and what stands in a buffer that began with 7.
-fn lines(alloc: Global, text: &[u8]) -> (Answer, usize, u32) {
-    let mut lines = [7u32; 1];
-    let mut count = 9;
-    let answer = rule_lines_into(alloc, text, options_of(0), &mut lines, &mut count);
-    (answer, count, lines[0])
-}
-
-/// Whether a text that is no specification is refused so, and its lines of rules are.
+/// Whether a text is refused so. Its lines of rules are too, unless only the automaton passes a limit: then it has a rule, in line 2.
+/// The buffer for them begins with 7.
 fn is_refused(alloc: Global, text: &[u8], line: u32, kind: u32, place: usize) -> bool {
-    is_told(alloc, text, line, kind, place) && lines(alloc, text) == (Answer::Refused, 0, 7)
+    let mut buffer = [7u32; 1];
+    let (answer, _, fault) = generate(alloc, text, &mut [0u8; 8]);
+    let (told, count) = lines(alloc, text, &mut buffer);
+    let listed = if kind < 201 {
+        (Answer::Refused, 0, 7)
+    } else {
+        (Answer::Done, 1, 2)
+    };
+    (answer, fault) == (Answer::Refused, TextFault { line, kind, place })
+        && (told, count, buffer[0]) == listed
 }
 
-#[test]
-fn tells_each_refusal_of_a_text(rt: HostRuntime) {
+/// Refusals of definitions, of conditions and of where patterns end.
+fn of_lines() -> &'static [Refused] {
     const ROWS: &[Refused] = &[
         (b"", 1, 1, 0),
         (b"D [0-9]\n", 2, 1, 0),
@@ -53,6 +43,13 @@ fn tells_each_refusal_of_a_text(rt: HostRuntime) {
         (b"%%\n<<EOF>> ;\n<<EOF>> ;\n", 3, 10, 0),
         (b"%%\na return 1;\n", 2, 11, 0),
         (b"%%\na yyless(1); yymore();\n", 2, 12, 0),
+    ];
+    ROWS
+}
+
+/// Refusals of actions and options.
+fn of_actions() -> &'static [Refused] {
+    const ROWS: &[Refused] = &[
         (b"%%\na yymore(); REJECT;\n", 2, 13, 0),
         (b"%%\na REJECT; ECHO;\n", 2, 14, 0),
         (b"%%\n<<EOF>> ECHO;\n", 2, 15, 0),
@@ -61,6 +58,13 @@ fn tells_each_refusal_of_a_text(rt: HostRuntime) {
         (b"%%\na { ECHO;\n", 2, 18, 0),
         (b"%%\na |\n", 2, 19, 0),
         (b"%option reentrant\n%%\n", 1, 20, 0),
+    ];
+    ROWS
+}
+
+/// Refusals of patterns. Where only the automaton passes a limit, no line is at fault.
+fn of_patterns() -> &'static [Refused] {
+    const ROWS: &[Refused] = &[
         (b"%%\n\"a ;\n", 2, 101, 0),
         (b"%%\n[a ;\n", 2, 102, 0),
         (b"%%\n[z-a] ;\n", 2, 103, 1),
@@ -74,26 +78,26 @@ fn tells_each_refusal_of_a_text(rt: HostRuntime) {
         (b"%%\n{x} ;\n", 2, 111, 0),
         (b"x a{x}\n%%\n{x} ;\n", 3, 112, 0),
         (b"%%\n(a/b) ;\n", 2, 115, 2),
+        (b"%%\n(a{255}){65} ;\n", 0, 201, 0),
+        (b"%%\n(a|b)*a(a|b){14} ;\n", 0, 202, 0),
     ];
-    for &(text, line, kind, place) in ROWS {
-        assert!(rt; is_refused(rt.alloc(), text, line, kind, place), "{kind}");
-    }
+    ROWS
 }
 
-/// A text with a part of it so many times.
-fn repeated(
-    alloc: Global,
-    before: &[u8],
-    part: &[u8],
-    times: usize,
-    after: &[u8],
-) -> Result<Vec<u8>, AllocError> {
-    let mut text = Vec::from_slice(alloc, before)?;
-    for _ in 0..times {
-        text.extend_from_slice(part)?;
+/// Whether each text is refused so.
+fn all_are_refused(alloc: Global, rows: &[Refused]) -> bool {
+    let mut so = true;
+    for &(text, line, kind, place) in rows {
+        so = is_refused(alloc, text, line, kind, place) && so;
     }
-    text.extend_from_slice(after)?;
-    Ok(text)
+    so
+}
+
+#[test]
+fn tells_each_refusal_of_a_text(rt: HostRuntime) {
+    assert!(rt; all_are_refused(rt.alloc(), of_lines()));
+    assert!(rt; all_are_refused(rt.alloc(), of_actions()));
+    assert!(rt; all_are_refused(rt.alloc(), of_patterns()));
 }
 
 /// A part of a text and how often it stands there, what stands after it, and the line, the kind and the place that are told.
@@ -104,6 +108,12 @@ fn is_long_refused(alloc: Global, row: &Long) -> Result<bool, AllocError> {
     let &(part, times, after, line, kind, place) = row;
     let text = repeated(alloc, b"%%\n", part, times, after)?;
     Ok(is_refused(alloc, &text, line, kind, place))
+}
+
+/// Whether a text of more conditions than there may be is refused so.
+fn are_too_many(alloc: Global) -> Result<bool, AllocError> {
+    let text = conditions(alloc, 255)?;
+    Ok(is_refused(alloc, &text, 1, 22, 0))
 }
 
 #[test]
@@ -117,105 +127,58 @@ fn tells_each_limit_of_a_specification(rt: HostRuntime) -> Result<(), Fail> {
     for row in ROWS {
         assert!(rt; is_long_refused(rt.alloc(), row)?);
     }
-    let many = conditions(rt.alloc(), 255)?;
-    assert!(rt; is_refused(rt.alloc(), &many, 1, 22, 0));
+    assert!(rt; are_too_many(rt.alloc())?);
     Ok(())
 }
 
-/// Where only the automaton passes a limit, no line is at fault, and the rules have lines.
-#[test]
-fn tells_each_limit_of_an_automaton(rt: HostRuntime) {
-    const ROWS: &[Refused] = &[
-        (b"%%\n(a{255}){65} ;\n", 0, 201, 0),
-        (b"%%\n(a|b)*a(a|b){14} ;\n", 0, 202, 0),
-    ];
-    for &(text, line, kind, place) in ROWS {
-        assert!(rt; is_told(rt.alloc(), text, line, kind, place), "{kind}");
-        assert!(rt; lines(rt.alloc(), text) == (Answer::Done, 1, 2), "{kind}");
-    }
-}
-
-/// Whether a scan by these bytes is refused.
-fn scans_nothing(alloc: Global, bytes: &[u8]) -> bool {
-    let mut out = [7u8; 1];
-    scan(alloc, bytes, b"a", &mut out) == (Answer::Refused, 0, 0) && out[0] == 7
-}
-
-/// Whether no tokens are listed by these bytes.
-fn lists_nothing(alloc: Global, bytes: &[u8]) -> bool {
-    list(alloc, bytes, b"a", &mut [NO_TOKEN; 1]) == (Answer::Refused, 0, 0)
-}
-
-/// Whether no scan is opened by these bytes.
-fn opens_nothing(alloc: Global, bytes: &[u8]) -> bool {
-    let mut scan = Scan::closed();
-    let answer = open_scan(alloc, &mut scan, bytes);
-    scan.close(alloc);
-    answer == Answer::Refused
-}
-
-/// Whether no stream of tokens is opened by these bytes.
-fn streams_nothing(alloc: Global, bytes: &[u8]) -> bool {
-    let mut stream = TokenStream::closed();
-    let answer = open_stream(alloc, &mut stream, bytes, true);
-    stream.close(alloc);
-    answer == Answer::Refused
-}
-
-/// Whether no table is loaded from these bytes.
-fn loads_nothing(alloc: Global, bytes: &[u8]) -> bool {
-    let mut tables = LoadedTables::unloaded();
-    let answer = load_tables(alloc, &mut tables, bytes);
-    tables.unload(alloc);
-    answer == Answer::Refused
-}
-
-/// Whether these bytes are told to be no table file.
-fn is_no_table(alloc: Global, bytes: &[u8]) -> bool {
-    scans_nothing(alloc, bytes)
-        && lists_nothing(alloc, bytes)
-        && opens_nothing(alloc, bytes)
-        && streams_nothing(alloc, bytes)
-        && loads_nothing(alloc, bytes)
-}
-
-/// The bytes with others from a place on, or from their end on.
-fn changed(alloc: Global, bytes: &[u8], at: usize, put: &[u8]) -> Result<Vec<u8>, AllocError> {
-    let (before, rest) = bytes.split_at(at.min(bytes.len()));
-    let after = rest.get(put.len()..).unwrap_or_default();
-    repeated(alloc, before, put, 1, after)
-}
+/// Each call that reads a table file, and refuses these bytes, which are none.
+const REFUSING: &[Step] = &[
+    Step::Scan((b"a", Answer::Refused, b"", 0)),
+    Step::List((b"a", Answer::Refused, &[], 0)),
+    Step::Pieces(OfPieces::Open(Answer::Refused)),
+    Step::Stream(OfStream::Open(true, Answer::Refused)),
+    Step::Table(OfTable::Load(Answer::Refused)),
+];
 
 /// Whether no front of a file is one.
 fn no_front_is_one(alloc: Global, file: &[u8]) -> bool {
     let mut so = true;
     for (n, _) in file.iter().enumerate() {
-        so = is_no_table(alloc, &file[..n]) && so;
+        so = goes_so(alloc, &file[..n], REFUSING) && so;
     }
     so
 }
 
-/// Whether a file with other bytes from a place on is none.
+/// Whether a file with other bytes from a place on, or from its end on, is none.
 fn is_none_changed(alloc: Global, file: &[u8], at: usize, put: &[u8]) -> Result<bool, AllocError> {
-    let changed = changed(alloc, file, at, put)?;
-    Ok(is_no_table(alloc, &changed))
+    let (before, rest) = file.split_at(at.min(file.len()));
+    let after = rest.get(put.len()..).unwrap_or_default();
+    let changed = repeated(alloc, before, put, 1, after)?;
+    Ok(goes_so(alloc, &changed, REFUSING))
 }
 
-/// A file that is cut short, one with a byte more, and one with another name, with a version that is none and with too many
-/// conditions, as docs/TABLE-FORMAT.md has these.
-#[test]
-fn tells_each_refusal_of_a_table_file(rt: HostRuntime) -> Result<(), Fail> {
+/// Whether no changed file is one: with another name, with a version that is none and with too many conditions, and with a byte more.
+fn no_change_is_one(alloc: Global, file: &[u8]) -> Result<bool, AllocError> {
     const CHANGES: &[(usize, &[u8])] = &[
         (0, b"M"),
         (6, b"\0\x03"),
         (8, b"\0\0\x01\0"),
         (usize::MAX, b"\0"),
     ];
+    for &(at, put) in CHANGES {
+        if !is_none_changed(alloc, file, at, put)? {
+            return Ok(false);
+        }
+    }
+    Ok(true)
+}
+
+/// A file that is cut short or changed, as docs/TABLE-FORMAT.md has these.
+#[test]
+fn tells_each_refusal_of_a_table_file(rt: HostRuntime) -> Result<(), Fail> {
     let file = made(rt.alloc(), b"%%\na ;\n")?;
     let bytes = file.written();
-    assert!(rt; !is_no_table(rt.alloc(), bytes) && no_front_is_one(rt.alloc(), bytes));
-    for &(at, put) in CHANGES {
-        assert!(rt; is_none_changed(rt.alloc(), bytes, at, put)?, "{at}");
-    }
+    let so = no_front_is_one(rt.alloc(), bytes) && no_change_is_one(rt.alloc(), bytes)?;
+    assert!(rt; so && !goes_so(rt.alloc(), bytes, REFUSING));
     Ok(())
 }

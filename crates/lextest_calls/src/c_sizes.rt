@@ -1,11 +1,9 @@
 //! What a program in C calls over much: texts at their limits, long inputs and outputs, many tokens and pieces. No contract says
 //! that memory is left. Here there is ample, so no call may answer that it ran out. Most of an input is one match, which takes
 //! little time.
-use crate::for_c::{NO_TOKEN, NONE, list, scan, token};
-use liblex_calls::{
-    Answer, Scan, close_scan, feed_into, finish_into, generate_into, open_scan, options_of,
-    rule_lines_into,
-};
+use crate::building::{made, repeated};
+use crate::for_c::{NO_TOKEN, Place, are_listed, feeds, finishes, generate, lines, list, scan};
+use liblex_calls::{Answer, Scan, close_scan, open_scan};
 use std::alloc::{AllocError, Global};
 use std::test::Fail;
 
@@ -15,177 +13,126 @@ const WORDS: &[u8] = b"%%\n[a-z]+ ECHO;\n";
 /// More than 2^20.
 const LONG: usize = 1_100_000;
 
-/// A byte, so many times.
-fn filled(alloc: Global, byte: u8, count: usize) -> Result<Vec<u8>, AllocError> {
-    let mut bytes = Vec::new(alloc);
-    bytes.resize(count, byte)?;
-    Ok(bytes)
+/// How long the table file of a text is, in so many bytes at most, or nothing where it is answered otherwise.
+fn file_length(alloc: Global, text: &[u8], room: usize) -> Result<usize, AllocError> {
+    let mut file = Vec::new(alloc);
+    file.resize(room, 0)?;
+    let (answer, count, _) = generate(alloc, text, &mut file);
+    Ok(if answer == Answer::Done { count } else { 0 })
 }
 
-/// A text of rules, of which one stands so many times.
-fn rules(alloc: Global, rule: &[u8], times: usize) -> Result<Vec<u8>, AllocError> {
-    let mut text = Vec::from_slice(alloc, b"%%\n".as_slice())?;
-    for _ in 0..times {
-        text.extend_from_slice(rule)?;
-    }
-    Ok(text)
-}
-
-/// The table file of a text, in so many bytes at most, or nothing where it is answered otherwise.
-fn file_of(alloc: Global, text: &[u8], room: usize) -> Result<Vec<u8>, AllocError> {
-    let mut file = filled(alloc, 0, room)?;
-    let mut count = 0;
-    let mut fault = NONE;
-    let options = options_of(0);
-    let answer = generate_into(alloc, text, options, &mut file, &mut count, &mut fault);
-    file.truncate(if answer == Answer::Done { count } else { 0 });
-    Ok(file)
-}
-
-/// Texts with a rule that cannot be matched, and with code that is skipped, of which the program warns.
+/// Texts with a rule that cannot be matched, and with code that is skipped, of which the program warns. The last has an automaton of more
+/// than 500 states, whose file is long too. For each there is so much room, and its file is longer than this.
 #[test]
-fn makes_files_of_texts_that_are_warned_of(rt: HostRuntime) -> Result<(), Fail> {
-    const TEXTS: &[&[u8]] = &[
-        b"%%\n[a-z]+ ;\nif ;\n",
-        b"%{\nint n;\n%}\n%%\na ;\n",
-        b"%%\na ;\n%%\nint main(){}\n",
+fn makes_files(rt: HostRuntime) -> Result<(), Fail> {
+    const TEXTS: &[(&[u8], usize, usize)] = &[
+        (b"%%\n[a-z]+ ;\nif ;\n", 4_096, 0),
+        (b"%{\nint n;\n%}\n%%\na ;\n", 4_096, 0),
+        (b"%%\na ;\n%%\nint main(){}\n", 4_096, 0),
+        (b"%%\n(a|b)*a(a|b){8} ;\n", 1_000_000, 4_096),
     ];
-    for text in TEXTS {
-        assert!(rt; !file_of(rt.alloc(), text, 4_096)?.is_empty());
+    for &(text, room, least) in TEXTS {
+        assert!(rt; least < file_length(rt.alloc(), text, room)?, "{room}");
     }
     Ok(())
 }
 
-/// Whether a byte that no rule matches is scanned and listed by a table file, and a scan is opened.
-fn is_a_file(alloc: Global, file: &[u8]) -> bool {
-    let mut out = [0u8; 1];
-    let mut tokens = [NO_TOKEN; 1];
-    let mut opened = Scan::closed();
-    let scanned = scan(alloc, file, b"c", &mut out);
-    let listed = list(alloc, file, b"c", &mut tokens);
-    let answer = open_scan(alloc, &mut opened, file);
-    opened.close(alloc);
-    (scanned, listed, answer) == ((Answer::Done, 1, 0), (Answer::Done, 1, 0), Answer::Done)
-        && out[0] == b'c'
-        && tokens[0] == token(0, 1, u32::MAX)
-}
-
-/// An automaton of more than 500 states, whose file is long too.
-#[test]
-fn makes_a_long_file(rt: HostRuntime) -> Result<(), Fail> {
-    let text = b"%%\n(a|b)*a(a|b){8} ;\n";
-    let file = file_of(rt.alloc(), text, 1_000_000)?;
-    assert!(rt; 4_096 < file.len(), "{}", file.len());
-    assert!(rt; is_a_file(rt.alloc(), &file));
-    Ok(())
-}
-
-/// What is answered of the lines of so many rules, how many there are, and the last of them.
-fn lines_of(alloc: Global, times: usize) -> Result<(Answer, usize, Option<u32>), AllocError> {
-    let text = rules(alloc, b"a ;\n", times)?;
-    let mut lines = Vec::new(alloc);
-    lines.resize(times, 0)?;
-    let mut count = 0;
-    let answer = rule_lines_into(alloc, &text, options_of(0), &mut lines, &mut count);
-    Ok((answer, count, lines.last().copied()))
+/// Whether the lines of the most rules are told.
+fn tells_lines(alloc: Global) -> Result<bool, AllocError> {
+    let text = repeated(alloc, b"%%\n", b"a ;\n", 4_096, b"")?;
+    let mut told = [0u32; 4_096];
+    let got = lines(alloc, &text, &mut told);
+    Ok(got == (Answer::Done, 4_096) && told[4_095] == 4_097)
 }
 
 #[test]
 fn tells_the_lines_of_the_most_rules(rt: HostRuntime) -> Result<(), Fail> {
-    assert!(rt; lines_of(rt.alloc(), 4_096)? == (Answer::Done, 4_096, Some(4_097)));
+    assert!(rt; tells_lines(rt.alloc())?);
     Ok(())
 }
 
-/// An input that is one match, and an output as long.
-#[test]
-fn scans_a_long_input(rt: HostRuntime) -> Result<(), Fail> {
-    let alloc = rt.alloc();
-    let file = file_of(alloc, WORDS, 4_096)?;
-    let input = filled(alloc, b'x', LONG)?;
-    let mut out = filled(alloc, 0, LONG)?;
-    let scanned = scan(alloc, &file, &input, &mut out);
-    assert!(rt; scanned == (Answer::Done, LONG, 0) && out == input);
-    Ok(())
+/// A letter, more than 2^20 times.
+fn word(alloc: Global, letter: &[u8; 1], after: &[u8]) -> Result<Vec<u8>, AllocError> {
+    repeated(alloc, b"", letter, LONG, after)
 }
 
-/// Whether a long word and 50,000 blanks are listed, of which there is room for two.
-fn are_listed(alloc: Global, file: &[u8], input: &[u8]) -> bool {
+/// Whether an input that is one match is scanned, and an output as long is written.
+fn scans_long(alloc: Global, file: &[u8]) -> Result<bool, AllocError> {
+    let input = word(alloc, b"x", b"")?;
+    let mut out = word(alloc, b"0", b"")?;
+    let scanned = scan(alloc, file, &input, &mut out);
+    Ok(scanned == (Answer::Done, LONG, 0) && out == input)
+}
+
+/// Whether a long word and 50,000 blanks are listed, of which there is room for two. Each blank is a token of the default rule.
+fn lists_many(alloc: Global, file: &[u8]) -> Result<bool, AllocError> {
+    const TOKENS: &[Place] = &[(0, LONG, 0), (LONG, 1_100_001, u32::MAX)];
     let mut tokens = [NO_TOKEN; 2];
-    list(alloc, file, input, &mut tokens) == (Answer::TooSmall, 50_001, 0)
-        && tokens[0] == token(0, LONG, 0)
-        && tokens[1] == token(LONG, 1_100_001, u32::MAX)
+    let mut input = word(alloc, b"x", b"")?;
+    input.resize(1_150_000, b' ')?;
+    let listed = list(alloc, file, &input, &mut tokens);
+    Ok(listed == (Answer::TooSmall, 50_001, 0) && are_listed(&tokens, TOKENS))
 }
 
-/// A long word, and then many blanks, each of which is a token of the default rule.
 #[test]
-fn lists_many_tokens(rt: HostRuntime) -> Result<(), Fail> {
-    let alloc = rt.alloc();
-    let file = file_of(alloc, WORDS, 4_096)?;
-    let mut input = filled(alloc, b'x', LONG)?;
-    input.resize(1_150_000, b' ')?;
-    assert!(rt; are_listed(alloc, &file, &input));
+fn goes_over_long_inputs(rt: HostRuntime) -> Result<(), Fail> {
+    let file = made(rt.alloc(), WORDS)?;
+    let so = scans_long(rt.alloc(), file.written())? && lists_many(rt.alloc(), file.written())?;
+    assert!(rt; so);
     Ok(())
 }
 
-/// Feeds a piece 275 times, with no room. Whether all of it waits after each time.
-fn waits(alloc: Global, scan: &mut Scan, piece: &[u8]) -> bool {
+/// Whether all of these lines wait, each of 4,000 bytes, that are fed with no room.
+fn waits(alloc: Global, scan: &mut Scan, lines: &[u8]) -> bool {
     let mut so = true;
-    let mut all = 0usize;
-    for _ in 0..275 {
-        let mut count = 0;
-        let got = feed_into(alloc, scan, piece, &mut [0u8; 0], &mut count);
-        all = all.saturating_add(piece.len());
-        so = got == Answer::TooSmall && count == all && so;
+    let mut fed = 0usize;
+    for line in lines.chunks(4_000) {
+        fed = fed.saturating_add(line.len());
+        let all = lines.get(..fed).unwrap_or_default();
+        so = feeds(alloc, scan, line, 0, Answer::TooSmall, all) && so;
     }
     so
 }
 
-/// What is handed out of what waits, by 4,096 bytes at a time, and the answer of the last.
-fn handed_out(alloc: Global, scan: &mut Scan) -> Result<(Answer, Vec<u8>), AllocError> {
-    let mut out = Vec::new(alloc);
-    let mut buffer = [0u8; 4_096];
-    for _ in 0..300 {
-        let mut count = 0;
-        let answer = feed_into(alloc, scan, b"", &mut buffer, &mut count);
-        out.extend_from_slice(&buffer[..count.min(4_096)])?;
-        if answer != Answer::TooSmall {
-            return Ok((answer, out));
-        }
+/// Whether these bytes are handed out in their order, by 4,096 at a time.
+fn hands_out(alloc: Global, scan: &mut Scan, bytes: &[u8]) -> bool {
+    let mut so = true;
+    let mut left = bytes;
+    for part in bytes.chunks(4_096) {
+        let is_last = left.len() <= 4_096;
+        let answer = if is_last {
+            Answer::Done
+        } else {
+            Answer::TooSmall
+        };
+        so = feeds(alloc, scan, b"", 4_096, answer, left) && so;
+        left = left.get(part.len()..).unwrap_or_default();
     }
-    Ok((Answer::TooSmall, out))
+    so
 }
 
 /// Whether all bytes of many lines wait, and are handed out in their order.
 fn keeps_long_output(alloc: Global, scan: &mut Scan) -> Result<bool, AllocError> {
-    let mut line = filled(alloc, b'x', 3_999)?;
-    line.push(b'\n')?;
-    let kept = waits(alloc, scan, &line);
-    let (answer, out) = handed_out(alloc, scan)?;
-    let mut wanted = Vec::new(alloc);
-    for _ in 0..275 {
-        wanted.extend_from_slice(&line)?;
-    }
-    Ok(kept && answer == Answer::Done && out == wanted)
+    let line = repeated(alloc, b"", b"x", 3_999, b"\n")?;
+    let lines = repeated(alloc, b"", &line, 275, b"")?;
+    Ok(waits(alloc, scan, &lines) && hands_out(alloc, scan, &lines))
 }
 
 /// Whether a match of a long piece and a short one is made at the end.
 fn makes_a_long_match(alloc: Global, scan: &mut Scan) -> Result<bool, AllocError> {
-    let letters = filled(alloc, b'y', LONG)?;
-    let mut out = [0u8; 1];
-    let mut count = 9;
-    let mut status = 9;
-    let long = feed_into(alloc, scan, &letters, &mut out, &mut count);
-    let short = feed_into(alloc, scan, b"z", &mut out, &mut count);
-    let so = (long, short, count) == (Answer::Done, Answer::Done, 0);
-    let answer = finish_into(alloc, scan, &mut out, &mut count, &mut status);
-    Ok(so && (answer, count, status, out[0]) == (Answer::TooSmall, 1_100_001, 0, b'y'))
+    let all = word(alloc, b"y", b"z")?;
+    let long = all.get(..LONG).unwrap_or_default();
+    Ok(
+        feeds(alloc, scan, long, 1, Answer::Done, b"")
+            && feeds(alloc, scan, b"z", 1, Answer::Done, b"")
+            && finishes(alloc, scan, 1, Answer::TooSmall, &all, 0),
+    )
 }
 
 /// Whether a scan by pieces goes over much: lines that are written at once, then a match.
-fn scans_much(alloc: Global) -> Result<bool, AllocError> {
-    let file = file_of(alloc, WORDS, 4_096)?;
+fn scans_much(alloc: Global, file: &[u8]) -> Result<bool, AllocError> {
     let mut scan = Scan::closed();
-    let opened = open_scan(alloc, &mut scan, &file) == Answer::Done;
+    let opened = open_scan(alloc, &mut scan, file) == Answer::Done;
     let kept = keeps_long_output(alloc, &mut scan);
     let matched = makes_a_long_match(alloc, &mut scan);
     close_scan(alloc, &mut scan);
@@ -195,6 +142,7 @@ fn scans_much(alloc: Global) -> Result<bool, AllocError> {
 
 #[test]
 fn scans_many_pieces(rt: HostRuntime) -> Result<(), Fail> {
-    assert!(rt; scans_much(rt.alloc())?);
+    let file = made(rt.alloc(), WORDS)?;
+    assert!(rt; scans_much(rt.alloc(), file.written())?);
     Ok(())
 }

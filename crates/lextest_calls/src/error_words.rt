@@ -17,6 +17,44 @@ fn says<E: Display>(alloc: Global, error: &E, words: &str) -> bool {
     }
 }
 
+/// An error of the product.
+enum Fault {
+    Defs(DefsError),
+    PatternKind(PatternErrorKind),
+    Pattern(PatternError),
+    SpecKind(SpecErrorKind),
+    Spec(SpecError),
+    Build(BuildError),
+    Automaton(OutOfMemory),
+    Table(TableError),
+    Run(RunError),
+    Read(ReadFault),
+    Write(WriteFault),
+    Generate(GenError),
+    Scan(ScanError),
+    Args(ArgsError),
+}
+
+/// Whether an error is shown so.
+fn is_shown(alloc: Global, fault: &Fault, words: &str) -> bool {
+    match fault {
+        Fault::Defs(error) => says(alloc, error, words),
+        Fault::PatternKind(error) => says(alloc, error, words),
+        Fault::Pattern(error) => says(alloc, error, words),
+        Fault::SpecKind(error) => says(alloc, error, words),
+        Fault::Spec(error) => says(alloc, error, words),
+        Fault::Build(error) => says(alloc, error, words),
+        Fault::Automaton(error) => says(alloc, error, words),
+        Fault::Table(error) => says(alloc, error, words),
+        Fault::Run(error) => says(alloc, error, words),
+        Fault::Read(error) => says(alloc, error, words),
+        Fault::Write(error) => says(alloc, error, words),
+        Fault::Generate(error) => says(alloc, error, words),
+        Fault::Scan(error) => says(alloc, error, words),
+        Fault::Args(error) => says(alloc, error, words),
+    }
+}
+
 const BAD_PATTERN: PatternError = PatternError {
     kind: PatternErrorKind::BadInterval,
     at: 7,
@@ -27,87 +65,66 @@ const SPEC_REFUSED: SpecError = SpecError {
     kind: SpecErrorKind::Pattern(BAD_PATTERN),
 };
 
-#[test]
-fn texts_at_fault(rt: HostRuntime) {
-    let alloc = rt.alloc();
-    const NAMES: &[(DefsError, &str)] = &[
-        (DefsError::Duplicate, "the name is defined already"),
-        (DefsError::OutOfMemory, "out of memory"),
-    ];
-    for &(error, words) in NAMES {
-        assert!(rt; says(alloc, &error, words), "{words}");
-    }
-    assert!(rt;
-        says(alloc, &PatternErrorKind::BadInterval, "BadInterval")
-            && says(alloc, &BAD_PATTERN, "BadInterval at 7")
-            && says(alloc, &SPEC_REFUSED, "line 12: BadInterval at 7")
-            && says(alloc, &SPEC_REFUSED.kind, "BadInterval at 7")
-    );
-}
-
-#[test]
-fn automata(rt: HostRuntime) {
-    let alloc = rt.alloc();
-    const ROWS: &[(BuildError, &str)] = &[
-        (BuildError::TooManyPositions, "TooManyPositions"),
-        (BuildError::TooManyStates, "TooManyStates"),
-        (BuildError::OutOfMemory, "OutOfMemory"),
-    ];
-    for &(error, words) in ROWS {
-        assert!(rt; says(alloc, &error, words), "{words}");
-    }
-    assert!(rt; says(alloc, &OutOfMemory, "OutOfMemory"));
-}
-
-#[test]
-fn tables(rt: HostRuntime) {
-    const ROWS: &[(TableError, &str)] = &[
-        (TableError::BadMagic, "BadMagic"),
-        (TableError::BadVersion, "BadVersion"),
-        (TableError::Truncated, "Truncated"),
-        (TableError::TrailingBytes, "TrailingBytes"),
-        (TableError::BadField(28), "BadField at 28"),
-        (TableError::OutOfMemory, "OutOfMemory"),
-    ];
-    for &(error, words) in ROWS {
-        assert!(rt; says(rt.alloc(), &error, words), "{words}");
-    }
-}
-
-#[test]
-fn scans(rt: HostRuntime) {
-    let alloc = rt.alloc();
-    const ROWS: &[(RunError, &str)] = &[
-        (RunError::Read, "read fault"),
-        (RunError::TooManyReads, "too many reads"),
-        (RunError::Write, "write fault"),
-        (RunError::OutOfMemory, "out of memory"),
-        (RunError::Stack, "condition stack"),
-        (RunError::Failed, "failed"),
-    ];
-    for &(error, words) in ROWS {
-        assert!(rt; says(alloc, &error, words), "{words}");
-    }
-    assert!(rt; says(alloc, &ReadFault, "read fault") && says(alloc, &WriteFault, "write fault"));
-}
-
 const UNMADE: GenError = GenError::Spec(SPEC_REFUSED);
 
+const ROWS: &[(Fault, &str)] = &[
+    (
+        Fault::Defs(DefsError::Duplicate),
+        "the name is defined already",
+    ),
+    (Fault::Defs(DefsError::OutOfMemory), "out of memory"),
+    (
+        Fault::PatternKind(PatternErrorKind::BadInterval),
+        "BadInterval",
+    ),
+    (Fault::Pattern(BAD_PATTERN), "BadInterval at 7"),
+    (Fault::Spec(SPEC_REFUSED), "line 12: BadInterval at 7"),
+    (
+        Fault::SpecKind(SpecErrorKind::Pattern(BAD_PATTERN)),
+        "BadInterval at 7",
+    ),
+    (
+        Fault::Build(BuildError::TooManyPositions),
+        "TooManyPositions",
+    ),
+    (Fault::Build(BuildError::TooManyStates), "TooManyStates"),
+    (Fault::Build(BuildError::OutOfMemory), "OutOfMemory"),
+    (Fault::Automaton(OutOfMemory), "OutOfMemory"),
+    (Fault::Table(TableError::BadMagic), "BadMagic"),
+    (Fault::Table(TableError::BadVersion), "BadVersion"),
+    (Fault::Table(TableError::Truncated), "Truncated"),
+    (Fault::Table(TableError::TrailingBytes), "TrailingBytes"),
+    (Fault::Table(TableError::BadField(28)), "BadField at 28"),
+    (Fault::Table(TableError::OutOfMemory), "OutOfMemory"),
+    (Fault::Run(RunError::Read), "read fault"),
+    (Fault::Run(RunError::TooManyReads), "too many reads"),
+    (Fault::Run(RunError::Write), "write fault"),
+    (Fault::Run(RunError::OutOfMemory), "out of memory"),
+    (Fault::Run(RunError::Stack), "condition stack"),
+    (Fault::Run(RunError::Failed), "failed"),
+    (Fault::Read(ReadFault), "read fault"),
+    (Fault::Write(WriteFault), "write fault"),
+    (
+        Fault::Scan(ScanError::Generate(UNMADE)),
+        "line 12: BadInterval at 7",
+    ),
+    (
+        Fault::Scan(ScanError::Table(TableError::BadMagic)),
+        "BadMagic",
+    ),
+    (
+        Fault::Scan(ScanError::Run(RunError::Stack)),
+        "condition stack",
+    ),
+    (Fault::Generate(UNMADE), "line 12: BadInterval at 7"),
+    (Fault::Generate(GenError::OutOfMemory), "out of memory"),
+    (Fault::Args(ArgsError::Usage), "usage"),
+    (Fault::Args(ArgsError::OutOfMemory), "out of memory"),
+];
+
 #[test]
-fn the_whole_product(rt: HostRuntime) {
-    let alloc = rt.alloc();
-    const ROWS: &[(ScanError, &str)] = &[
-        (ScanError::Generate(UNMADE), "line 12: BadInterval at 7"),
-        (ScanError::Table(TableError::BadMagic), "BadMagic"),
-        (ScanError::Run(RunError::Stack), "condition stack"),
-    ];
-    for &(error, words) in ROWS {
-        assert!(rt; says(alloc, &error, words), "{words}");
+fn errors_are_shown_so(rt: HostRuntime) {
+    for (fault, words) in ROWS {
+        assert!(rt; is_shown(rt.alloc(), fault, *words), "{words}");
     }
-    assert!(rt;
-        says(alloc, &UNMADE, "line 12: BadInterval at 7")
-            && says(alloc, &GenError::OutOfMemory, "out of memory")
-            && says(alloc, &ArgsError::Usage, "usage")
-            && says(alloc, &ArgsError::OutOfMemory, "out of memory")
-    );
 }

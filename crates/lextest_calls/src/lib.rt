@@ -6,15 +6,15 @@
 #[cfg(test)]
 mod building;
 #[cfg(test)]
-mod c_loaded;
-#[cfg(test)]
-mod c_pieces;
+mod c_programs;
 #[cfg(test)]
 mod c_refusals;
 #[cfg(test)]
 mod c_rows;
 #[cfg(test)]
 mod c_sizes;
+#[cfg(test)]
+mod c_steps;
 #[cfg(test)]
 mod c_streams;
 #[cfg(test)]
@@ -31,8 +31,6 @@ mod longest;
 mod pipelines;
 #[cfg(test)]
 mod plain;
-#[cfg(test)]
-mod pulls;
 #[cfg(test)]
 mod refused;
 #[cfg(test)]

@@ -39,35 +39,27 @@ impl Read for Pieces<'_> {
     }
 }
 
-/// Counts the bytes that have arrived.
+/// Counts the bytes that have arrived; or takes bytes uncounted, and can't hand them on.
 #[derive(Drop)]
 struct Arrived<'a> {
     written: &'a Cell<usize>,
+    is_stuck: bool,
 }
 
 impl Write for Arrived<'_> {
     fn write(&mut self, buf: &[u8]) -> io::Result<usize> {
-        self.written
-            .set(self.written.get().saturating_add(buf.len()));
+        if !self.is_stuck {
+            self.written
+                .set(self.written.get().saturating_add(buf.len()));
+        }
         Ok(buf.len())
     }
 
     fn flush(&mut self) -> io::Result<()> {
+        if self.is_stuck {
+            return Err(Error::from(ErrorKind::Other));
+        }
         Ok(())
-    }
-}
-
-/// Takes bytes, and can't hand them on.
-#[derive(Drop)]
-struct Stuck;
-
-impl Write for Stuck {
-    fn write(&mut self, buf: &[u8]) -> io::Result<usize> {
-        Ok(buf.len())
-    }
-
-    fn flush(&mut self) -> io::Result<()> {
-        Err(Error::from(ErrorKind::Other))
     }
 }
 
@@ -118,14 +110,15 @@ const FILTERS: &[&[u8]] = &[
     b"%%\n[a-z] yymore();\n\\n printf(\"ok\\n\");\n",
 ];
 
-/// Whether some piece was asked for before all was written that the pieces before it bring. A table file, if there is
-/// one, is used in the place of the filter that it was made of.
-fn is_late(
-    rt: &HostRuntime,
+/// What a scan answers, and whether it asked for some piece before all was written that the pieces before it bring. A table file, if
+/// there is one, is used in the place of the filter that it was made of.
+fn scanned(
+    alloc: Global,
     filter: &[u8],
     pieces: &'static [Piece],
     file: Option<&[u8]>,
-) -> Result<bool, Fail> {
+    is_stuck: bool,
+) -> Result<(Result<u8, ScanError>, bool), Fail> {
     let written = Cell::new(0);
     let late = Cell::new(false);
     let reader = Pieces {
@@ -134,47 +127,42 @@ fn is_late(
         written: &written,
         late: &late,
     };
-    let mut source = FromBytes::new(ByteReader::new(rt.alloc(), reader)?);
-    let writer = Arrived { written: &written };
-    let mut sink = ToWrite::new(ByteWriter::new(rt.alloc(), writer)?);
-    let status = match file {
-        Some(file) => scan_table(rt.alloc(), file, &mut source, &mut sink)?,
-        None => scan_spec(rt.alloc(), filter, Options::new(), &mut source, &mut sink)?,
+    let writer = Arrived {
+        written: &written,
+        is_stuck,
     };
-    Ok(late.get() || status != 0)
+    let mut source = FromBytes::new(ByteReader::new(alloc, reader)?);
+    let mut sink = ToWrite::new(ByteWriter::new(alloc, writer)?);
+    let got = match file {
+        Some(file) => scan_table(alloc, file, &mut source, &mut sink),
+        None => scan_spec(alloc, filter, Options::new(), &mut source, &mut sink),
+    };
+    Ok((got, late.get()))
+}
+
+/// Whether each line is answered before more is asked for, by a filter and by its table file.
+fn answers_lines(alloc: Global, filter: &[u8]) -> Result<bool, Fail> {
+    const IN_TIME: (Result<u8, ScanError>, bool) = (Ok(0), false);
+    let file = made(alloc, filter)?;
+    Ok(
+        scanned(alloc, filter, LINES, None, false)? == IN_TIME
+            && scanned(alloc, filter, LINES, Some(file.written()), false)? == IN_TIME
+            && scanned(alloc, filter, PARTS, None, false)? == IN_TIME,
+    )
 }
 
 #[test]
 fn answers_a_line_before_it_asks_for_more(rt: HostRuntime) -> Result<(), Fail> {
-    for &filter in FILTERS {
-        assert!(rt; !is_late(&rt, filter, LINES, None)?);
-        let file = made(rt.alloc(), filter)?;
-        assert!(rt; !is_late(&rt, filter, LINES, Some(file.written()))?);
-        assert!(rt; !is_late(&rt, filter, PARTS, None)?);
+    for (place, &filter) in FILTERS.iter().enumerate() {
+        assert!(rt; answers_lines(rt.alloc(), filter)?, "filter {place}");
     }
     Ok(())
-}
-
-/// What a scan answers that can't hand on, and whether it asked for a byte after it.
-fn handed_on_to_nothing(alloc: Global) -> Result<(Result<u8, ScanError>, bool), Fail> {
-    let written = Cell::new(0);
-    let late = Cell::new(false);
-    let reader = Pieces {
-        left: LINES,
-        wanted: 0,
-        written: &written,
-        late: &late,
-    };
-    let mut source = FromBytes::new(ByteReader::new(alloc, reader)?);
-    let mut sink = ToWrite::new(Stuck);
-    let got = scan_spec(alloc, FILTERS[0], Options::new(), &mut source, &mut sink);
-    Ok((got, late.get()))
 }
 
 /// What can't be handed on is a write fault, and no byte is asked for after it.
 #[test]
 fn tells_what_cannot_be_handed_on(rt: HostRuntime) -> Result<(), Fail> {
-    let (got, late) = handed_on_to_nothing(rt.alloc())?;
-    assert!(rt; got == Err(ScanError::Run(RunError::Write)) && !late);
+    let got = scanned(rt.alloc(), FILTERS[0], LINES, None, true)?;
+    assert!(rt; got == (Err(ScanError::Run(RunError::Write)), false));
     Ok(())
 }

@@ -2,39 +2,44 @@
 //! each of them with the first request refused, then the second, and so on. A run must then end well, or fail with the
 //! name of an error that says that memory ran out.
 use crate::building::{machine_of, made};
-use crate::turns::{Turns, go_on, turn};
-use lex_command::{ArgsError, Job, read_args};
+use crate::turns::{Turns, turn};
+use lex_command::{ArgsError, read_args};
 use lexkit::{
-    BuildError, Flat, GenError, Made, MemorySink, MemorySource, Options, PatternErrorKind,
-    RunError, ScanError, Sink, SpecErrorKind, TableError, ToWrite, generate, scan_spec, scan_table,
+    BuildError, Flat, GenError, MemorySink, MemorySource, Options, PatternErrorKind, RunError,
+    ScanError, SpecErrorKind, TableError, ToWrite, generate, scan_spec, scan_table,
 };
 use lexscan::{Scanner, Turn, Window, run};
 use std::alloc::{AllocError, Global};
 use std::test::Fail;
 
+const INPUT: &[u8] = b"abcdefghijklmnopqrstuvwxyzabcdefghijklmn";
+
 /// Each match is given back but for a letter.
 const LETTERS: &str = "%%\n[a-z]+ yyless(1);\n";
 
-const INPUT: &[u8] = b"abcdefghijklmnopqrstuvwxyzabcdefghijklmn";
-
 /// Whether all that was taken from the start of the text on is held after a refused turn, and no turn is taken any
 /// more.
-fn holds_all(scanner: &mut Turns<'_, '_>, start: usize, answer: Result<Turn, RunError>) -> bool {
+fn holds_all(
+    scanner: &mut Turns<'_, '_>,
+    input: &[u8],
+    start: usize,
+    answer: Result<Turn, RunError>,
+) -> bool {
     let taken = scanner.taken() as usize;
     answer == Err(RunError::OutOfMemory)
-        && INPUT.get(start..taken) == Some(scanner.held())
+        && input.get(start..taken) == Some(scanner.held())
         && turn(scanner) == Err(RunError::Failed)
 }
 
-/// Whether all turns are taken, or one is refused and holds what it has to.
-fn goes_through(alloc: Global, machine: &Flat) -> bool {
-    let mut source = MemorySource::new(INPUT);
+/// Whether all turns are taken, each of which keeps one byte. So many of the first may be refused: such a one holds what it has to.
+fn goes_through(alloc: Global, machine: &Flat, input: &[u8], may_be: usize) -> bool {
+    let mut source = MemorySource::new(input);
     let mut sink = MemorySink::new(alloc);
     let mut scanner = Scanner::new(alloc, machine, &mut source, &mut sink, 10_000);
-    for start in 0..40usize {
+    for (start, _) in input.iter().enumerate() {
         let answer = turn(&mut scanner);
         if answer != Ok(Turn::Went) {
-            return holds_all(&mut scanner, start, answer);
+            return start < may_be && holds_all(&mut scanner, input, start, answer);
         }
     }
     turn(&mut scanner) == Ok(Turn::Ended(0))
@@ -45,7 +50,7 @@ fn goes_through(alloc: Global, machine: &Flat) -> bool {
 #[test]
 fn refused_turns(rt: HostRuntime) -> Result<(), Fail> {
     let machine = machine_of(rt.alloc(), LETTERS)?;
-    assert!(rt; goes_through(rt.alloc(), &machine));
+    assert!(rt; goes_through(rt.alloc(), &machine, INPUT, 40));
     Ok(())
 }
 
@@ -54,23 +59,11 @@ const ONE_OF_MANY: &str = "%%\na ;\na*b ;\n";
 
 const THOUSAND: &[u8] = &[b'a'; 1_000];
 
-/// Whether each turn is taken once all bytes are, or the first one is refused.
-fn takes_each_turn(alloc: Global, machine: &Flat) -> bool {
-    let mut source = MemorySource::new(THOUSAND);
-    let mut sink = MemorySink::new(alloc);
-    let mut scanner = Scanner::new(alloc, machine, &mut source, &mut sink, 10_000);
-    if turn(&mut scanner) == Err(RunError::OutOfMemory) {
-        return true;
-    }
-    let went = go_on(&mut scanner, 999);
-    turn(&mut scanner) == Ok(Turn::Ended(0)) && went
-}
-
 /// Where memory for marks of walks in vain is refused, that is not told: once all bytes are taken, each turn is taken.
 #[test]
 fn refused_marks(rt: HostRuntime) -> Result<(), Fail> {
     let machine = machine_of(rt.alloc(), ONE_OF_MANY)?;
-    assert!(rt; takes_each_turn(rt.alloc(), &machine));
+    assert!(rt; goes_through(rt.alloc(), &machine, THOUSAND, 1));
     Ok(())
 }
 
@@ -139,11 +132,6 @@ fn is_want_of_memory(error: GenError) -> bool {
     }
 }
 
-/// Whether what is made has so many lines of rules, and so many warnings.
-fn has_counts(made: &Made, rules: usize, warned: usize) -> bool {
-    made.rule_lines.len() == rules && made.warnings.len() == warned
-}
-
 /// What is answered of a text, and whether tables are made, with so many lines of rules and warnings, or memory ran out.
 fn is_made(
     alloc: Global,
@@ -152,7 +140,13 @@ fn is_made(
     warned: usize,
 ) -> (Result<(), GenError>, bool) {
     match generate(alloc, text, Options::new()) {
-        Ok(generated) => (Ok(()), has_counts(&generated.made, rules, warned)),
+        Ok(generated) => {
+            let made = &generated.made;
+            (
+                Ok(()),
+                (made.rule_lines.len(), made.warnings.len()) == (rules, warned),
+            )
+        }
         Err(error) => (Err(error), is_want_of_memory(error)),
     }
 }
@@ -168,29 +162,46 @@ fn refused_generate(rt: HostRuntime) -> Result<(), Fail> {
     Ok(())
 }
 
-/// Whether the fault of a scan says that memory ran out: before anything is read or written, or in the scan.
-fn is_want_in_a_scan(error: ScanError, calls: u64, written: &[u8]) -> bool {
+/// Whether the fault of a scan, by a table file or not, says that memory ran out. It did so in the scan, or before anything was read or
+/// written.
+fn is_want_in_a_scan(error: ScanError, by_table: bool, is_untouched: bool) -> bool {
     match error {
-        ScanError::Generate(fault) => {
-            is_want_of_memory(fault) && calls == 0 && written.is_empty()
-        }
-        other => other == ScanError::Run(RunError::OutOfMemory),
+        ScanError::Generate(fault) => is_want_of_memory(fault) && !by_table && is_untouched,
+        ScanError::Table(fault) => fault == TableError::OutOfMemory && by_table && is_untouched,
+        ScanError::Run(fault) => fault == RunError::OutOfMemory,
     }
+}
+
+/// What a scan of a row answers, how often it called its source, and what it wrote. It is by a table file, where there is one. What it
+/// promises is left out, so that what calls it is proved in less time.
+fn scan(
+    alloc: Global,
+    row: &Scan,
+    file: Option<&[u8]>,
+) -> Result<(Result<u8, ScanError>, u64, Vec<u8>), AllocError> {
+    let &(text, input, ..) = row;
+    let mut source = MemorySource::new(input);
+    let mut sink = ToWrite::new(Vec::with_capacity(alloc, 16)?);
+    let got = match file {
+        Some(file) => scan_table(alloc, file, &mut source, &mut sink),
+        None => scan_spec(alloc, text, Options::new(), &mut source, &mut sink),
+    };
+    Ok((got, source.calls(), sink.into_inner()))
 }
 
 /// What a scan answers, and whether it wrote all, or a beginning of it where memory ran out.
 type Scanned = (Result<u8, ScanError>, bool);
 
 /// A scan of a row: what is answered, and whether what was written is as it has to be.
-fn scanned(alloc: Global, row: &Scan) -> Result<Scanned, AllocError> {
-    let (text, input, want, status) = *row;
-    let mut source = MemorySource::new(input);
-    let mut sink = ToWrite::new(Vec::with_capacity(alloc, 16)?);
-    let got = scan_spec(alloc, text, Options::new(), &mut source, &mut sink);
-    let written = sink.into_inner();
+fn scanned(alloc: Global, row: &Scan, file: Option<&[u8]>) -> Result<Scanned, AllocError> {
+    let &(_, _, want, status) = row;
+    let (got, calls, written) = scan(alloc, row, file)?;
     let so = match got {
         Ok(answer) => answer == status && written.len() == want.len(),
-        Err(error) => is_want_in_a_scan(error, source.calls(), &written),
+        Err(error) => {
+            let is_untouched = calls == 0 && written.is_empty();
+            is_want_in_a_scan(error, file.is_some(), is_untouched)
+        }
     };
     Ok((got, so && want.starts_with(&written)))
 }
@@ -199,77 +210,62 @@ fn scanned(alloc: Global, row: &Scan) -> Result<Scanned, AllocError> {
 #[test]
 fn refused_scan_spec(rt: HostRuntime) -> Result<(), Fail> {
     for row in SCANS {
-        let (got, so) = scanned(rt.alloc(), row)?;
+        let (got, so) = scanned(rt.alloc(), row, None)?;
         assert!(rt; so);
         got?;
     }
     Ok(())
 }
 
-/// The same of the fault of a scan by a table file.
-fn is_want_by_table(error: ScanError, calls: u64, written: &[u8]) -> bool {
-    if error == ScanError::Table(TableError::OutOfMemory) {
-        calls == 0 && written.is_empty()
-    } else {
-        error == ScanError::Run(RunError::OutOfMemory)
-    }
-}
-
-/// A scan by a table file: the same.
-fn scanned_by_table(alloc: Global, file: &[u8]) -> Result<Scanned, AllocError> {
-    let mut source = MemorySource::new(b"if iff");
-    let mut sink = ToWrite::new(Vec::with_capacity(alloc, 16)?);
-    let got = scan_table(alloc, file, &mut source, &mut sink);
-    let written = sink.into_inner();
-    let so = match got {
-        Ok(answer) => answer == 0 && written.len() == 3,
-        Err(error) => is_want_by_table(error, source.calls(), &written),
-    };
-    Ok((got, so && b"K I".starts_with(&written)))
-}
+const BY_TABLE: Scan = (
+    b"%%\nif printf(\"K\");\n[a-z]+ printf(\"I\");\n",
+    b"if iff",
+    b"K I",
+    0,
+);
 
 /// The same by a table file.
 #[test]
 fn refused_scan_table(rt: HostRuntime) -> Result<(), Fail> {
-    let text = b"%%\nif printf(\"K\");\n[a-z]+ printf(\"I\");\n";
-    let file = made(rt.alloc(), text)?;
-    let (got, so) = scanned_by_table(rt.alloc(), file.written())?;
+    let file = made(rt.alloc(), BY_TABLE.0)?;
+    let (got, so) = scanned(rt.alloc(), &BY_TABLE, Some(file.written()))?;
     assert!(rt; so);
     got?;
     Ok(())
 }
 
-/// A window that was refused room holds what it held.
-#[test]
-fn refused_room(rt: HostRuntime) -> Result<(), Fail> {
-    let mut window = Window::new(rt.alloc());
+/// Whether a window holds all that came, up to the byte for which it is refused room.
+fn holds_what_it_held(alloc: Global) -> bool {
+    let mut window = Window::new(alloc);
+    let mut so = true;
     for (at, &byte) in INPUT.iter().enumerate() {
         let room = window.reserve();
-        assert!(rt; INPUT.get(..at) == Some(window.slice(0, window.len())));
+        so = so && INPUT.get(..at) == Some(window.slice(0, window.len()));
         if room.is_err() {
-            return Ok(());
+            return so;
         }
         window.push(byte);
     }
-    Ok(())
+    so
 }
 
-/// What the words of a line ask for.
-fn job_of(alloc: Global, line: &[&str]) -> Result<Result<Job, ArgsError>, AllocError> {
+/// A window that was refused room holds what it held.
+#[test]
+fn refused_room(rt: HostRuntime) {
+    assert!(rt; holds_what_it_held(rt.alloc()));
+}
+
+/// Whether the words of a line are read where they may be, or memory ran out.
+fn is_read_so(alloc: Global, line: &[&str], is_read: bool) -> Result<bool, AllocError> {
     let mut words = Vec::new(alloc);
     for word in line {
         words.push(String::from_str(alloc, *word)?)?;
     }
-    Ok(read_args(alloc, words.as_slice()))
-}
-
-/// Whether words are read where they may be, or memory ran out.
-fn is_read_so(got: &Result<Job, ArgsError>, is_read: bool) -> bool {
-    match got {
+    Ok(match read_args(alloc, words.as_slice()) {
         Ok(_) => is_read,
         Err(ArgsError::Usage) => !is_read,
         Err(ArgsError::OutOfMemory) => true,
-    }
+    })
 }
 
 /// The words of a command line are read, or memory ran out.
@@ -282,8 +278,7 @@ fn refused_words(rt: HostRuntime) -> Result<(), Fail> {
         (&["--scan-table", "b"], true),
     ];
     for &(line, is_read) in LINES {
-        let got = job_of(rt.alloc(), line)?;
-        assert!(rt; is_read_so(&got, is_read));
+        assert!(rt; is_read_so(rt.alloc(), line, is_read)?);
     }
     Ok(())
 }

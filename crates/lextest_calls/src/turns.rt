@@ -38,7 +38,7 @@ pub(crate) fn turn(scanner: &mut Turns<'_, '_>) -> Result<Turn, RunError> {
 }
 
 /// Whether so many turns go on.
-pub(crate) fn go_on(scanner: &mut Turns<'_, '_>, count: usize) -> bool {
+fn go_on(scanner: &mut Turns<'_, '_>, count: usize) -> bool {
     let mut so = true;
     for _ in 0..count {
         so = turn(scanner) == Ok(Turn::Went) && so;
@@ -89,267 +89,18 @@ type Scan = (
 );
 
 /// Whether the turns of a row do what it says.
-fn goes_so_by(alloc: Global, machine: &Flat, row: &Scan) -> bool {
-    let (_, input, failing, steps, written) = *row;
+fn goes_so(alloc: Global, row: &Scan) -> Result<bool, Fail> {
+    let (text, input, failing, steps, written) = *row;
+    let machine = machine_of(alloc, text)?;
     let mut source = source_that(failing, input);
     let mut sink = sink_that(alloc, failing);
-    let mut scanner = Scanner::new(alloc, machine, &mut source, &mut sink, 10_000);
+    let mut scanner = Scanner::new(alloc, &machine, &mut source, &mut sink, 10_000);
     let mut so = true;
     for step in steps {
         so = does(&mut scanner, step) && so;
     }
-    scanner.sink().written() == written.as_bytes() && so
+    Ok(scanner.sink().written() == written.as_bytes() && so)
 }
-
-/// Whether they do by the specification of the row.
-fn goes_so(alloc: Global, row: &Scan) -> Result<bool, Fail> {
-    let machine = machine_of(alloc, row.0)?;
-    Ok(goes_so_by(alloc, &machine, row))
-}
-
-/// Whether the turns of each row do.
-fn all_go_so(alloc: Global, rows: &[Scan]) -> Result<bool, Fail> {
-    let mut so = true;
-    for row in rows {
-        so = goes_so(alloc, row)? && so;
-    }
-    Ok(so)
-}
-
-const HELD: &[Scan] = &[
-    (
-        "%%\n",
-        b"abc",
-        Failing::Never,
-        &[
-            Step::GoTo(1, ""),
-            Step::GoTo(2, ""),
-            Step::GoTo(3, ""),
-            Step::End(0),
-            Step::End(0),
-        ],
-        "abc",
-    ),
-    (
-        NUMBERS,
-        b"if 42 x",
-        Failing::Never,
-        &[
-            Step::GoTo(2, ""),
-            Step::GoTo(3, ""),
-            Step::GoTo(5, ""),
-            Step::GoTo(6, ""),
-            Step::GoTo(7, ""),
-            Step::End(0),
-            Step::End(0),
-        ],
-        "K N x",
-    ),
-    (
-        "%%\nabc printf(\"X\");\n",
-        b"abab",
-        Failing::Never,
-        &[
-            Step::GoTo(3, "ba"),
-            Step::GoTo(3, "a"),
-            Step::GoTo(4, "b"),
-            Step::GoTo(4, ""),
-            Step::End(0),
-            Step::End(0),
-        ],
-        "abab",
-    ),
-    (
-        MEGA,
-        b"mega-kludge",
-        Failing::Never,
-        &[
-            Step::GoTo(5, "mega-"),
-            Step::GoTo(11, ""),
-            Step::End(0),
-            Step::End(0),
-        ],
-        "mega-mega-kludge",
-    ),
-    (
-        TRAIL,
-        b"abcdab",
-        Failing::Never,
-        &[
-            Step::GoTo(4, "cd"),
-            Step::GoTo(4, "d"),
-            Step::GoTo(4, ""),
-            Step::GoTo(6, "b"),
-            Step::GoTo(6, ""),
-            Step::End(0),
-            Step::End(0),
-        ],
-        "[ab]cdab",
-    ),
-    (
-        "%%\nab exit(7);\n",
-        b"abXYZ",
-        Failing::Never,
-        &[Step::End(7), Step::End(7)],
-        "",
-    ),
-    (
-        "%%\na yymore();\nb yymore(); exit(3);\n",
-        b"abc",
-        Failing::Never,
-        &[Step::GoTo(1, "a"), Step::End(3), Step::End(3)],
-        "",
-    ),
-    (
-        "%%\naa yymore();\nb ECHO; yyless(1);\n",
-        b"aab",
-        Failing::Never,
-        &[
-            Step::GoTo(2, "aa"),
-            Step::GoTo(3, "ab"),
-            Step::GoTo(3, "b"),
-            Step::GoTo(3, ""),
-            Step::End(0),
-            Step::End(0),
-        ],
-        "aabab",
-    ),
-];
-
-/// A specification, an input, where the source fails, the most reads, how a run ends, how often the source is called,
-/// and what is written.
-type Run = (
-    &'static str,
-    &'static [u8],
-    Failing,
-    u64,
-    Result<u8, RunError>,
-    u64,
-    &'static [u8],
-);
-
-/// Whether the run by this machine ends so.
-fn ends_so_by(alloc: Global, machine: &Flat, row: &Run) -> bool {
-    let (_, input, failing, max_reads, want, calls, written) = *row;
-    let mut source = source_that(failing, input);
-    let mut sink = MemorySink::new(alloc);
-    let got = run(alloc, machine, &mut source, &mut sink, max_reads);
-    got == want && source.calls() == calls && sink.written() == written
-}
-
-/// Whether the run ends so.
-fn ends_so(alloc: Global, row: &Run) -> Result<bool, Fail> {
-    let machine = machine_of(alloc, row.0)?;
-    Ok(ends_so_by(alloc, &machine, row))
-}
-
-/// Whether the run of each row ends so.
-fn all_end_so(alloc: Global, rows: &[Run]) -> Result<bool, Fail> {
-    let mut so = true;
-    for row in rows {
-        so = ends_so(alloc, row)? && so;
-    }
-    Ok(so)
-}
-
-const TOO_MANY: Result<u8, RunError> = Err(RunError::TooManyReads);
-
-const CALLED: &[Run] = &[
-    (
-        NUMBERS,
-        b"if 42 x",
-        Failing::Never,
-        10_000,
-        Ok(0),
-        8,
-        b"K N x",
-    ),
-    (
-        TRAIL,
-        b"abcdab",
-        Failing::Never,
-        10_000,
-        Ok(0),
-        7,
-        b"[ab]cdab",
-    ),
-    (LETTERS, b"aaa", Failing::Never, 4, Ok(0), 4, b"I"),
-    (LETTERS, b"aaa", Failing::Never, 3, TOO_MANY, 3, b""),
-    (GIVEN_UP, b"abc", Failing::Never, 4, Ok(0), 4, b""),
-    (GIVEN_UP, b"abc", Failing::Never, 3, TOO_MANY, 3, b""),
-    (
-        "%%\nab exit(7);\n",
-        b"abXYZ",
-        Failing::Never,
-        2,
-        Ok(7),
-        2,
-        b"",
-    ),
-    (
-        "%%\nab* exit(7);\n",
-        b"abXYZ",
-        Failing::Never,
-        10_000,
-        Ok(7),
-        3,
-        b"",
-    ),
-];
-
-/// A source that has answered its end is not called again, whatever it would give then.
-const RUN_TO_AN_END: &[Run] = &[(
-    TRAIL,
-    b"abcdabz",
-    Failing::End(6),
-    10_000,
-    Ok(0),
-    7,
-    b"[ab]cdab",
-)];
-
-const TURNED_TO_AN_END: &[Scan] = &[(
-    TRAIL,
-    b"abcdabz",
-    Failing::End(6),
-    &[Step::Go(5), Step::Answer(Ok(Turn::Ended(0)), 6, 0)],
-    "[ab]cdab",
-)];
-
-const RETURNED: &[Run] = &[
-    (
-        ONE_BY_ONE,
-        THOUSAND,
-        Failing::Never,
-        1_001,
-        Ok(0),
-        1_001,
-        b"",
-    ),
-    (
-        ONE_BY_ONE,
-        THOUSAND,
-        Failing::Never,
-        1_000,
-        TOO_MANY,
-        1_000,
-        b"",
-    ),
-];
-
-/// A thousand letters are taken in the first turn, and returned one by one.
-const RETURNED_ONE_BY_ONE: &[Scan] = &[(
-    ONE_BY_ONE,
-    THOUSAND,
-    Failing::Never,
-    &[
-        Step::Answer(Ok(Turn::Went), 1_000, 999),
-        Step::Go(999),
-        Step::Answer(Ok(Turn::Ended(0)), 1_000, 0),
-        Step::Answer(Ok(Turn::Ended(0)), 1_000, 0),
-    ],
-    "",
-)];
 
 const WENT: Result<Turn, RunError> = Ok(Turn::Went);
 
@@ -359,110 +110,7 @@ const UNREAD: Result<Turn, RunError> = Err(RunError::Read);
 
 const FAILED: Result<Turn, RunError> = Err(RunError::Failed);
 
-const REFUSED: &[Scan] = &[
-    (
-        MEGA,
-        b"mega-kludge",
-        Failing::Write(5),
-        &[
-            Step::Answer(WENT, 5, 5),
-            Step::Answer(UNWRITTEN, 11, 11),
-            Step::Answer(FAILED, 11, 11),
-        ],
-        "mega-",
-    ),
-    (
-        MEGA,
-        b"mega-kludge",
-        Failing::Read(5),
-        &[
-            Step::Answer(WENT, 5, 5),
-            Step::Answer(UNREAD, 5, 5),
-            Step::Answer(FAILED, 5, 5),
-        ],
-        "mega-",
-    ),
-    (
-        FRONTS,
-        b"abcd",
-        Failing::Write(3),
-        &[
-            Step::Answer(UNWRITTEN, 4, 4),
-            Step::Answer(FAILED, 4, 4),
-            Step::Answer(FAILED, 4, 4),
-        ],
-        "abc",
-    ),
-    (
-        POPS,
-        b"xa",
-        Failing::Never,
-        &[
-            Step::Answer(WENT, 1, 0),
-            Step::Answer(Err(RunError::Stack), 2, 1),
-            Step::Answer(FAILED, 2, 1),
-        ],
-        "xA",
-    ),
-];
-
 const UNWRITTEN_AT_ONCE: &[Step] = &[Step::Fail(RunError::Write), Step::Fail(RunError::Failed)];
-
-/// A sink that takes 0 to 9 of the ten bytes of the first turn has the first ones.
-const FILLED: &[Scan] = &[
-    (FRONTS, b"abcd", Failing::Write(0), UNWRITTEN_AT_ONCE, ""),
-    (FRONTS, b"abcd", Failing::Write(1), UNWRITTEN_AT_ONCE, "a"),
-    (FRONTS, b"abcd", Failing::Write(2), UNWRITTEN_AT_ONCE, "ab"),
-    (FRONTS, b"abcd", Failing::Write(3), UNWRITTEN_AT_ONCE, "abc"),
-    (
-        FRONTS,
-        b"abcd",
-        Failing::Write(4),
-        UNWRITTEN_AT_ONCE,
-        "abcd",
-    ),
-    (
-        FRONTS,
-        b"abcd",
-        Failing::Write(5),
-        UNWRITTEN_AT_ONCE,
-        "abcda",
-    ),
-    (
-        FRONTS,
-        b"abcd",
-        Failing::Write(6),
-        UNWRITTEN_AT_ONCE,
-        "abcdab",
-    ),
-    (
-        FRONTS,
-        b"abcd",
-        Failing::Write(7),
-        UNWRITTEN_AT_ONCE,
-        "abcdabc",
-    ),
-    (
-        FRONTS,
-        b"abcd",
-        Failing::Write(8),
-        UNWRITTEN_AT_ONCE,
-        "abcdabca",
-    ),
-    (
-        FRONTS,
-        b"abcd",
-        Failing::Write(9),
-        UNWRITTEN_AT_ONCE,
-        "abcdabcab",
-    ),
-];
-
-/// The flush fails at the end of an empty input, and before a pop of an empty stack is told.
-const UNFLUSHED: &[Scan] = &[
-    ("%%\n", b"", Failing::Flush, UNWRITTEN_AT_ONCE, ""),
-    (POPS, b"a", Failing::Flush, UNWRITTEN_AT_ONCE, "A"),
-];
 
 /// So many turns go on, and the next one finds that the source fails.
 const NO_TURN: &[Step] = &[
@@ -513,61 +161,407 @@ const SEVEN_TURNS: &[Step] = &[
     Step::Fail(RunError::Failed),
 ];
 
-/// A source that gives 0 to 10 bytes lets so many turns go on.
-const CUT_SHORT: &[Scan] = &[
-    (COMMENTS, b"a/*b*/c/*d", Failing::Read(0), NO_TURN, ""),
-    (COMMENTS, b"a/*b*/c/*d", Failing::Read(1), ONE_TURN, "a"),
-    (COMMENTS, b"a/*b*/c/*d", Failing::Read(2), ONE_TURN, "a"),
-    (COMMENTS, b"a/*b*/c/*d", Failing::Read(3), TWO_TURNS, "a"),
-    (COMMENTS, b"a/*b*/c/*d", Failing::Read(4), THREE_TURNS, "a"),
-    (COMMENTS, b"a/*b*/c/*d", Failing::Read(5), THREE_TURNS, "a"),
-    (COMMENTS, b"a/*b*/c/*d", Failing::Read(6), FOUR_TURNS, "a"),
-    (COMMENTS, b"a/*b*/c/*d", Failing::Read(7), FIVE_TURNS, "ac"),
-    (COMMENTS, b"a/*b*/c/*d", Failing::Read(8), FIVE_TURNS, "ac"),
-    (COMMENTS, b"a/*b*/c/*d", Failing::Read(9), SIX_TURNS, "ac"),
-    (
-        COMMENTS,
-        b"a/*b*/c/*d",
-        Failing::Read(10),
-        SEVEN_TURNS,
-        "ac",
-    ),
-];
+/// What is asked for is taken and held.
+fn held() -> &'static [Scan] {
+    const SCANS: &[Scan] = &[
+        (
+            "%%\n",
+            b"abc",
+            Failing::Never,
+            &[
+                Step::GoTo(1, ""),
+                Step::GoTo(2, ""),
+                Step::GoTo(3, ""),
+                Step::End(0),
+                Step::End(0),
+            ],
+            "abc",
+        ),
+        (
+            NUMBERS,
+            b"if 42 x",
+            Failing::Never,
+            &[
+                Step::GoTo(2, ""),
+                Step::GoTo(3, ""),
+                Step::GoTo(5, ""),
+                Step::GoTo(6, ""),
+                Step::GoTo(7, ""),
+                Step::End(0),
+                Step::End(0),
+            ],
+            "K N x",
+        ),
+        (
+            "%%\nabc printf(\"X\");\n",
+            b"abab",
+            Failing::Never,
+            &[
+                Step::GoTo(3, "ba"),
+                Step::GoTo(3, "a"),
+                Step::GoTo(4, "b"),
+                Step::GoTo(4, ""),
+                Step::End(0),
+                Step::End(0),
+            ],
+            "abab",
+        ),
+        (
+            MEGA,
+            b"mega-kludge",
+            Failing::Never,
+            &[
+                Step::GoTo(5, "mega-"),
+                Step::GoTo(11, ""),
+                Step::End(0),
+                Step::End(0),
+            ],
+            "mega-mega-kludge",
+        ),
+    ];
+    SCANS
+}
 
-const SCANS: &[(&str, &[Scan])] = &[
-    ("what is asked for is taken and held", HELD),
-    ("the end is asked for once", TURNED_TO_AN_END),
-    (
-        "a thousand letters are returned one by one",
-        RETURNED_ONE_BY_ONE,
-    ),
-    ("a refused turn holds what was taken", REFUSED),
-    ("a source fails after each byte", CUT_SHORT),
-    ("a sink fails after each byte", FILLED),
-    ("a flush fails", UNFLUSHED),
-];
+/// The same where trailing context, exit, yymore and yyless have a part in it.
+fn held_by_statements() -> &'static [Scan] {
+    const SCANS: &[Scan] = &[
+        (
+            TRAIL,
+            b"abcdab",
+            Failing::Never,
+            &[
+                Step::GoTo(4, "cd"),
+                Step::GoTo(4, "d"),
+                Step::GoTo(4, ""),
+                Step::GoTo(6, "b"),
+                Step::GoTo(6, ""),
+                Step::End(0),
+                Step::End(0),
+            ],
+            "[ab]cdab",
+        ),
+        (
+            "%%\nab exit(7);\n",
+            b"abXYZ",
+            Failing::Never,
+            &[Step::End(7), Step::End(7)],
+            "",
+        ),
+        (
+            "%%\na yymore();\nb yymore(); exit(3);\n",
+            b"abc",
+            Failing::Never,
+            &[Step::GoTo(1, "a"), Step::End(3), Step::End(3)],
+            "",
+        ),
+        (
+            "%%\naa yymore();\nb ECHO; yyless(1);\n",
+            b"aab",
+            Failing::Never,
+            &[
+                Step::GoTo(2, "aa"),
+                Step::GoTo(3, "ab"),
+                Step::GoTo(3, "b"),
+                Step::GoTo(3, ""),
+                Step::End(0),
+                Step::End(0),
+            ],
+            "aabab",
+        ),
+    ];
+    SCANS
+}
+
+/// The end is asked for once: a source that has answered it is not called again, whatever it would give then.
+fn ended() -> &'static [Scan] {
+    const SCANS: &[Scan] = &[(
+        TRAIL,
+        b"abcdabz",
+        Failing::End(6),
+        &[Step::Go(5), Step::Answer(Ok(Turn::Ended(0)), 6, 0)],
+        "[ab]cdab",
+    )];
+    SCANS
+}
+
+/// A thousand letters are taken in the first turn, and returned one by one.
+fn returned() -> &'static [Scan] {
+    const SCANS: &[Scan] = &[(
+        ONE_BY_ONE,
+        THOUSAND,
+        Failing::Never,
+        &[
+            Step::Answer(Ok(Turn::Went), 1_000, 999),
+            Step::Go(999),
+            Step::Answer(Ok(Turn::Ended(0)), 1_000, 0),
+            Step::Answer(Ok(Turn::Ended(0)), 1_000, 0),
+        ],
+        "",
+    )];
+    SCANS
+}
+
+/// A refused turn holds what was taken.
+fn refused() -> &'static [Scan] {
+    const SCANS: &[Scan] = &[
+        (
+            MEGA,
+            b"mega-kludge",
+            Failing::Write(5),
+            &[
+                Step::Answer(WENT, 5, 5),
+                Step::Answer(UNWRITTEN, 11, 11),
+                Step::Answer(FAILED, 11, 11),
+            ],
+            "mega-",
+        ),
+        (
+            MEGA,
+            b"mega-kludge",
+            Failing::Read(5),
+            &[
+                Step::Answer(WENT, 5, 5),
+                Step::Answer(UNREAD, 5, 5),
+                Step::Answer(FAILED, 5, 5),
+            ],
+            "mega-",
+        ),
+        (
+            FRONTS,
+            b"abcd",
+            Failing::Write(3),
+            &[
+                Step::Answer(UNWRITTEN, 4, 4),
+                Step::Answer(FAILED, 4, 4),
+                Step::Answer(FAILED, 4, 4),
+            ],
+            "abc",
+        ),
+        (
+            POPS,
+            b"xa",
+            Failing::Never,
+            &[
+                Step::Answer(WENT, 1, 0),
+                Step::Answer(Err(RunError::Stack), 2, 1),
+                Step::Answer(FAILED, 2, 1),
+            ],
+            "xA",
+        ),
+    ];
+    SCANS
+}
+
+/// A source that gives 0 to 10 bytes lets so many turns go on.
+fn cut_short() -> &'static [Scan] {
+    const SCANS: &[Scan] = &[
+        (COMMENTS, b"a/*b*/c/*d", Failing::Read(0), NO_TURN, ""),
+        (COMMENTS, b"a/*b*/c/*d", Failing::Read(1), ONE_TURN, "a"),
+        (COMMENTS, b"a/*b*/c/*d", Failing::Read(2), ONE_TURN, "a"),
+        (COMMENTS, b"a/*b*/c/*d", Failing::Read(3), TWO_TURNS, "a"),
+        (COMMENTS, b"a/*b*/c/*d", Failing::Read(4), THREE_TURNS, "a"),
+        (COMMENTS, b"a/*b*/c/*d", Failing::Read(5), THREE_TURNS, "a"),
+        (COMMENTS, b"a/*b*/c/*d", Failing::Read(6), FOUR_TURNS, "a"),
+        (COMMENTS, b"a/*b*/c/*d", Failing::Read(7), FIVE_TURNS, "ac"),
+        (COMMENTS, b"a/*b*/c/*d", Failing::Read(8), FIVE_TURNS, "ac"),
+        (COMMENTS, b"a/*b*/c/*d", Failing::Read(9), SIX_TURNS, "ac"),
+        (
+            COMMENTS,
+            b"a/*b*/c/*d",
+            Failing::Read(10),
+            SEVEN_TURNS,
+            "ac",
+        ),
+    ];
+    SCANS
+}
+
+/// A sink that takes 0 to 9 of the ten bytes of the first turn has the first ones.
+fn filled() -> &'static [Scan] {
+    const SCANS: &[Scan] = &[
+        (FRONTS, b"abcd", Failing::Write(0), UNWRITTEN_AT_ONCE, ""),
+        (FRONTS, b"abcd", Failing::Write(1), UNWRITTEN_AT_ONCE, "a"),
+        (FRONTS, b"abcd", Failing::Write(2), UNWRITTEN_AT_ONCE, "ab"),
+        (FRONTS, b"abcd", Failing::Write(3), UNWRITTEN_AT_ONCE, "abc"),
+        (
+            FRONTS,
+            b"abcd",
+            Failing::Write(4),
+            UNWRITTEN_AT_ONCE,
+            "abcd",
+        ),
+        (
+            FRONTS,
+            b"abcd",
+            Failing::Write(5),
+            UNWRITTEN_AT_ONCE,
+            "abcda",
+        ),
+        (
+            FRONTS,
+            b"abcd",
+            Failing::Write(6),
+            UNWRITTEN_AT_ONCE,
+            "abcdab",
+        ),
+        (
+            FRONTS,
+            b"abcd",
+            Failing::Write(7),
+            UNWRITTEN_AT_ONCE,
+            "abcdabc",
+        ),
+        (
+            FRONTS,
+            b"abcd",
+            Failing::Write(8),
+            UNWRITTEN_AT_ONCE,
+            "abcdabca",
+        ),
+        (
+            FRONTS,
+            b"abcd",
+            Failing::Write(9),
+            UNWRITTEN_AT_ONCE,
+            "abcdabcab",
+        ),
+    ];
+    SCANS
+}
+
+/// The flush fails at the end of an empty input, and before a pop of an empty stack is told.
+fn unflushed() -> &'static [Scan] {
+    const SCANS: &[Scan] = &[
+        ("%%\n", b"", Failing::Flush, UNWRITTEN_AT_ONCE, ""),
+        (POPS, b"a", Failing::Flush, UNWRITTEN_AT_ONCE, "A"),
+    ];
+    SCANS
+}
+
+/// Whether the turns of each row do what it says.
+fn all_go_so(alloc: Global, rows: &[Scan]) -> Result<bool, Fail> {
+    let mut so = true;
+    for row in rows {
+        so = goes_so(alloc, row)? && so;
+    }
+    Ok(so)
+}
 
 #[test]
 fn turns_go_so(rt: HostRuntime) -> Result<(), Fail> {
-    for &(what, rows) in SCANS {
-        assert!(rt; all_go_so(rt.alloc(), rows)?, "{what}");
-    }
+    let alloc = rt.alloc();
+    assert!(rt; all_go_so(alloc, held())?);
+    assert!(rt; all_go_so(alloc, held_by_statements())?);
+    assert!(rt; all_go_so(alloc, ended())?);
+    assert!(rt; all_go_so(alloc, returned())?);
+    assert!(rt; all_go_so(alloc, refused())?);
+    assert!(rt; all_go_so(alloc, cut_short())?);
+    assert!(rt; all_go_so(alloc, filled())?);
+    assert!(rt; all_go_so(alloc, unflushed())?);
     Ok(())
 }
 
-const RUNS: &[(&str, &[Run])] = &[
+/// A specification, an input, where the source fails, the most reads, how a run ends, how often the source is called,
+/// and what is written.
+type Run = (
+    &'static str,
+    &'static [u8],
+    Failing,
+    u64,
+    Result<u8, RunError>,
+    u64,
+    &'static [u8],
+);
+
+/// Whether the run ends so.
+fn ends_so(alloc: Global, row: &Run) -> Result<bool, Fail> {
+    let (text, input, failing, max_reads, want, calls, written) = *row;
+    let machine = machine_of(alloc, text)?;
+    let mut source = source_that(failing, input);
+    let mut sink = MemorySink::new(alloc);
+    let got = run(alloc, &machine, &mut source, &mut sink, max_reads);
+    Ok(got == want && source.calls() == calls && sink.written() == written)
+}
+
+const TOO_MANY: Result<u8, RunError> = Err(RunError::TooManyReads);
+
+const RUNS: &[Run] = &[
+    // The source is called as often as a byte is asked for.
     (
-        "the source is called as often as a byte is asked for",
-        CALLED,
+        NUMBERS,
+        b"if 42 x",
+        Failing::Never,
+        10_000,
+        Ok(0),
+        8,
+        b"K N x",
     ),
-    ("the end is asked for once", RUN_TO_AN_END),
-    ("a thousand letters are returned one by one", RETURNED),
+    (
+        TRAIL,
+        b"abcdab",
+        Failing::Never,
+        10_000,
+        Ok(0),
+        7,
+        b"[ab]cdab",
+    ),
+    (LETTERS, b"aaa", Failing::Never, 4, Ok(0), 4, b"I"),
+    (LETTERS, b"aaa", Failing::Never, 3, TOO_MANY, 3, b""),
+    (GIVEN_UP, b"abc", Failing::Never, 4, Ok(0), 4, b""),
+    (GIVEN_UP, b"abc", Failing::Never, 3, TOO_MANY, 3, b""),
+    (
+        "%%\nab exit(7);\n",
+        b"abXYZ",
+        Failing::Never,
+        2,
+        Ok(7),
+        2,
+        b"",
+    ),
+    (
+        "%%\nab* exit(7);\n",
+        b"abXYZ",
+        Failing::Never,
+        10_000,
+        Ok(7),
+        3,
+        b"",
+    ),
+    // The end is asked for once.
+    (
+        TRAIL,
+        b"abcdabz",
+        Failing::End(6),
+        10_000,
+        Ok(0),
+        7,
+        b"[ab]cdab",
+    ),
+    // A thousand letters are returned one by one.
+    (
+        ONE_BY_ONE,
+        THOUSAND,
+        Failing::Never,
+        1_001,
+        Ok(0),
+        1_001,
+        b"",
+    ),
+    (
+        ONE_BY_ONE,
+        THOUSAND,
+        Failing::Never,
+        1_000,
+        TOO_MANY,
+        1_000,
+        b"",
+    ),
 ];
 
 #[test]
 fn runs_end_so(rt: HostRuntime) -> Result<(), Fail> {
-    for &(what, rows) in RUNS {
-        assert!(rt; all_end_so(rt.alloc(), rows)?, "{what}");
+    for (place, row) in RUNS.iter().enumerate() {
+        assert!(rt; ends_so(rt.alloc(), row)?, "row {place}");
     }
     Ok(())
 }
