@@ -354,11 +354,12 @@ fn goes_so_by(alloc: Global, text: &[u8], steps: &[Step]) -> Result<bool, Fail> 
 #[test]
 fn programs_go_so(rt: HostRuntime) -> Result<(), Fail> {
     let alloc = rt.alloc();
-    assert!(rt; all_go_so(alloc, by_pieces())?);
-    assert!(rt; all_go_so(alloc, by_pieces_to_an_end())?);
-    assert!(rt; all_go_so(alloc, by_pieces_after_an_end())?);
-    assert!(rt; all_go_so(alloc, lists())?);
-    assert!(rt; all_go_so(alloc, by_tables())?);
-    assert!(rt; all_go_so(alloc, by_streams())?);
+    let so = all_go_so(alloc, by_pieces())?
+        && all_go_so(alloc, by_pieces_to_an_end())?
+        && all_go_so(alloc, by_pieces_after_an_end())?
+        && all_go_so(alloc, lists())?
+        && all_go_so(alloc, by_tables())?
+        && all_go_so(alloc, by_streams())?;
+    assert!(rt; so);
     Ok(())
 }

@@ -71,13 +71,14 @@ fn all_stream_in_pieces(alloc: Global, scans: &[Scan]) -> Result<bool, Fail> {
 #[test]
 fn pieces_of_any_size_have_the_same_tokens(rt: HostRuntime) -> Result<(), Fail> {
     let alloc = rt.alloc();
-    assert!(rt; all_stream_in_pieces(alloc, c_rows::first())?);
-    assert!(rt; all_stream_in_pieces(alloc, c_rows::second())?);
-    assert!(rt; all_stream_in_pieces(alloc, c_rows::third())?);
-    assert!(rt; all_stream_in_pieces(alloc, c_rows::fourth())?);
-    assert!(rt; all_stream_in_pieces(alloc, c_rows::fifth())?);
-    assert!(rt; all_stream_in_pieces(alloc, c_rows::sixth())?);
-    assert!(rt; all_stream_in_pieces(alloc, c_rows::seventh())?);
+    let so = all_stream_in_pieces(alloc, c_rows::first())?
+        && all_stream_in_pieces(alloc, c_rows::second())?
+        && all_stream_in_pieces(alloc, c_rows::third())?
+        && all_stream_in_pieces(alloc, c_rows::fourth())?
+        && all_stream_in_pieces(alloc, c_rows::fifth())?
+        && all_stream_in_pieces(alloc, c_rows::sixth())?
+        && all_stream_in_pieces(alloc, c_rows::seventh())?;
+    assert!(rt; so);
     Ok(())
 }
 

@@ -27,9 +27,12 @@ const NO_MEMORY_IN_A_PATTERN: SpecErrorKind = SpecErrorKind::Pattern(PatternErro
     at: 7,
 });
 
-#[test]
-fn tells_each_fault(rt: HostRuntime) {
-    const ROWS: &[(Fault<'static>, u8, &str)] = &[
+/// A fault, its status and its line.
+type Row = (Fault<'static>, u8, &'static str);
+
+/// Faults of words, files, automata, tables and runs.
+fn of_the_program() -> &'static [Row] {
+    const ROWS: &[Row] = &[
         (Fault::Usage, 64, "lex: usage\n"),
         (
             Fault::Scan(ScanError::Generate(GenError::OutOfMemory)),
@@ -100,6 +103,13 @@ fn tells_each_fault(rt: HostRuntime) {
             74,
             "lex: failed\n",
         ),
+    ];
+    ROWS
+}
+
+/// Faults of specifications.
+fn of_specifications() -> &'static [Row] {
+    const ROWS: &[Row] = &[
         (
             Fault::Scan(ScanError::Generate(GenError::Spec(SpecError {
                 line: 1,
@@ -173,7 +183,20 @@ fn tells_each_fault(rt: HostRuntime) {
             "lex: out of memory\n",
         ),
     ];
-    for &(fault, status, line) in ROWS {
-        assert!(rt; is_told(rt.alloc(), fault, status, line), "{line}");
+    ROWS
+}
+
+/// Whether each fault is told so.
+fn all_are_told(alloc: Global, rows: &[Row]) -> bool {
+    let mut so = true;
+    for &(fault, status, line) in rows {
+        so = is_told(alloc, fault, status, line) && so;
     }
+    so
+}
+
+#[test]
+fn tells_each_fault(rt: HostRuntime) {
+    assert!(rt; all_are_told(rt.alloc(), of_the_program()));
+    assert!(rt; all_are_told(rt.alloc(), of_specifications()));
 }

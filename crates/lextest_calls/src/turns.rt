@@ -450,14 +450,15 @@ fn all_go_so(alloc: Global, rows: &[Scan]) -> Result<bool, Fail> {
 #[test]
 fn turns_go_so(rt: HostRuntime) -> Result<(), Fail> {
     let alloc = rt.alloc();
-    assert!(rt; all_go_so(alloc, held())?);
-    assert!(rt; all_go_so(alloc, held_by_statements())?);
-    assert!(rt; all_go_so(alloc, ended())?);
-    assert!(rt; all_go_so(alloc, returned())?);
-    assert!(rt; all_go_so(alloc, refused())?);
-    assert!(rt; all_go_so(alloc, cut_short())?);
-    assert!(rt; all_go_so(alloc, filled())?);
-    assert!(rt; all_go_so(alloc, unflushed())?);
+    let so = all_go_so(alloc, held())?
+        && all_go_so(alloc, held_by_statements())?
+        && all_go_so(alloc, ended())?
+        && all_go_so(alloc, returned())?
+        && all_go_so(alloc, refused())?
+        && all_go_so(alloc, cut_short())?
+        && all_go_so(alloc, filled())?
+        && all_go_so(alloc, unflushed())?;
+    assert!(rt; so);
     Ok(())
 }
 
