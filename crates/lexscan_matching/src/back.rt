@@ -123,6 +123,7 @@ fn walked_on<M: Machine>(
 }
 
 /// Walks on over the bytes held from a place on, up to so many of them or to a state that does not go on.
+#[inline(always)]
 fn walk_to<M: Machine>(
     machine: &M,
     reading: &Reading,
@@ -274,6 +275,40 @@ fn walk_over<M: Machine>(
         walked = walk_to(machine, reading, place, bytes, to, walked);
     }
     Ahead::Settled(settled_by(walked))
+}
+
+/// The same where the walk comes no further than to the first place where a mark is due. It answers nothing where there
+/// is no mark.
+#[inline(always)]
+fn walk_near<M: Machine>(
+    machine: &M,
+    reading: &Reading,
+    memo: &Memo,
+    place: TextPlace,
+) -> Option<Ahead>
+    requires condition { place.condition < (M.machine machine.now).conditions }
+    requires inside { place.at < length reading.now.window.bytes }
+    requires marks { AreTrue (M.machine machine.now) reading.now memo.now }
+
+    ensures { IfSome result (LooksAhead (M.machine machine.now) (M.states machine.now) place reading.now) }
+{
+    let held = reading.window.len() - place.at;
+    let bytes = reading.window.slice(place.at, place.at + held);
+    is_text(bytes);
+    let due = memo.ahead(reading.taken.saturating_sub(held as u64));
+    let first = first_walked(machine, reading, place);
+    if !machine.goes_on(first.state) {
+        return Some(Ahead::Settled(settled_by(first)));
+    }
+    let walked = walk_to(machine, reading, place, bytes, due.min(held), first);
+    if !machine.goes_on(walked.state) {
+        return Some(Ahead::Settled(settled_by(walked)));
+    }
+    if held <= walked.len {
+        return Some(ended_by(reading, walked));
+    }
+    let mark = find(memo, reading, held - walked.len, walked.state)?;
+    Some(Ahead::Settled(told_by(settled_by(walked), walked.len, mark)))
 }
 
 /// The state after the bytes held from one place up to another.
@@ -476,6 +511,28 @@ fn note_walks<M: Machine>(
 
 /// Walks over the bytes held, up to a place from which it is known where the walk leads, and marks what it has shown.
 pub fn look<M: Machine>(machine: &M, reading: &Reading, memo: &mut Memo, place: TextPlace) -> Ahead
+    requires condition { place.condition < (M.machine machine.now).conditions }
+    requires inside { place.at < length reading.now.window.bytes }
+    requires marks { AreTrue (M.machine machine.now) reading.now memo.old }
+
+    ensures ahead { LooksAhead (M.machine machine.now) (M.states machine.now) place reading.now result }
+    ensures marks { AreTrue (M.machine machine.now) reading.now memo.new }
+{
+    // Most walks come to a mark so soon, and have none to set.
+    if let Some(ahead) = walk_near(machine, reading, memo, place) {
+        return ahead;
+    }
+    look_far(machine, reading, memo, place)
+}
+
+/// The same for a walk that goes further than to the first place where a mark is due.
+#[inline(never)]
+fn look_far<M: Machine>(
+    machine: &M,
+    reading: &Reading,
+    memo: &mut Memo,
+    place: TextPlace,
+) -> Ahead
     requires condition { place.condition < (M.machine machine.now).conditions }
     requires inside { place.at < length reading.now.window.bytes }
     requires marks { AreTrue (M.machine machine.now) reading.now memo.old }

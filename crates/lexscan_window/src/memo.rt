@@ -162,11 +162,24 @@ impl Memo {
     }
 
     /// Makes room for the places of this many bytes, where memory is given.
+    #[inline(always)]
     pub fn fit(&mut self, bytes: usize)
         ensures { (m : Mark) → Among self.new m → Among self.old m ⊎ (m ≡ unmarked) }
     {
-        let size = self.cells.len();
         let wanted = (bytes / BYTES_PER_CELL + 1).saturating_mul(self.density());
+        let lacks_walks = self.wants_walks && self.walks.is_empty();
+        if self.cells.len() < wanted || self.crowded || lacks_walks {
+            self.make_room(wanted);
+        }
+    }
+
+    /// The same for so many cells, where there are too few of them, a row was full, or walks have no table.
+    #[cold]
+    #[inline(never)]
+    fn make_room(&mut self, wanted: usize)
+        ensures { (m : Mark) → Among self.new m → Among self.old m ⊎ (m ≡ unmarked) }
+    {
+        let size = self.cells.len();
         if size < wanted {
             self.lay_out(wanted.saturating_add(wanted / 2));
         } else if self.crowded && 1 < self.rows {
@@ -176,11 +189,12 @@ impl Memo {
         }
     }
 
-    /// How many cells there are for so many bytes as have one at first.
+    /// How many cells there are for so many bytes as have one at first. The stride is a power of two.
     fn density(&self) -> usize
         ensures { 0 < result }
     {
-        (self.ways.saturating_mul(BYTES_PER_CELL) / self.stride).max(1)
+        let cells = self.ways.saturating_mul(BYTES_PER_CELL);
+        cells.wrapping_shr(self.stride.trailing_zeros()).max(1)
     }
 
     /// A table without marks that has room for twice as many states at a place: in more memory, or at half as many
