@@ -527,12 +527,7 @@ pub fn look<M: Machine>(machine: &M, reading: &Reading, memo: &mut Memo, place: 
 
 /// The same for a walk that goes further than to the first place where a mark is due.
 #[inline(never)]
-fn look_far<M: Machine>(
-    machine: &M,
-    reading: &Reading,
-    memo: &mut Memo,
-    place: TextPlace,
-) -> Ahead
+fn look_far<M: Machine>(machine: &M, reading: &Reading, memo: &mut Memo, place: TextPlace) -> Ahead
     requires condition { place.condition < (M.machine machine.now).conditions }
     requires inside { place.at < length reading.now.window.bytes }
     requires marks { AreTrue (M.machine machine.now) reading.now memo.old }
