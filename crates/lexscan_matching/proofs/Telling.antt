@@ -1,7 +1,7 @@
 -- What is told of a match, and what several statements do.
-use Rattle.std.proofs.Common.{◌≡◌, ℕ, ◌+◌, ◌<◌, true, false, List, [], ◌∷◌, ◌++◌, length, take, get_or, inl, inr, refl, sym, ◌∙◌, ap, subst, arith}
+use Rattle.std.proofs.Common.{◌≡◌, ℕ, ◌+◌, ◌<◌, ◌≤◌, true, false, List, [], ◌∷◌, ◌++◌, length, take, get_or, inl, inr, refl, sym, ◌∙◌, ap, subst, arith}
 use Rattle.std.proofs.lemmas.Bool.{cases_lt}
-use Rattle.std.proofs.lemmas.List.{append-nil, append_assoc, take-take}
+use Rattle.std.proofs.lemmas.List.{append-nil, append_assoc, take-take, length-take-le}
 use Rattle.lex_semantics.specs.Text.{BeginsWith}
 use Rattle.lex_semantics.specs.Spec as S
 use Rattle.lex_semantics.specs.ActionResults.{act_result}
@@ -14,8 +14,9 @@ use Rattle.lex_machine.specs.Glances.{Gists, are_simple}
 use Rattle.lexscan_window.specs.declared.act.ActionState.{ActionState}
 use Rattle.lexscan_window.specs.declared.act.ActionFlow.{ActionFlow}
 use Rattle.lexscan_matching.specs.declared.glanced.GlancedMatch.{GlancedMatch}
+use Rattle.lexscan_matching.specs.declared.glanced.LongestPart.{LongestPart}
 use Rattle.lexscan_window.specs.Acts.{acting_of, after_step, said}
-use Rattle.lexscan_matching.specs.Glanced.{all_begun, all_said, begun, names_rule, statements_in, NoneAfter, IsGlancedMatch}
+use Rattle.lexscan_matching.specs.Glanced.{all_begun, all_said, begun, names_rule, statements_in, NoneAfter, IsGlancedMatch, IsLongestPart}
 use Rattle.lexscan_matching.proofs.Growing.{take_one_more}
 
 -- the state after one byte more
@@ -38,6 +39,29 @@ tells_front M first bytes n longest (inl (some, le, none, gist)) =
     inl (some, le, none_front M first bytes longest.keep n none, subst (λ l. Gists M (walk M first l) longest.gist) (take-take longest.keep n bytes le) gist)
 tells_front M first bytes n longest (inr (inl (one, echo, none))) = inr (inl (one, echo, none_front M first bytes 0 n none))
 tells_front M first bytes n longest (inr (inr any)) = inr (inr any)
+
+-- no rule is accepted after the first byte either
+pub none_first : (M : Machine) (first : ℕ) (bytes : List ℕ) (n : ℕ) → NoneAfter M first bytes 1 n → M.accepts (walk M first (take 1 bytes)) ≡ [] → NoneAfter M first bytes 0 n
+none_first M first bytes n none one i more le = elim (cases_lt 1 i) [
+  | inl lt ↦ none i lt le
+  | inr not ↦ (let e : 1 ≡ i = omega (arith, more, not) in subst (λ k. M.accepts (walk M first (take k bytes)) ≡ []) e one)
+]
+
+-- what the longest part of the first bytes tells
+module _ (M : Machine) (first : ℕ) (bytes : List ℕ) (n : ℕ) (inside : n ≤ length bytes) (longest : LongestPart) (part : IsLongestPart M first (take n bytes) longest) where
+  size : length (take n bytes) ≡ n
+  size = length-take-le n bytes inside
+
+  none_in : NoneAfter M first (take n bytes) longest.keep n
+  none_in = subst (λ k. NoneAfter M first (take n bytes) longest.keep k) size part.none
+
+  pub part_tells : (gist : Gist) → 1 ≤ longest.keep → Gists M longest.state gist → IsGlancedMatch M first bytes n (record { gist = gist; keep = longest.keep })
+  part_tells gist some gists =
+      tells_front M first bytes n (record { gist = gist; keep = longest.keep })
+      (inl (some, omega (arith, part.short, size), none_in, subst (λ s. Gists M s gist) part.state_is gists))
+
+  pub part_none : longest.keep ≡ 0 → NoneAfter M first bytes 0 n
+  part_none e = none_front M first bytes 0 n (subst (λ few. NoneAfter M first (take n bytes) few n) e none_in)
 
 -- the statements that are told are simple
 pub gist_simple : (M : Machine) (s : ℕ) (g : Gist) → names_rule g ≡ true → Gists M s g → are_simple (statements_in g) ≡ true

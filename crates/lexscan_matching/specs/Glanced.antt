@@ -1,5 +1,5 @@
 -- What is told of a match at a glance, and what its rule does.
-use Rattle.std.specs.Prelude.{◌≡◌, ℕ, ◌≤◌, ◌<◌, Bool, true, false, List, [], ◌∷◌, ◌++◌, map, take, ◌⊎◌}
+use Rattle.std.specs.Prelude.{◌≡◌, ℕ, ◌≤◌, ◌<◌, Bool, true, false, List, [], ◌∷◌, ◌++◌, length, map, take, ◌⊎◌}
 use Rattle.lex_semantics.specs.Spec as S
 use Rattle.lex_semantics.specs.Machine.{Machine, walk}
 use Rattle.lex_machine.specs.declared.glance.Gist.{Gist}
@@ -7,6 +7,7 @@ use Rattle.lex_machine.specs.declared.glance.Gist.TheVariants.{Any, NoRule, Sile
 use Rattle.lex_machine.specs.Glances.{Gists}
 use Rattle.lex_machine.specs.Views.{statement_of}
 use Rattle.lexscan_matching.specs.declared.glanced.GlancedMatch.{GlancedMatch}
+use Rattle.lexscan_matching.specs.declared.glanced.LongestPart.{LongestPart}
 use Rattle.lexscan_window.specs.Acts.{said}
 
 -- the statements that are told
@@ -54,12 +55,23 @@ written_by other text = []
 abbrev pub NoneAfter : Machine → ℕ → List ℕ → ℕ → ℕ → Type 0
 NoneAfter M first bytes few many = (i : ℕ) → few < i → i ≤ many → M.accepts (walk M first (take i bytes)) ≡ []
 
+-- The longest part of some bytes after which a rule is accepted, and the state after it.
+pub record IsLongestPart (M : Machine) (first : ℕ) (bytes : List ℕ) (longest : LongestPart) : Type 0 where
+  pub short : longest.keep ≤ length bytes
+  pub state_is : longest.state ≡ walk M first (take longest.keep bytes)
+  pub none : NoneAfter M first bytes longest.keep (length bytes)
+
+-- What is told of the state after some of the first bytes, after more of which no rule is accepted.
+abbrev pub IsNearMatch : Machine → ℕ → List ℕ → ℕ → GlancedMatch → Type 0
+IsNearMatch M first bytes count near =
+    (1 ≤ near.keep) × (near.keep ≤ count) × NoneAfter M first bytes near.keep count
+    × Gists M (walk M first (take near.keep bytes)) near.gist
+
 -- What is told of the match of the first bytes, so many of them: by the state after the longest part of them after
 -- which a rule is accepted; or that the default rule writes one byte (POSIX, lex, Rules: unmatched input is copied); or
 -- nothing.
 abbrev pub IsGlancedMatch : Machine → ℕ → List ℕ → ℕ → GlancedMatch → Type 0
 IsGlancedMatch M first bytes count longest =
-    ((1 ≤ longest.keep) × (longest.keep ≤ count) × NoneAfter M first bytes longest.keep count
-    × Gists M (walk M first (take longest.keep bytes)) longest.gist)
+    IsNearMatch M first bytes count longest
     ⊎ ((longest.keep ≡ 1) × (longest.gist ≡ Echo) × NoneAfter M first bytes 0 count)
     ⊎ (longest.gist ≡ Any)

@@ -1,5 +1,5 @@
 //! What the bytes of a match tell of it at a glance, and what its rule does then.
-ghost use Rattle.std.specs.Prelude.{◌≡◌, ℕ, ◌+◌, ◌-◌, ◌<◌, List, length, true, map, IfOk, IfSome};
+ghost use Rattle.std.specs.Prelude.{◌≡◌, ℕ, ◌+◌, ◌-◌, ◌<◌, ◌≤◌, List, length, true, map, IfOk, IfSome};
 ghost use Rattle.lex_io.specs.Sink.{Appended};
 ghost use Rattle.lex_machine.specs.Glances.{Leads};
 ghost use Rattle.lexscan_window.specs.Intakes.{sink_of, sink_name, can_write};
@@ -7,7 +7,7 @@ ghost use Rattle.lexscan_window.specs.Ends.{SinkLeft};
 ghost use Rattle.lex_machine.specs.Views.{statement_of};
 ghost use Rattle.lexscan_window.specs.Acts.{said};
 ghost use Rattle.lexscan_matching.specs.Glanced.{names_rule, begun, all_said, all_begun, condition_after, written_by};
-ghost use Rattle.lexscan_matching.specs.Glanced.{IsGlancedMatch};
+ghost use Rattle.lexscan_matching.specs.Glanced.{IsGlancedMatch, IsLongestPart, IsNearMatch};
 
 use lex_io::Sink;
 use lex_machine::{Gist, Machine, Statement, Way};
@@ -23,101 +23,106 @@ pub struct GlancedMatch<'m> {
 /// How many bytes a walk has at most that is gone over again.
 const FEW: usize = 32;
 
-/// What is told of the match of a walk that is gone over again: by the last state that accepts a rule, or else of the
-/// default rule, which writes one byte.
+/// The longest part of a walk that a rule takes: how many bytes it has, none where there is no such part, and the state
+/// after it.
+#[derive(Clone, Copy)]
+struct LongestPart {
+    keep: usize,
+    state: u32,
+}
+
+/// The longest part of a walk that a rule takes, where the walk is gone over again.
 #[inline(never)]
-fn longest_match_again<'m, M: Machine>(machine: &'m M, first: u32, bytes: &[u8]) -> GlancedMatch<'m>
+fn longest_part<M: Machine>(machine: &M, first: u32, bytes: &[u8]) -> LongestPart
     requires first { first < M.states machine.now }
-    ensures { IsGlancedMatch (M.machine machine.now) first bytes.now (length bytes.now) result }
+    ensures part { IsLongestPart (M.machine machine.now) first bytes.now result }
+    ensures known { result.state < M.states machine.now }
 {
     let mut state = first;
-    // The state after the longest part that a rule takes, and how many bytes that has, if there is one.
-    let mut longest = first;
-    let mut keep = 0usize;
+    let mut longest = LongestPart {
+        keep: 0,
+        state: first,
+    };
     let mut count = 0usize;
     'bytes: while count < bytes.len() {
         state = machine.step(state, bytes[count]);
         count += 1;
         if !machine.accepts(state).is_empty() {
-            longest = state;
-            keep = count;
+            longest = LongestPart { keep: count, state };
         }
     }
-    if keep == 0 {
+    longest
+}
+
+/// What the last two states of a walk tell of its match: the last where it accepts a rule, or else the one before it.
+#[inline(always)]
+pub fn near_match<'m, M: Machine>(machine: &'m M, way: Way<'m>) -> GlancedMatch<'m>
+    requires known_before { way.before < M.states machine.now }
+    ensures { (first : ℕ) (bytes : List ℕ) → Leads (M.machine machine.now) first bytes way.entry
+        → IsNearMatch (M.machine machine.now) first bytes way.entry.count result }
+{
+    if matches!(way.gist, Gist::NoRule) && 1 < way.count {
         return GlancedMatch {
-            gist: Gist::Echo,
-            keep: 1,
+            gist: machine.gist(way.before),
+            keep: way.count - 1,
         };
     }
     GlancedMatch {
-        gist: machine.gist(longest),
-        keep,
+        gist: way.gist,
+        keep: way.count,
     }
 }
 
-/// What is told of the match of a walk: by its last state, by the one before it, or, where it is a short one, by
+/// How many bytes a rule keeps that does nothing, where that is what is told of the match.
+#[inline(always)]
+pub fn silent_part(near: GlancedMatch<'_>) -> Option<usize>
+    ensures { IfSome result (λ keep. near.entry ≡ record { gist = Gist.Silent; keep = keep }) }
+{
+    if matches!(near.gist, Gist::Silent) {
+        Some(near.keep)
+    } else {
+        None
+    }
+}
+
+/// What is told of the match of a walk over so many bytes: by its last two states, or, where it is a short one, by
 /// going over it again.
 #[inline(always)]
 pub fn longest_match<'m, M: Machine>(
     machine: &'m M,
     first: u32,
     bytes: &[u8],
-    way: Way<'m>,
+    count: usize,
+    near: GlancedMatch<'m>,
 ) -> GlancedMatch<'m>
     requires first { first < M.states machine.now }
-    requires known_before { way.before < M.states machine.now }
-    requires leads { Leads (M.machine machine.now) first bytes.now way }
-    ensures { IsGlancedMatch (M.machine machine.now) first bytes.now way.entry.count result }
+    requires count { count ≤ length bytes.now }
+    requires near { IsNearMatch (M.machine machine.now) first bytes.now count near }
+    ensures { IsGlancedMatch (M.machine machine.now) first bytes.now count result }
 {
-    if !matches!(way.gist, Gist::NoRule) {
+    if !matches!(near.gist, Gist::NoRule) {
+        return near;
+    }
+    // A long walk is left to a turn, which marks what it has gone over.
+    if FEW < count {
         return GlancedMatch {
-            gist: way.gist,
-            keep: way.count,
+            gist: Gist::Any,
+            keep: count,
         };
     }
-    if 1 < way.count {
-        let gist = machine.gist(way.before);
-        if !matches!(gist, Gist::NoRule) {
+    if near.keep != 1 {
+        let longest = longest_part(machine, first, &bytes[..count]);
+        if longest.keep != 0 {
             return GlancedMatch {
-                gist,
-                keep: way.count - 1,
+                gist: machine.gist(longest.state),
+                keep: longest.keep,
             };
-        }
-        // A long walk is left to a turn, which marks what it has gone over.
-        if FEW < way.count {
-            return GlancedMatch {
-                gist: Gist::Any,
-                keep: way.count,
-            };
-        }
-        if 2 < way.count {
-            return longest_match_again(machine, first, &bytes[..way.count]);
         }
     }
     GlancedMatch {
         gist: Gist::Echo,
         keep: 1,
     }
-}
-
-/// How many bytes of a walk a rule keeps that does nothing, where the last state of the walk tells it or the one
-/// before it.
-#[inline(always)]
-pub fn silent_part<M: Machine>(machine: &M, way: Way<'_>) -> Option<usize>
-    requires known_before { way.before < M.states machine.now }
-    ensures { IfSome result (λ keep. (first : ℕ) (bytes : List ℕ) → Leads (M.machine machine.now) first bytes way.entry
-        → IsGlancedMatch (M.machine machine.now) first bytes way.entry.count (record { gist = Gist.Silent; keep = keep })) }
-{
-    if matches!(way.gist, Gist::Silent) {
-        return Some(way.count);
-    }
-    if matches!(way.gist, Gist::NoRule)
-        && 1 < way.count
-        && matches!(machine.gist(way.before), Gist::Silent)
-    {
-        return Some(way.count - 1);
-    }
-    None
 }
 
 /// Whether a rule is told.

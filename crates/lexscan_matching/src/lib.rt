@@ -21,6 +21,8 @@
 //! - A burst goes back over at most 32 bytes to find the last accepting state. Where there are more it ends, so that no
 //!   byte is walked over more than a fixed number of times.
 //! - A rule that does nothing is asked for first: its match changes three numbers, which stay in registers.
+//! - What a burst asks for of a long walk is answered in two numbers (`longest_part`). Where an answer goes through memory,
+//!   the compiler asks of each match twice what its rule does.
 //! - Where some rule has REJECT there are no marks. Its matches are tried one after another, which may take time in
 //!   the square of the text, whatever is known of walks. A machine may leave out the rules that do nothing but REJECT.
 //! - A walk marks the last state on its way where a rule may fit, or that there is none, as the machine knows it
@@ -39,7 +41,7 @@ mod pick;
 pub use back::{Ahead, Settled, look};
 pub use descent::descend;
 pub use front::{accepted, longest};
-pub use glanced::{GlancedMatch, do_gist, longest_match, names_rule, silent_part};
+pub use glanced::{GlancedMatch, do_gist, longest_match, names_rule, near_match, silent_part};
 pub use last_states::{look_ahead_last, look_ahead_more};
 pub use looking::look_ahead;
 pub use pick::{LookAhead, Pick, carry_pick, near_end, walk_again};

@@ -1,14 +1,43 @@
-use Rattle.std.proofs.Common.{ℕ, List, take, subst}
-use Rattle.std.proofs.lemmas.List.{length-take-le}
-use Rattle.lex_semantics.specs.Machine.{Machine}
-use Rattle.lexscan_matching.specs.Glanced.{IsGlancedMatch}
-use Rattle.lexscan_matching.proofs.Telling.{tells_front}
+use Rattle.std.proofs.Common.{◌≡◌, ℕ, List, [], take, inl, inr, refl, subst, arith}
+use Rattle.lex_semantics.specs.Machine.{Machine, walk}
+use Rattle.lex_machine.specs.declared.glance.Gist.{Gist}
+use Rattle.lex_machine.specs.declared.glance.Gist.TheVariants.{NoRule}
+use Rattle.lex_machine.specs.Glances.{Gists}
+use Rattle.lexscan_matching.specs.Glanced.{NoneAfter}
+use Rattle.lexscan_matching.proofs.Telling as Tell
+use Rattle.lexscan_matching.proofs.glanced.longest_match.Goals.{in-NoRule, in_default, then-near-ne1+else-longest-ne0, else-near-ne1}
 use Rattle.lexscan_matching.proofs.glanced.longest_match.Goals as goal
 
-pub returns-then-way-gt2 : goal.returns-then-way-gt2
-returns-then-way-gt2 g c =
-    let M : Machine = g.M.Machine.machine c.args.machine.now in
-    let bytes : List ℕ = c.args.bytes.now in
-    let n : ℕ = c.args.way.count in
-    tells_front M c.args.first bytes n c.longest_match_again.result
-    (subst (λ k. IsGlancedMatch M c.args.first (take n bytes) k c.longest_match_again.result) (length-take-le n bytes c.requires.leads.inside) c.longest_match_again.ensures)
+pub returns-then-longest-ne0 : goal.returns-then-longest-ne0
+returns-then-longest-ne0 g c =
+    Tell.part_tells (g.M.Machine.machine c.args.machine.now) c.args.first c.args.bytes.now c.args.count c.requires.count c.longest_part-longest.result c.longest_part-longest.ensures.part
+    c.gist.result (omega (arith, c.if-longest-ne0.true)) c.gist.ensures
+
+pub returns : goal.returns
+returns g c = inr (inl (refl, refl, none))
+  where
+    M : Machine
+    M = g.M.Machine.machine c.args.machine.now
+
+    bytes : List ℕ
+    bytes = c.args.bytes.now
+
+    no_rule : c.args.near.gist ≡ NoRule
+    no_rule = elim c.match-matches.branch [
+      | in-NoRule w ↦ w.in-NoRule.is
+      | in_default w ↦ absurd cc
+    ]
+
+    first_none : c.args.near.keep ≡ 1 → M.accepts (walk M c.args.first (take 1 bytes)) ≡ []
+    first_none one =
+        subst (λ (gist : Gist). Gists M (walk M c.args.first (take 1 bytes)) gist) no_rule
+        (subst (λ k. Gists M (walk M c.args.first (take k bytes)) c.args.near.gist) one c.requires.near.3)
+
+    none : NoneAfter M c.args.first bytes 0 c.args.count
+    none = elim c.if-near-ne1.branch [
+      | then-near-ne1+else-longest-ne0 w ↦ Tell.part_none M c.args.first bytes c.args.count c.requires.count w.longest_part-longest.result w.longest_part-longest.ensures.part (omega (arith, w.if-longest-ne0.false))
+      | else-near-ne1 w ↦ (
+          let one : c.args.near.keep ≡ 1 = omega (arith, w.if-near-ne1.false) in
+          Tell.none_first M c.args.first bytes c.args.count (subst (λ k. NoneAfter M c.args.first bytes k c.args.count) one c.requires.near.2) (first_none one)
+          )
+    ]
