@@ -13,11 +13,18 @@ use Rattle.lexscan_window.specs.declared.state.State.{State}
 use Rattle.lexscan_window.specs.declared.error.RunError.{RunError}
 use Rattle.lexscan_window.specs.declared.error.RunError.TheVariants.{Write}
 use Rattle.lexscan.specs.declared.burst.Burst.{Burst}
+use Rattle.lexscan.specs.declared.starts.Starts.{Starts}
 use Rattle.lexscan.specs.TurnInvariants.{TurnInvariant, AfterRefusal}
 
 -- whether a line starts after so many bytes of a text, where one starts at its front or not (flex, Patterns: `^`)
 abbrev pub starts_line : Bool → List ℕ → ℕ → Bool
 starts_line line text count = if count == 0 then line else get_or text (count - 1) 0 == 10
+
+-- the states, below a number, where a match starts in a condition: inside a line, and at the start of one
+pub record AreStarts (M : Machine) (states condition : ℕ) (s : Starts) : Type 0 where
+  pub inside : s.inside ≡ M.start condition false
+  pub at_line : s.at_line ≡ M.start condition true
+  pub known : (s.inside < states) × (s.at_line < states)
 
 -- Some of the first bytes were passed, each a match by itself of this kind, and these are left. (This project's.)
 pub record Passed (Is : Machine → ℕ → ℕ → Type 0) (M : Machine) (condition first : ℕ) (bytes left : List ℕ) : Type 0

@@ -1,6 +1,6 @@
 -- Several turns in one go, each told at a glance, and the tokens that they tell. (POSIX, lex, Rules in lex: which
 -- matches these are. That tokens are kept in few bytes is this project's.)
-use Rattle.std.specs.Prelude.{◌≡◌, ℕ, ◌+◌, ◌-◌, ◌^◌, ◌<◌, ◌≤◌, Bool, true, false, List, [], ◌∷◌, ◌++◌, length, take, drop}
+use Rattle.std.specs.Prelude.{◌≡◌, ℕ, ◌+◌, ◌-◌, ◌^◌, ◌<◌, ◌≤◌, Bool, false, List, [], ◌∷◌, ◌++◌, length, take, drop}
 use Rattle.lex_semantics.specs.Demand.{Consistent}
 use Rattle.lex_semantics.specs.Machine.{Machine, rules_of_machine}
 use Rattle.lexscan_window.specs.declared.matched.MatchedRule.TheVariants.{Numbered}
@@ -17,7 +17,6 @@ use Rattle.lexscan.specs.declared.glance.ToldMatch.{ToldMatch}
 use Rattle.lexscan.specs.declared.scan.Scan.{Scan}
 use Rattle.lexscan.specs.declared.series.BriefToken.{BriefToken}
 use Rattle.lexscan.specs.declared.series.Listed.{Listed}
-use Rattle.lexscan.specs.declared.series.Starts.{Starts}
 use Rattle.lexscan.specs.declared.token.Token.{Token}
 
 -- the token that begins there
@@ -34,12 +33,6 @@ end_of start (t ∷ ts) = end_of (start + t.length) ts
 abbrev pub drawn_out : ℕ → List BriefToken → List Token
 drawn_out start [] = []
 drawn_out start (t ∷ ts) = token_from start t ∷ drawn_out (start + t.length) ts
-
--- the states, below a number, where a match starts in a condition: inside a line, and at the start of one
-pub record AreStarts (M : Machine) (states condition : ℕ) (s : Starts) : Type 0 where
-  pub inside : s.inside ≡ M.start condition false
-  pub at_line : s.at_line ≡ M.start condition true
-  pub known : (s.inside < states) × (s.at_line < states)
 
 -- the token of a match that is told, which is made in this condition
 abbrev pub IsBrief : ToldMatch → ℕ → BriefToken → Type 0

@@ -5,9 +5,10 @@ ghost use Rattle.lexscan.specs.Bursts.{starts_line, BurstMade};
 ghost use Rattle.lexscan_matching.specs.Glanced.{names_rule};
 
 use crate::singles::{pass_copied, pass_dropped, singles_after};
+use crate::starts::{start_at, starts_after, starts_in};
 use lex_io::Sink;
 use lex_machine::{Gist, Machine};
-use lexscan_matching::{do_gist, longest_match, names_rule, silent_part};
+use lexscan_matching::{do_gist, longest_match, names_rule, near_match, silent_part};
 use lexscan_window::{Outlet, TextPlace};
 
 /// Where some turns over a text led: how many bytes they are done with, how many they asked for, the start of a line
@@ -81,32 +82,36 @@ fn burst_by<M: Machine, K: Sink>(
     let mut singles = passing && machine.has_singles(condition);
     let mut passed = 0usize;
     let mut fault = false;
-    let mut first = machine.start(condition, place.line_start);
+    let mut starts = starts_in(machine, condition);
+    let mut first = start_at(starts, place.line_start);
     'turns: while !rest.is_empty() {
         let Some(way) = machine.way(first, rest) else {
             break 'turns;
         };
-        if let Some(keep) = silent_part(machine, way) {
+        let near = near_match(machine, way);
+        if let Some(keep) = silent_part(near) {
             unasked = unasked.min(rest.len() - way.count);
-            first = machine.start(condition, rest[keep - 1] == b'\n');
+            first = start_at(starts, rest[keep - 1] == b'\n');
             let left = &rest[keep..];
             rest = pass_dropped(machine, singles, condition, first, left);
             passed = passed.wrapping_add(left.len() - rest.len());
             continue 'turns;
         }
-        let longest = longest_match(machine, first, rest, way);
+        let longest = longest_match(machine, first, rest, way.count, near);
         if !names_rule(longest.gist) {
             break 'turns;
         }
-        unasked = unasked.min(rest.len() - way.count);
         let said = &rest[..longest.keep];
-        let Ok(after) = do_gist(outlet, longest.gist, said, condition) else {
+        let done = do_gist(outlet, longest.gist, said, condition);
+        unasked = unasked.min(rest.len() - way.count);
+        let Ok(after) = done else {
             fault = true;
             break 'turns;
         };
         singles = singles_after(machine, passing, singles, condition, after);
+        starts = starts_after(machine, starts, condition, after);
         condition = after;
-        first = machine.start(condition, said[longest.keep - 1] == b'\n');
+        first = start_at(starts, said[longest.keep - 1] == b'\n');
         let tried = singles && matches!(longest.gist, Gist::Echo);
         let left = &rest[longest.keep..];
         rest = pass_copied(machine, outlet, tried, condition, first, left);

@@ -9,6 +9,7 @@
 //! - `leave`: leaves the place of the match for that of the next one.
 //! - `burst`: many turns in one loop over bytes in memory, where each rule at most writes or sets the condition.
 //! - `singles`: a run of one-byte matches is passed at once, for bursts.
+//! - `starts`: where the matches of a condition start, for bursts and series.
 //! - `texts`: bursts where yymore keeps bytes of the text before a match.
 //! - `glance`: one turn over bytes in memory, whose rule at most writes or sets the condition.
 //! - `series`: many such turns in one loop, which lists their tokens.
@@ -29,7 +30,9 @@
 //! Decided for this room alone; docs/DECISIONS.md has what concerns others (The scanner):
 //!
 //! - A burst keeps the state in which the next match starts, and no flag for the start of a line: each match had to
-//!   wait for that flag.
+//!   wait for that flag. It keeps the two states too in which a match of the condition may start.
+//! - What a burst knows of a match is used at once: the compiler joins each kind of rule with what it does, where
+//!   little stands between.
 //! - How many bytes a burst may look at halves where it used few, down to 64, and doubles where it used all, up to 8,192.
 //! - A burst asks for a run of one-byte matches after a match of any length that does nothing or is ECHO: what follows a
 //!   longer one is as often such a run.
@@ -55,6 +58,7 @@ mod scan;
 mod scanner;
 mod series;
 mod singles;
+mod starts;
 mod texts;
 mod token;
 mod turn;

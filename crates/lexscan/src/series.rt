@@ -1,16 +1,16 @@
 //! A series: turns over bytes that are there, one behind another, whose matches are told at a glance. It lists their tokens, in
 //! few bytes each, and writes nothing.
 ghost use Rattle.std.specs.Prelude.{◌≡◌, ℕ, ◌<◌, ◌≤◌, length, IfSome, None};
-ghost use Rattle.lex_semantics.specs.Machine.{Machine as MachineModel};
 ghost use Rattle.lexscan.specs.Pushes.{IsReachable};
 ghost use Rattle.lexscan.specs.Scans.{IsGoing, ScanInvariant};
-ghost use Rattle.lexscan.specs.Series.{AreStarts, IsBrief, SeriesMade, ListedOver};
+ghost use Rattle.lexscan.specs.Series.{IsBrief, SeriesMade, ListedOver};
 
 use crate::burst::{Burst, Runs, starts_line};
 use crate::find::has_backlog;
 use crate::further::advance;
 use crate::glance::{ToldMatch, told_match};
 use crate::scan::Scan;
+use crate::starts::{start_at, starts_after, starts_in};
 use lex_machine::Machine;
 use lexscan_window::TextPlace;
 
@@ -49,51 +49,6 @@ fn brief_of(told: ToldMatch, condition: u8) -> Option<BriefToken>
         length: told.keep as u16,
         condition,
     })
-}
-
-/// The states where a match starts in a condition: inside a line, and at the start of one.
-#[derive(Clone, Copy)]
-struct Starts {
-    inside: u32,
-    at_line: u32,
-}
-
-/// The states where a match starts in a condition.
-#[inline(always)]
-fn starts_in<M: Machine>(machine: &M, condition: u8) -> Starts
-    requires { condition < (M.machine machine.now).conditions }
-    ensures { AreStarts (M.machine machine.now) (M.states machine.now) condition result }
-{
-    Starts {
-        inside: machine.start(condition, false),
-        at_line: machine.start(condition, true),
-    }
-}
-
-/// The same for the condition after a match, where those of the one before it are known: mostly it is the same condition.
-#[inline(always)]
-fn starts_after<M: Machine>(machine: &M, known: Starts, condition: u8, after: u8) -> Starts
-    requires after { after < (M.machine machine.now).conditions }
-    requires known { AreStarts (M.machine machine.now) (M.states machine.now) condition known }
-    ensures { AreStarts (M.machine machine.now) (M.states machine.now) after result }
-{
-    if after == condition {
-        return known;
-    }
-    starts_in(machine, after)
-}
-
-/// The one of them where a match starts, at the start of a line or not.
-#[inline(always)]
-fn start_at(starts: Starts, line_start: bool) -> u32
-    ensures { (M : MachineModel) (states condition : ℕ) → AreStarts M states condition starts
-        → (result ≡ M.start condition line_start) × (result < states) }
-{
-    if line_start {
-        starts.at_line
-    } else {
-        starts.inside
-    }
 }
 
 /// Turns over a text, of which the first bytes are held and the others are those that wait, as long as each match ends in

@@ -8,7 +8,7 @@ ghost use Rattle.lexscan.specs.Bursts.{IsMoreMatch, BurstMade};
 use crate::burst::{Burst, Runs, burst_over};
 use lex_io::Sink;
 use lex_machine::{Cut, Gist, Machine, Statement, Way};
-use lexscan_matching::{do_gist, longest_match, names_rule};
+use lexscan_matching::{do_gist, longest_match, names_rule, near_match};
 use lexscan_window::{Outlet, TextPlace};
 
 /// Where some turns over a text led, and how many bytes yymore keeps there before the next match. These follow those
@@ -74,7 +74,8 @@ fn text_turn<M: Machine, K: Sink>(
         result.kept }
 {
     let at = place.at;
-    let longest = longest_match(machine, first, &text[at..], way);
+    let near = near_match(machine, way);
+    let longest = longest_match(machine, first, &text[at..], way.count, near);
     if !names_rule(longest.gist) {
         return stopped(held, place, false);
     }

@@ -1,7 +1,8 @@
 use Rattle.std.proofs.Common.{length, ◌+◌, ◌-◌, ◌≡◌, ◌<◌, ◌≤◌, List, ◌++◌, drop}
 use Rattle.std.specs.Prelude.{min}
 use Rattle.lexscan.specs.Bursts.{starts_line}
-use Rattle.lexscan.specs.Series.{AreStarts, SeriesTells, end_of}
+use Rattle.lexscan.specs.Bursts.{AreStarts}
+use Rattle.lexscan.specs.Series.{SeriesTells, end_of}
 use Rattle.lexscan.specs.declared.series.BriefToken.{BriefToken}
 use Rattle.lexscan.proofs.series.series_over.Given as goal
 
