@@ -1,5 +1,5 @@
 //! What the bytes of a match tell of it at a glance, and what its rule does then.
-ghost use Rattle.std.specs.Prelude.{◌≡◌, ℕ, ◌+◌, ◌-◌, ◌<◌, ◌≤◌, List, length, true, map, IfOk, IfSome};
+ghost use Rattle.std.specs.Prelude.{◌≡◌, ℕ, ◌+◌, ◌-◌, ◌<◌, ◌≤◌, List, [], length, true, None, map, IfOk, IfSome};
 ghost use Rattle.lex_io.specs.Sink.{Appended};
 ghost use Rattle.lex_machine.specs.Glances.{Leads};
 ghost use Rattle.lexscan_window.specs.Intakes.{sink_of, sink_name, can_write};
@@ -171,23 +171,30 @@ fn do_one<K: Sink>(
     ensures sink { SinkLeft K.failures (sink_of outlet.old) (sink_of outlet.new) (can_write outlet.new) result }
     ensures condition { IfOk result (λ after. after ≡ begun (statement_of statement.now) condition) }
 {
+    if let Some(said) = said_by(statement, text) {
+        return match put(outlet, said) {
+            Err(e) => Err(e),
+            Ok(()) => Ok(condition),
+        };
+    }
+    // No gist has any other (`are_simple` of lex_machine).
     match statement {
-        Statement::Echo => match put(outlet, text) {
-            Err(e) => Err(e),
-            Ok(()) => Ok(condition),
-        },
-        Statement::Print(bytes) => match put(outlet, bytes.as_slice()) {
-            Err(e) => Err(e),
-            Ok(()) => Ok(condition),
-        },
         Statement::Begin(after) => Ok(*after),
-        // No gist has these (`are_simple` of lex_machine).
-        Statement::More
-        | Statement::Less(_)
-        | Statement::Reject
-        | Statement::End(_)
-        | Statement::Push(_)
-        | Statement::Pop => Ok(condition),
+        _ => Ok(condition),
+    }
+}
+
+/// What a statement writes, where it writes the text or a literal.
+#[inline(always)]
+fn said_by<'t>(statement: &'t Statement, text: &'t [u8]) -> Option<&'t [u8]>
+    ensures some { IfSome result (λ bytes. bytes.now ≡ said (statement_of statement.now) text.now) }
+    ensures none { result ≡ None → said (statement_of statement.now) text.now ≡ [] }
+    ensures stays { IfSome result (λ bytes. (condition : ℕ) → begun (statement_of statement.now) condition ≡ condition) }
+{
+    match statement {
+        Statement::Echo => Some(text),
+        Statement::Print(bytes) => Some(bytes.as_slice()),
+        _ => None,
     }
 }
 
