@@ -5,3 +5,4 @@ pub mod Picking
 pub mod Fronting
 pub mod Barrens
 pub mod Telling
+pub mod Planning

@@ -136,7 +136,7 @@ pub fn names_rule(gist: Gist<'_>) -> bool
 /// Carries out statements that each write the text or a literal, or set the condition; others do nothing. Answers the
 /// condition of the next match.
 #[inline(always)]
-fn do_several<K: Sink>(
+pub fn do_several<K: Sink>(
     outlet: &mut Outlet<'_, K>,
     statements: &[Statement],
     text: &[u8],

@@ -6,6 +6,8 @@
 //! - `descent`: REJECT: tries the matches from the longest down, up to the first whose action does not reject.
 //! - `glanced`: for `burst` of lexscan: a match that is told by its last state, by the one before it or by a short walk,
 //!   and what it does.
+//! - `plan`: for `apart` of lexscan: what a match does whose rule has trailing context, does yymore beside simple
+//!   statements, or rejects the match after them.
 //! - `back`: a match over many bytes that an earlier match has read ahead already; the walk stops where a mark says
 //!   where it leads.
 //! - `front`: the longest match at the front of a text, for callers that walk a machine themselves; no scan uses it.
@@ -37,6 +39,7 @@ mod glanced;
 mod last_states;
 mod looking;
 mod pick;
+mod plan;
 
 pub use back::{Ahead, Settled, look};
 pub use descent::descend;
@@ -45,3 +48,4 @@ pub use glanced::{GlancedMatch, do_gist, longest_match, names_rule, near_match, 
 pub use last_states::{look_ahead_last, look_ahead_more};
 pub use looking::look_ahead;
 pub use pick::{LookAhead, Pick, carry_pick, near_end, walk_again};
+pub use plan::{Plan, do_plan, plan_of};
