@@ -65,10 +65,10 @@ module _ (text : List ℕ) (c far far' : ℕ) (le : c ≤ far) (more : far ≤ f
       ap (take i) (ap (λ n. drop c (take n text)) (sym e) ∙ drop-take c (far' - c) text) ∙ take-take i (far' - c) (drop c text) (omega (arith, le'))
 
 -- no byte is given that is held
-none_given : (text : List ℕ) (held : ℕ) → held ≤ length text → (given : List ℕ) → given ≡ given ++ drop held (take held text)
+pub none_given : (text : List ℕ) (held : ℕ) → held ≤ length text → (given : List ℕ) → given ≡ given ++ drop held (take held text)
 none_given text held inside given = sym (ap (λ l. given ++ l) (drop_all held (take held text) (omega (arith, length-take-le held text inside))) ∙ append-nil given)
 
-untold : {P : Type 0} → false ≡ true → P
+pub untold : {P : Type 0} → false ≡ true → P
 untold e = absurd (no e)
   where
     no : false ≡ true → ⊥

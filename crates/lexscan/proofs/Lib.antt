@@ -6,7 +6,10 @@ pub mod Ranging
 pub mod Refusing
 pub mod Stepping
 pub mod Bursting
+pub mod Matching
+pub mod Planned
 pub mod Chaining
+pub mod Joining
 pub mod Passing
 pub mod Furthering
 pub mod Settling

@@ -43,6 +43,7 @@
 //! - `tokens` fills a list, and is no iterator: a struct cannot borrow from the source and the sink beside it.
 #![tactic(auto)]
 
+mod apart;
 mod asking;
 mod attempt;
 mod burst;

@@ -1,10 +1,11 @@
 //! Bursts over texts that yymore makes longer: matches whose rules do nothing but yymore, and the one after them.
-ghost use Rattle.std.specs.Prelude.{◌≡◌, ℕ, ◌<◌, ◌≤◌, List, [], ◌∷◌, length, drop, true, IfSome};
+ghost use Rattle.std.specs.Prelude.{◌≡◌, ℕ, ◌+◌, ◌^◌, ◌<◌, ◌≤◌, List, [], ◌∷◌, length, drop, true, false, IfSome};
 ghost use Rattle.lex_semantics.specs.Spec.{More};
 ghost use Rattle.lex_machine.specs.Glances.{FirstDoes, Leads};
 ghost use Rattle.lexscan_window.specs.Intakes.{can_write};
 ghost use Rattle.lexscan.specs.Bursts.{IsMoreMatch, BurstMade};
 
+use crate::apart::turn_apart;
 use crate::burst::{Burst, Runs, burst_over};
 use lex_io::Sink;
 use lex_machine::{Cut, Gist, Machine, Statement, Way};
@@ -99,7 +100,7 @@ fn text_turn<M: Machine, K: Sink>(
 
 /// A place where turns stop: all bytes before it are kept.
 #[inline(always)]
-fn stopped(asked: usize, place: TextPlace, fault: bool) -> TextBurst
+pub fn stopped(asked: usize, place: TextPlace, fault: bool) -> TextBurst
     ensures kept { result.kept ≡ place.at }
     ensures done { result.burst.done ≡ 0 }
     ensures asked { result.burst.asked ≡ asked }
@@ -117,6 +118,29 @@ fn stopped(asked: usize, place: TextPlace, fault: bool) -> TextBurst
             runs: Runs::NotLookedFor,
         },
         kept: place.at,
+    }
+}
+
+/// A place where a text has ended, after all bytes before it: none are kept.
+#[inline(always)]
+pub fn ended(asked: usize, place: TextPlace) -> TextBurst
+    ensures kept { result.kept ≡ 0 }
+    ensures done { result.burst.done ≡ place.at }
+    ensures asked { result.burst.asked ≡ asked }
+    ensures line { result.burst.line_start ≡ place.line_start }
+    ensures condition { result.burst.condition ≡ place.condition }
+    ensures fault { result.burst.fault ≡ false }
+{
+    TextBurst {
+        burst: Burst {
+            done: place.at,
+            asked,
+            line_start: place.line_start,
+            condition: place.condition,
+            fault: false,
+            runs: Runs::NotLookedFor,
+        },
+        kept: 0,
     }
 }
 
@@ -208,7 +232,7 @@ fn burst_behind_text<M: Machine, K: Sink>(
 /// Turns over a text, of which the first bytes are held, as `burst_over` makes them, where yymore may keep some bytes
 /// before the first match.
 #[inline(always)]
-pub fn burst_from<M: Machine, K: Sink>(
+fn burst_once<M: Machine, K: Sink>(
     machine: &M,
     outlet: &mut Outlet<'_, K>,
     text: &[u8],
@@ -229,4 +253,162 @@ pub fn burst_from<M: Machine, K: Sink>(
     }
     let burst = burst_over(machine, outlet, text, held, place, looking);
     TextBurst { burst, kept: 0 }
+}
+
+/// The place where some turns over a text led, in what they left of it.
+#[inline(always)]
+fn place_after(went: TextBurst) -> TextPlace
+    ensures at { result.at ≡ went.kept }
+    ensures line { result.line_start ≡ went.burst.line_start }
+    ensures condition { result.condition ≡ went.burst.condition }
+{
+    TextPlace {
+        at: went.kept,
+        line_start: went.burst.line_start,
+        condition: went.burst.condition,
+    }
+}
+
+/// Where some turns over a text led, and then others over what they left of it.
+#[inline(always)]
+fn joined(went: TextBurst, next: TextBurst) -> TextBurst
+    requires fits { went.burst.done + next.burst.asked < 2 ^ 64 }
+    requires inside { next.burst.done ≤ next.burst.asked }
+    ensures kept { result.kept ≡ next.kept }
+    ensures done { result.burst.done ≡ went.burst.done + next.burst.done }
+    ensures asked { result.burst.asked ≡ went.burst.done + next.burst.asked }
+    ensures line { result.burst.line_start ≡ next.burst.line_start }
+    ensures condition { result.burst.condition ≡ next.burst.condition }
+    ensures fault { result.burst.fault ≡ next.burst.fault }
+{
+    let done = went.burst.done;
+    TextBurst {
+        burst: Burst {
+            done: done + next.burst.done,
+            asked: done + next.burst.asked,
+            line_start: next.burst.line_start,
+            condition: next.burst.condition,
+            fault: next.burst.fault,
+            runs: later_runs(went.burst.runs, next.burst.runs),
+        },
+        kept: next.kept,
+    }
+}
+
+/// What is told of the runs of some turns and of others after them.
+#[inline(always)]
+fn later_runs(runs: Runs, next: Runs) -> Runs {
+    match next {
+        Runs::NotLookedFor => runs,
+        told => told,
+    }
+}
+
+/// A turn that is planned, and turns over what follows, as `burst_once` makes them; or none.
+#[inline(always)]
+fn turn_and_burst<M: Machine, K: Sink>(
+    machine: &M,
+    outlet: &mut Outlet<'_, K>,
+    text: &[u8],
+    held: usize,
+    place: TextPlace,
+    looking: bool,
+) -> TextBurst
+    requires live { can_write outlet.old ≡ true }
+    requires condition { place.condition < (M.machine machine.now).conditions }
+    requires held { held ≤ length text.now }
+    requires inside { place.at ≤ held }
+
+    ensures { BurstMade (M.machine machine.now) outlet.old outlet.new text.now held place.at place result.burst
+        result.kept }
+{
+    let turn = turn_apart(machine, outlet, text, held, place);
+    let done = turn.burst.done;
+    if turn.burst.fault || done + turn.kept <= place.at {
+        return turn;
+    }
+    let left = &text[done..];
+    let next = burst_once(
+        machine,
+        outlet,
+        left,
+        turn.burst.asked - done,
+        place_after(turn),
+        looking,
+    );
+    joined(turn, next)
+}
+
+/// Turns that are planned, each with those over what follows it, as long as such a turn may be made.
+#[inline(never)]
+fn burst_on<M: Machine, K: Sink>(
+    machine: &M,
+    outlet: &mut Outlet<'_, K>,
+    text: &[u8],
+    held: usize,
+    place: TextPlace,
+    looking: bool,
+) -> TextBurst
+    requires live { can_write outlet.old ≡ true }
+    requires condition { place.condition < (M.machine machine.now).conditions }
+    requires held { held ≤ length text.now }
+    requires inside { place.at ≤ held }
+
+    ensures { BurstMade (M.machine machine.now) outlet.old outlet.new text.now held place.at place result.burst
+        result.kept }
+{
+    let mut went = stopped(held, place, false);
+    'turns: while went.burst.done + went.kept < text.len() {
+        let done = went.burst.done;
+        let left = &text[done..];
+        let turn = turn_and_burst(
+            machine,
+            outlet,
+            left,
+            went.burst.asked - done,
+            place_after(went),
+            looking,
+        );
+        let all = joined(went, turn);
+        if turn.burst.fault || turn.burst.done + turn.kept <= went.kept {
+            return all;
+        }
+        went = all;
+    }
+    went
+}
+
+/// Turns over a text, of which the first bytes are held: those that are told at a glance, and those that are planned.
+#[inline(always)]
+pub fn burst_from<M: Machine, K: Sink>(
+    machine: &M,
+    outlet: &mut Outlet<'_, K>,
+    text: &[u8],
+    held: usize,
+    place: TextPlace,
+    looking: bool,
+) -> TextBurst
+    requires live { can_write outlet.old ≡ true }
+    requires condition { place.condition < (M.machine machine.now).conditions }
+    requires held { held ≤ length text.now }
+    requires inside { place.at ≤ held }
+
+    ensures { BurstMade (M.machine machine.now) outlet.old outlet.new text.now held place.at place result.burst
+        result.kept }
+{
+    let went = burst_once(machine, outlet, text, held, place, looking);
+    let done = went.burst.done;
+    if went.burst.fault || text.len() <= done + went.kept {
+        return went;
+    }
+    let left = &text[done..];
+    let next = burst_on(
+        machine,
+        outlet,
+        left,
+        went.burst.asked - done,
+        place_after(went),
+        looking,
+    );
+    joined(went, next)
 }

@@ -109,8 +109,8 @@ follows_below M len s before second (Some pick) none is h = λ state p w others 
     let here = subst (λ k. IsFirst (filter_map (match_of M (len - 1)) (M.accepts k)) (Some pick)) b.1 h in
     first_after others (falling M 0 (path_of M p w (len - 1))) (Some pick) (subst (IsFirst others) none first)
     (first_same (falling M 0 (path_of M p w (len - 1))) (filter_map (match_of M (len - 1)) (M.accepts (state_at M p w (len - 1))) ++ falling M 0 (path_of M p w (len - 1 - 1))) (Some pick)
-        (falling_last M p w (len - 1) (let two = b.0 in omega (arith, two)) (let inside = a.inside in omega (arith, inside)))
-        (first_before (filter_map (match_of M (len - 1)) (M.accepts (state_at M p w (len - 1)))) (falling M 0 (path_of M p w (len - 1 - 1))) pick here))
+    (falling_last M p w (len - 1) (let two = b.0 in omega (arith, two)) (let inside = a.inside in omega (arith, inside)))
+    (first_before (filter_map (match_of M (len - 1)) (M.accepts (state_at M p w (len - 1)))) (falling M 0 (path_of M p w (len - 1 - 1))) pick here))
 
 -- the statements but for the last, and that
 pub part_is : (ss simple : List Statement) (last : Statement) (close : Close) → 0 < length ss → last ≡ get_or ss (length ss - 1) last → IsClose close (statement_of last) → (close ≡ Close.Plain → ⊥) → simple ≡ take (length ss - 1) ss → map statement_of ss ≡ map statement_of simple ++ closing close

@@ -225,7 +225,11 @@ pub fn plan_of<'m, M: Machine>(machine: &'m M, way: Way<'m>) -> Option<Plan<'m>>
         return None;
     }
     if !machine.accepts(way.state).is_empty() {
-        let before = if 1 < way.count { Some(way.before) } else { None };
+        let before = if 1 < way.count {
+            Some(way.before)
+        } else {
+            None
+        };
         return plan_at(machine, way.state, way.count, before);
     }
     if 1 < way.count {

@@ -1,21 +1,17 @@
-use Rattle.std.proofs.Common.{◌≡◌, sym, subst, arith}
-use Rattle.lexscan.specs.Bursts.{BurstsBy}
+use Rattle.std.proofs.Common.{◌-◌, subst}
+use Rattle.std.proofs.lemmas.List.{take_rest}
+use Rattle.lexscan.specs.Bursts.{BurstMade}
+use Rattle.lexscan.proofs.Joining as Join
 use Rattle.lexscan.proofs.texts.burst_from.Goals as goal
 
 pub returns : goal.returns
 returns g c =
-    let p = c.args.place in
-    let b = c.burst_over-burst.result in
-    let e = c.burst_over-burst.ensures in
-    let none : p.at ≡ 0 = omega (arith, c.if-place-ne0.false) in
-    record {
-      same = e.same;
-      bursts = subst (λ k. BurstsBy b.fault (g.M.Machine.machine c.args.machine.now) g.K.Sink.wrote c.args.outlet.now.sink.now c.burst_over-burst.new.outlet.sink.now c.args.text.now c.args.held k p.condition p.line_start b 0) (sym none) e.bursts;
-      failures = e.failures;
-      live = e.live;
-      condition = e.condition;
-      no_earlier = omega (arith, none);
-      kept = e.kept;
-      held = e.held;
-      asked = e.asked;
-    }
+    let M = g.M.Machine.machine c.args.machine.now in
+    let text = c.args.text.now in
+    let went = c.burst_once-went.result in
+    let next = c.burst_on-next.result in
+    let at = c.place_after.ensures in
+    let all = c.joined.ensures in
+    Join.joined M g.met.K.Sink.wrote_more c.args.outlet.now c.burst_once-went.new.outlet c.burst_on-next.new.outlet text c.args.held c.args.place c.place_after.result went.burst next.burst c.joined.result.burst went.kept next.kept c.joined.result.kept
+    c.if-went.false c.burst_once-went.ensures (subst (λ l. BurstMade M c.burst_once-went.new.outlet c.burst_on-next.new.outlet l (went.burst.asked - went.burst.done) c.place_after.result.at c.place_after.result next.burst next.kept) (take_rest text went.burst.done) c.burst_on-next.ensures)
+    at.at at.condition at.line all.done all.asked all.condition all.line all.fault all.kept
