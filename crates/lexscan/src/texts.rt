@@ -5,7 +5,7 @@ ghost use Rattle.lex_machine.specs.Glances.{FirstDoes, Leads};
 ghost use Rattle.lexscan_window.specs.Intakes.{can_write};
 ghost use Rattle.lexscan.specs.Bursts.{IsMoreMatch, BurstMade};
 
-use crate::burst::{Burst, Runs, burst_over};
+use crate::burst::{Burst, Runs, Wanted, burst_over};
 use lex_io::Sink;
 use lex_machine::{Cut, Gist, Machine, Statement, Way};
 use lexscan_matching::{do_gist, longest_match, names_rule, near_match};
@@ -163,7 +163,7 @@ fn burst_behind_text<M: Machine, K: Sink>(
     text: &[u8],
     held: usize,
     place: TextPlace,
-    looking: bool,
+    wanted: Wanted,
 ) -> TextBurst
     requires live { can_write outlet.old ≡ true }
     requires condition { place.condition < (M.machine machine.now).conditions }
@@ -190,7 +190,7 @@ fn burst_behind_text<M: Machine, K: Sink>(
         left,
         before.burst.asked - done,
         start,
-        looking,
+        wanted,
     );
     TextBurst {
         burst: Burst {
@@ -214,7 +214,7 @@ pub fn burst_from<M: Machine, K: Sink>(
     text: &[u8],
     held: usize,
     place: TextPlace,
-    looking: bool,
+    wanted: Wanted,
 ) -> TextBurst
     requires live { can_write outlet.old ≡ true }
     requires condition { place.condition < (M.machine machine.now).conditions }
@@ -225,8 +225,8 @@ pub fn burst_from<M: Machine, K: Sink>(
         result.kept }
 {
     if place.at != 0 {
-        return burst_behind_text(machine, outlet, text, held, place, looking);
+        return burst_behind_text(machine, outlet, text, held, place, wanted);
     }
-    let burst = burst_over(machine, outlet, text, held, place, looking);
+    let burst = burst_over(machine, outlet, text, held, place, wanted);
     TextBurst { burst, kept: 0 }
 }

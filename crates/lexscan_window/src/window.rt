@@ -79,7 +79,7 @@ impl Window {
         let held = self.end - start;
         let size = self.buffer.len();
         if self.end == size && 0 < start && held <= start {
-            self.buffer.rotate_left(start);
+            self.buffer.copy_within(start..size, 0);
             self.start = 0;
             self.end = held;
             return Ok(());
