@@ -3,8 +3,8 @@ use Rattle.std.proofs.Common.{[], refl, arith}
 use Rattle.lexscan.proofs.Furthering as Further
 use Rattle.lexscan.proofs.scan.Scan.go_near.Goals as goal
 
-pub returns-then-or : goal.returns-then-or
-returns-then-or g c = record {
+pub returns-then-not-looks : goal.returns-then-not-looks
+returns-then-not-looks g c = record {
   same = grind (arith, common_steps);
   goes_on = ([], [], g.met.S.Source.gave_none _, g.met.K.Sink.wrote_none _, λ e. (refl, e), (0, λ n given out h. Further.no_further (g.M.Machine.machine c.args.machine.now) n given out c.args.self.now.state h));
   ends = grind (arith, common_steps);
