@@ -1,5 +1,6 @@
 //! A burst: turns over a text alone, by its bytes and the machine. It knows of no window and no source.
-ghost use Rattle.std.specs.Prelude.{◌≡◌, ◌-◌, ◌<◌, ◌≤◌, length, true};
+ghost use Rattle.std.specs.Prelude.{◌≡◌, ◌-◌, ◌<◌, ◌≤◌, length, true, IfSome};
+ghost use Rattle.lex_machine.specs.Glances.{Leads};
 ghost use Rattle.lexscan_window.specs.Intakes.{can_write};
 ghost use Rattle.lexscan.specs.Bursts.{starts_line, BurstMade};
 ghost use Rattle.lexscan_matching.specs.Glanced.{names_rule};
@@ -7,7 +8,7 @@ ghost use Rattle.lexscan_matching.specs.Glanced.{names_rule};
 use crate::singles::{pass_copied, pass_dropped, singles_after};
 use crate::starts::{start_at, starts_after, starts_in};
 use lex_io::Sink;
-use lex_machine::{Gist, Machine};
+use lex_machine::{Gist, Machine, Way};
 use lexscan_matching::{do_gist, longest_match, names_rule, near_match, silent_part};
 use lexscan_window::{Outlet, TextPlace};
 
@@ -34,6 +35,20 @@ pub enum Runs {
     Many,
 }
 
+/// Which turns a burst is asked for.
+#[derive(Clone, Copy)]
+pub enum Wanted {
+    /// All, turn by turn.
+    Turns,
+    /// All, where a run of one-byte matches is passed at once.
+    Runs,
+    /// Those that go over few bytes, with such runs.
+    Near,
+}
+
+/// How many bytes a match goes over at most, where those alone are asked for that go over few.
+const MOST_NEAR: usize = 32;
+
 /// Whether a line starts after so many bytes of a text, where one starts at its front or not.
 pub fn starts_line(line_start: bool, text: &[u8], count: usize) -> bool
     requires { count ≤ length text.now }
@@ -58,8 +73,25 @@ fn runs_of(passing: bool, done: usize, passed: usize) -> Runs {
     }
 }
 
+/// The walk of a match, where it goes over so many bytes at most.
+#[inline(always)]
+fn way_within<'m, M: Machine>(
+    machine: &'m M,
+    first: u32,
+    bytes: &[u8],
+    most: usize,
+) -> Option<Way<'m>>
+    requires first { first < M.states machine.now }
+    ensures way { IfSome result (Leads (M.machine machine.now) first bytes.now) }
+    ensures known { IfSome result (λ way. way.state < M.states machine.now) }
+    ensures known_before { IfSome result (λ way. way.before < M.states machine.now) }
+{
+    machine.way(first, &bytes[..bytes.len().min(most)])
+}
+
 /// Turns over a text, of which the first bytes are held and the others are those that the source has ready, as long
-/// as each match ends in the text and its rule is told at a glance. A run of one-byte matches may be passed at once.
+/// as each match goes over so many bytes of the text at most, and its rule is told at a glance. A run of one-byte matches
+/// may be passed at once.
 #[inline(always)]
 fn burst_by<M: Machine, K: Sink>(
     machine: &M,
@@ -68,6 +100,7 @@ fn burst_by<M: Machine, K: Sink>(
     held: usize,
     place: TextPlace,
     passing: bool,
+    most: usize,
 ) -> Burst
     requires live { can_write outlet.old ≡ true }
     requires condition { place.condition < (M.machine machine.now).conditions }
@@ -85,7 +118,7 @@ fn burst_by<M: Machine, K: Sink>(
     let mut starts = starts_in(machine, condition);
     let mut first = start_at(starts, place.line_start);
     'turns: while !rest.is_empty() {
-        let Some(way) = machine.way(first, rest) else {
+        let Some(way) = way_within(machine, first, rest, most) else {
             break 'turns;
         };
         let near = near_match(machine, way);
@@ -143,7 +176,7 @@ fn plain_burst<M: Machine, K: Sink>(
 
     ensures { BurstMade (M.machine machine.now) outlet.old outlet.new text.now held 0 place result 0 }
 {
-    burst_by(machine, outlet, text, held, place, false)
+    burst_by(machine, outlet, text, held, place, false, usize::MAX)
 }
 
 /// The same with runs that are passed at once.
@@ -161,17 +194,17 @@ fn passing_burst<M: Machine, K: Sink>(
 
     ensures { BurstMade (M.machine machine.now) outlet.old outlet.new text.now held 0 place result 0 }
 {
-    burst_by(machine, outlet, text, held, place, true)
+    burst_by(machine, outlet, text, held, place, true, usize::MAX)
 }
 
-/// The same. Runs are passed where they are looked for, and most bytes are one-byte matches in the first condition.
-pub fn burst_over<M: Machine, K: Sink>(
+/// The same with matches alone that go over few bytes, so that none takes long.
+#[inline(never)]
+fn near_burst<M: Machine, K: Sink>(
     machine: &M,
     outlet: &mut Outlet<'_, K>,
     text: &[u8],
     held: usize,
     place: TextPlace,
-    looking: bool,
 ) -> Burst
     requires live { can_write outlet.old ≡ true }
     requires condition { place.condition < (M.machine machine.now).conditions }
@@ -179,7 +212,29 @@ pub fn burst_over<M: Machine, K: Sink>(
 
     ensures { BurstMade (M.machine machine.now) outlet.old outlet.new text.now held 0 place result 0 }
 {
-    if looking && machine.has_singles(place.condition) {
+    burst_by(machine, outlet, text, held, place, true, MOST_NEAR)
+}
+
+/// The same, as it is asked for. Runs are passed where they are looked for, and most bytes are one-byte matches in the
+/// first condition.
+pub fn burst_over<M: Machine, K: Sink>(
+    machine: &M,
+    outlet: &mut Outlet<'_, K>,
+    text: &[u8],
+    held: usize,
+    place: TextPlace,
+    wanted: Wanted,
+) -> Burst
+    requires live { can_write outlet.old ≡ true }
+    requires condition { place.condition < (M.machine machine.now).conditions }
+    requires held { held ≤ length text.now }
+
+    ensures { BurstMade (M.machine machine.now) outlet.old outlet.new text.now held 0 place result 0 }
+{
+    if matches!(wanted, Wanted::Near) {
+        return near_burst(machine, outlet, text, held, place);
+    }
+    if matches!(wanted, Wanted::Runs) && machine.has_singles(place.condition) {
         return passing_burst(machine, outlet, text, held, place);
     }
     plain_burst(machine, outlet, text, held, place)

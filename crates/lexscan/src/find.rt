@@ -10,7 +10,7 @@ use crate::turn::Turn;
 use lex_io::{Sink, Source};
 use lex_machine::Machine;
 use lexscan_matching::{Ahead, LookAhead, look, look_ahead, look_ahead_last, look_ahead_more};
-use lexscan_window::{RunError, State};
+use lexscan_window::{RunError, State, TextPlace};
 
 /// How many bytes a match goes over again at most, before what was known of walks over them is kept.
 const BACKLOG: usize = 32;
@@ -124,7 +124,13 @@ impl Scan {
         requires behind { self.old.state.place.at < length self.old.state.reading.window.bytes }
         ensures { MatchMade (M.machine machine.now) ⊥ ends.old ends.new self.old self.new result }
     {
-        let place = self.state.place;
+        let known = &self.state.place;
+        // Field by field: as one word it would wait for the bytes that the last match has set.
+        let place = TextPlace {
+            at: known.at,
+            line_start: known.line_start,
+            condition: known.condition,
+        };
         let reading = &self.state.reading;
         let held = reading.window.len();
         self.memo.fit(held - place.at);

@@ -4,7 +4,7 @@ ghost use Rattle.lex_semantics.specs.ByteSets.{bit_of};
 ghost use Rattle.lexscan.specs.Bursts.{Advanced};
 ghost use Rattle.lexscan.specs.Scans.{IsGoing, MayTurn, WentFurther};
 
-use crate::burst::{Burst, Runs};
+use crate::burst::{Burst, Runs, Wanted};
 use crate::find::has_backlog;
 use crate::scan::{Ends, Scan};
 use crate::texts::burst_from;
@@ -99,6 +99,28 @@ impl Scan {
         requires ready { MayTurn (M.machine machine.now) ends.old self.old }
         ensures { WentFurther (M.machine machine.now) ends.old ends.new self.old self.new result }
     {
+        let wanted = if in_vain.looks() {
+            Wanted::Runs
+        } else {
+            Wanted::Turns
+        };
+        self.go_by(machine, ends, most, wanted, in_vain)
+    }
+
+    /// The same, by turns of this kind.
+    #[inline(always)]
+    fn go_by<M: Machine, S: Source, K: Sink>(
+        &mut self,
+        machine: &M,
+        ends: &mut Ends<'_, '_, S, K>,
+        most: usize,
+        wanted: Wanted,
+        in_vain: &mut InVain,
+    ) -> Result<usize, RunError>
+        requires going { IsGoing self.old }
+        requires ready { MayTurn (M.machine machine.now) ends.old self.old }
+        ensures { WentFurther (M.machine machine.now) ends.old ends.new self.old self.new result }
+    {
         let held = self.state.reading.window.len();
         // After the end nothing is ready.
         if self.state.reading.at_end {
@@ -113,8 +135,7 @@ impl Scan {
         let shown = self.state.reading.window.show(ends.intake.ahead(), allowed);
         let text = self.state.reading.window.text(shown);
         let place = self.state.place;
-        let looking = in_vain.looks();
-        let went = burst_from(machine, &mut ends.outlet, text, held, place, looking);
+        let went = burst_from(machine, &mut ends.outlet, text, held, place, wanted);
         let burst = went.burst;
         *in_vain = in_vain.after(burst.runs);
         // What no turn has asked for stays with the source.
@@ -145,5 +166,55 @@ impl Scan {
             return Ok(most);
         }
         self.go_further(machine, ends, most, in_vain)
+    }
+
+    /// Goes on as `go_further` does. Over many bytes that an earlier match has asked for, those turns alone are made in
+    /// one go that go over few of them.
+    #[inline(always)]
+    pub fn go_on<M: Machine, S: Source, K: Sink>(
+        &mut self,
+        machine: &M,
+        ends: &mut Ends<'_, '_, S, K>,
+        most: usize,
+        in_vain: &mut InVain,
+        near: &mut InVain,
+    ) -> Result<usize, RunError>
+        requires going { IsGoing self.old }
+        requires ready { MayTurn (M.machine machine.now) ends.old self.old }
+        ensures { WentFurther (M.machine machine.now) ends.old ends.new self.old self.new result }
+    {
+        if has_backlog(&self.state) {
+            return self.go_near(machine, ends, most, near);
+        }
+        self.go_further(machine, ends, most, in_vain)
+    }
+
+    /// Turns over the bytes held that go over few of them each, where the last such bursts made any, and no text is
+    /// kept before the match.
+    fn go_near<M: Machine, S: Source, K: Sink>(
+        &mut self,
+        machine: &M,
+        ends: &mut Ends<'_, '_, S, K>,
+        most: usize,
+        near: &mut InVain,
+    ) -> Result<usize, RunError>
+        requires going { IsGoing self.old }
+        requires ready { MayTurn (M.machine machine.now) ends.old self.old }
+        ensures { WentFurther (M.machine machine.now) ends.old ends.new self.old self.new result }
+    {
+        if !near.looks() || self.state.place.at != 0 {
+            *near = near.after(Runs::NotLookedFor);
+            return Ok(most);
+        }
+        let held = self.state.reading.window.len();
+        let mut runs = InVain::new();
+        let went = self.go_by(machine, ends, 0, Wanted::Near, &mut runs);
+        let made = if self.state.reading.window.len() < held {
+            Runs::Many
+        } else {
+            Runs::Few
+        };
+        *near = near.after(made);
+        went.map(|_| most)
     }
 }

@@ -36,7 +36,10 @@
 //! - How many bytes a burst may look at halves where it used few, down to 64, and doubles where it used all, up to 8,192.
 //! - A burst asks for a run of one-byte matches after a match of any length that does nothing or is ECHO: what follows a
 //!   longer one is as often such a run.
-//! - Marks (`memo` of lexscan_window) are used only where over 128 bytes are held: other matches pay one comparison.
+//! - Marks (`memo` of lexscan_window) are used only where over 32 bytes are held: other matches pay one comparison. There
+//!   a burst makes the turns that go over 32 bytes at most, since a longer walk may come to a mark. Where four such
+//!   bursts in a row made none, the next 64 matches go without.
+//! - The place of a match is read field by field: as one word it would wait for what the last match has set of it.
 //! - A turn keeps only the rule of its match. Where its text begins is worked out from counts, and no byte is copied.
 //! - A token that is told at a glance is looked for among 64 bytes that wait: most are shorter, and each look copies these.
 //! - All marks are dropped where a turn is undone or refused, since its contract says nothing of them.

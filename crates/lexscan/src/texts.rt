@@ -6,7 +6,7 @@ ghost use Rattle.lexscan_window.specs.Intakes.{can_write};
 ghost use Rattle.lexscan.specs.Bursts.{IsMoreMatch, BurstMade};
 
 use crate::apart::turn_apart;
-use crate::burst::{Burst, Runs, burst_over};
+use crate::burst::{Burst, Runs, Wanted, burst_over};
 use lex_io::Sink;
 use lex_machine::{Cut, Gist, Machine, Statement, Way};
 use lexscan_matching::{do_gist, longest_match, names_rule, near_match};
@@ -187,7 +187,7 @@ fn burst_behind_text<M: Machine, K: Sink>(
     text: &[u8],
     held: usize,
     place: TextPlace,
-    looking: bool,
+    wanted: Wanted,
 ) -> TextBurst
     requires live { can_write outlet.old ≡ true }
     requires condition { place.condition < (M.machine machine.now).conditions }
@@ -214,7 +214,7 @@ fn burst_behind_text<M: Machine, K: Sink>(
         left,
         before.burst.asked - done,
         start,
-        looking,
+        wanted,
     );
     TextBurst {
         burst: Burst {
@@ -238,7 +238,7 @@ fn burst_once<M: Machine, K: Sink>(
     text: &[u8],
     held: usize,
     place: TextPlace,
-    looking: bool,
+    wanted: Wanted,
 ) -> TextBurst
     requires live { can_write outlet.old ≡ true }
     requires condition { place.condition < (M.machine machine.now).conditions }
@@ -249,9 +249,9 @@ fn burst_once<M: Machine, K: Sink>(
         result.kept }
 {
     if place.at != 0 {
-        return burst_behind_text(machine, outlet, text, held, place, looking);
+        return burst_behind_text(machine, outlet, text, held, place, wanted);
     }
-    let burst = burst_over(machine, outlet, text, held, place, looking);
+    let burst = burst_over(machine, outlet, text, held, place, wanted);
     TextBurst { burst, kept: 0 }
 }
 
@@ -312,7 +312,7 @@ fn turn_and_burst<M: Machine, K: Sink>(
     text: &[u8],
     held: usize,
     place: TextPlace,
-    looking: bool,
+    wanted: Wanted,
 ) -> TextBurst
     requires live { can_write outlet.old ≡ true }
     requires condition { place.condition < (M.machine machine.now).conditions }
@@ -334,7 +334,7 @@ fn turn_and_burst<M: Machine, K: Sink>(
         left,
         turn.burst.asked - done,
         place_after(turn),
-        looking,
+        wanted,
     );
     joined(turn, next)
 }
@@ -347,7 +347,7 @@ fn burst_on<M: Machine, K: Sink>(
     text: &[u8],
     held: usize,
     place: TextPlace,
-    looking: bool,
+    wanted: Wanted,
 ) -> TextBurst
     requires live { can_write outlet.old ≡ true }
     requires condition { place.condition < (M.machine machine.now).conditions }
@@ -367,7 +367,7 @@ fn burst_on<M: Machine, K: Sink>(
             left,
             went.burst.asked - done,
             place_after(went),
-            looking,
+            wanted,
         );
         let all = joined(went, turn);
         if turn.burst.fault || turn.burst.done + turn.kept <= went.kept {
@@ -386,7 +386,7 @@ pub fn burst_from<M: Machine, K: Sink>(
     text: &[u8],
     held: usize,
     place: TextPlace,
-    looking: bool,
+    wanted: Wanted,
 ) -> TextBurst
     requires live { can_write outlet.old ≡ true }
     requires condition { place.condition < (M.machine machine.now).conditions }
@@ -396,9 +396,10 @@ pub fn burst_from<M: Machine, K: Sink>(
     ensures { BurstMade (M.machine machine.now) outlet.old outlet.new text.now held place.at place result.burst
         result.kept }
 {
-    let went = burst_once(machine, outlet, text, held, place, looking);
+    let went = burst_once(machine, outlet, text, held, place, wanted);
     let done = went.burst.done;
-    if went.burst.fault || text.len() <= done + went.kept {
+    // Near turns stop where one goes over many bytes.
+    if went.burst.fault || text.len() <= done + went.kept || matches!(wanted, Wanted::Near) {
         return went;
     }
     let left = &text[done..];
@@ -408,7 +409,7 @@ pub fn burst_from<M: Machine, K: Sink>(
         left,
         went.burst.asked - done,
         place_after(went),
-        looking,
+        wanted,
     );
     joined(went, next)
 }

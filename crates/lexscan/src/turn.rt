@@ -100,6 +100,24 @@ impl Scan {
         }
     }
 
+    /// One turn of a scan that has neither failed nor ended, for a machine without REJECT.
+    #[inline(always)]
+    pub fn turn_for_run<M: Machine, S: Source, K: Sink>(
+        &mut self,
+        machine: &M,
+        ends: &mut Ends<'_, '_, S, K>,
+    ) -> Result<Turn, RunError>
+        requires no_reject { NoReject (M.machine machine.now) }
+        requires going { IsGoing self.old }
+        requires ready { MayTurn (M.machine machine.now) ends.old self.old }
+        ensures { TurnMade (M.machine machine.now) ⊥ ends.old ends.new self.old self.new result }
+    {
+        if has_backlog(&self.state) {
+            return self.turn_over_backlog(machine, ends);
+        }
+        self.turn_without_reject(machine, ends)
+    }
+
     /// The same over many bytes that an earlier match has asked for.
     #[cold]
     #[inline(never)]

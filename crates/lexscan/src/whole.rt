@@ -6,7 +6,6 @@ ghost use Rattle.lexscan.specs.Ties.{RunHandedOn};
 ghost use Rattle.lexscan.specs.Runs.{Ran, FewReads, FewCounts, RunCounts};
 ghost use Rattle.lexscan.specs.Scans.{IsFresh, RunMade};
 
-use crate::find::has_backlog;
 use crate::further::{InVain, MOST_SHOWN};
 use crate::scan::{Ends, Scan};
 use crate::turn::Turn;
@@ -98,19 +97,12 @@ fn run_without_reject<M: Machine, S: Source, K: Sink>(
 {
     let mut most = MOST_SHOWN;
     let mut in_vain = InVain::new();
+    let mut near = InVain::new();
     'turns: loop {
-        // A burst keeps no marks: over a long backlog its walks would take time in the square of it.
-        if has_backlog(&scan.state) {
-            match scan.turn_over_backlog(machine, ends)? {
-                Turn::Ended(status) => return Ok(status),
-                Turn::Went => {}
-            }
-        } else {
-            most = scan.go_further(machine, ends, most, &mut in_vain)?;
-            match scan.turn_without_reject(machine, ends)? {
-                Turn::Ended(status) => return Ok(status),
-                Turn::Went => {}
-            }
+        most = scan.go_on(machine, ends, most, &mut in_vain, &mut near)?;
+        match scan.turn_for_run(machine, ends)? {
+            Turn::Ended(status) => return Ok(status),
+            Turn::Went => {}
         }
     }
 }

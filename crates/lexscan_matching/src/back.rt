@@ -184,6 +184,7 @@ fn told_by(settled: Settled, len: usize, mark: Mark) -> Settled
 }
 
 /// The mark of a walk that has come to this state, where so many of the bytes held are left.
+#[inline(always)]
 fn find(memo: &Memo, reading: &Reading, left: usize, state: u32) -> Option<Mark>
     ensures { IfSome result (λ m. Among memo.now m × (m.state ≡ state) × (m.place + left ≡ reading.now.taken)) }
 {

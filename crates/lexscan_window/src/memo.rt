@@ -48,7 +48,7 @@ const MOST_CELLS: usize = 4;
 /// Marks at each place that is a multiple of the stride, in a table with a row of cells for each such place, used
 /// over and over as the scan goes on. The cells of a row stand `rows` apart. Where a row is full the rows of the next
 /// table are twice as long, in more memory at first, and then there are half as many. Walks that lead to a match have a
-/// table of the same shape, once there was one.
+/// table of the same shape, once there was one. There is room for the places of `fitting` bytes, this one not counted.
 #[derive(Drop)]
 pub struct Memo {
     cells: Vec<Cell>,
@@ -56,6 +56,7 @@ pub struct Memo {
     rows: usize,
     ways: usize,
     stride: usize,
+    fitting: usize,
     crowded: bool,
     wants_walks: bool,
 }
@@ -141,6 +142,7 @@ impl Memo {
             rows: 1,
             ways: 1,
             stride: BYTES_PER_CELL,
+            fitting: 0,
             crowded: false,
             wants_walks: false,
         }
@@ -157,6 +159,7 @@ impl Memo {
         self.rows = 1;
         self.ways = 1;
         self.stride = BYTES_PER_CELL;
+        self.fitting = 0;
         self.crowded = false;
         self.wants_walks = false;
     }
@@ -166,19 +169,19 @@ impl Memo {
     pub fn fit(&mut self, bytes: usize)
         ensures { (m : Mark) → Among self.new m → Among self.old m ⊎ (m ≡ unmarked) }
     {
-        let wanted = (bytes / BYTES_PER_CELL + 1).saturating_mul(self.density());
         let lacks_walks = self.wants_walks && self.walks.is_empty();
-        if self.cells.len() < wanted || self.crowded || lacks_walks {
-            self.make_room(wanted);
+        if self.fitting <= bytes || self.crowded || lacks_walks {
+            self.make_room(bytes);
         }
     }
 
-    /// The same for so many cells, where there are too few of them, a row was full, or walks have no table.
+    /// The same where there are too few cells, a row was full, or walks have no table.
     #[cold]
     #[inline(never)]
-    fn make_room(&mut self, wanted: usize)
+    fn make_room(&mut self, bytes: usize)
         ensures { (m : Mark) → Among self.new m → Among self.old m ⊎ (m ≡ unmarked) }
     {
+        let wanted = (bytes / BYTES_PER_CELL + 1).saturating_mul(self.density());
         let size = self.cells.len();
         if size < wanted {
             self.lay_out(wanted.saturating_add(wanted / 2));
@@ -236,6 +239,7 @@ impl Memo {
         let dead = Cell::new(0, 0);
         let _ = self.cells.resize(size, dead);
         self.rows = (size / self.ways).max(1);
+        self.fitting = (self.cells.len() / self.density()).saturating_mul(BYTES_PER_CELL);
         self.crowded = false;
         let walks = if self.wants_walks { size } else { 0 };
         self.lay_out_walks(walks);
@@ -263,6 +267,7 @@ impl Memo {
     }
 
     /// The row of a place.
+    #[inline(always)]
     fn row(&self, place: u64) -> Row {
         Row {
             first: (place.wrapping_shr(self.stride.trailing_zeros()) % self.rows as u64) as usize,
@@ -272,6 +277,7 @@ impl Memo {
     }
 
     /// Whether it is marked in a row that a walk from the state leads to no match.
+    #[inline(always)]
     fn has(&self, row: Row, place: u64, state: u32) -> bool
         ensures { result ≡ true → Among self.now (silent place state) }
     {
@@ -291,6 +297,7 @@ impl Memo {
     }
 
     /// The mark in a row of a walk from the state that leads to a match.
+    #[inline(never)]
     fn walk(&self, row: Row, place: u64, state: u32) -> Option<Mark>
         ensures { IfSome result (λ m. Among self.now m × (m.place ≡ place) × (m.state ≡ state)) }
     {
@@ -315,6 +322,7 @@ impl Memo {
     }
 
     /// The mark of this state at this place.
+    #[inline(always)]
     pub fn find(&self, place: u64, state: u32) -> Option<Mark>
         ensures { IfSome result (λ m. Among self.now m × (m.place ≡ place) × (m.state ≡ state)) }
     {

@@ -5,7 +5,7 @@ use Rattle.lexscan_window.specs.declared.state.State.{State}
 use Rattle.lexscan.proofs.Bursting.{grows}
 use Rattle.lexscan.proofs.Furthering as Further
 use Rattle.lexscan_matching.proofs.Barrens.{true_burst}
-use Rattle.lexscan.proofs.scan.Scan.go_further.Goals as goal
+use Rattle.lexscan.proofs.scan.Scan.go_by.Goals as goal
 
 -- the text is made of the bytes held and of those shown
 text_made : (text held bytes ahead given ready : List ℕ) (shown : ℕ) → text ≡ bytes ++ take shown ahead → bytes ≡ held → ahead ≡ take shown given → given ≡ ready → text ≡ held ++ take shown ready
