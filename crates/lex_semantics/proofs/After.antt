@@ -1,5 +1,5 @@
 -- What turns that ask for so much are: turns, and a last one.
-use Rattle.std.proofs.Common.{◌≡◌, ℕ, zero, suc, ◌+◌, ◌≤◌, max, List, length, Some, None, subst}
+use Rattle.std.proofs.Common.{◌≡◌, ℕ, zero, suc, ◌+◌, max, List, None, subst}
 use Rattle.lex_semantics.specs.Rules.{Rules}
 use Rattle.lex_semantics.specs.Run.{State, Turns}
 use Rattle.lex_semantics.specs.Demand.{Asks, AsksFrom}

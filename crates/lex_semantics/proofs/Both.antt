@@ -1,6 +1,6 @@
 -- How a scan stands after n turns is determined; for a machine it exists. So a machine that is a table for a
 -- specification has its turns, demand and run, and the other way round.
-use Rattle.std.proofs.Common.{◌≡◌, ℕ, zero, suc, ◌+◌, ◌-◌, ◌≤◌, ◌<◌, max, Bool, true, false, List, length, take, drop, ◌⊎◌, inl, inr, ◌↔◌, Option, Some, None, refl, sym, ◌∙◌, subst, arith}
+use Rattle.std.proofs.Common.{◌≡◌, ℕ, zero, suc, ◌+◌, max, List, ◌⊎◌, inl, inr, ◌↔◌, Option, Some, None, refl, sym, ◌∙◌, subst, arith}
 use Rattle.lex_semantics.specs.Text.{IsText}
 use Rattle.lex_semantics.specs.Spec.{Spec, rejects}
 use Rattle.lex_semantics.specs.Rules.{Rules, rules_of}

@@ -1,5 +1,5 @@
 -- Each input has, for each number of turns, a state, and what the turns ask for.
-use Rattle.std.proofs.Common.{◌≡◌, ℕ, zero, suc, ◌+◌, ◌-◌, ◌≤◌, ◌<◌, max, Bool, true, false, List, length, ◌⊎◌, inl, inr, ◌↔◌, None, refl, sym, subst, arith}
+use Rattle.std.proofs.Common.{◌≡◌, ℕ, zero, suc, ◌+◌, ◌-◌, ◌≤◌, ◌<◌, max, Bool, List, length, ◌⊎◌, inl, inr, refl, sym, subst, arith}
 use Rattle.lex_semantics.specs.Text.{IsText}
 use Rattle.lex_semantics.specs.Spec.{Spec, rejects}
 use Rattle.lex_semantics.specs.Rules.{Rules, rules_of}
@@ -16,7 +16,7 @@ use Rattle.lex_semantics.specs.Sound.{IsSound}
 use Rattle.lex_semantics.proofs.Cuts.{laws_of}
 use Rattle.lex_semantics.proofs.Exists.{candidates_exist}
 use Rattle.lex_semantics.proofs.SpecRun.{spec_legal}
-use Rattle.lex_semantics.proofs.Ends.{Inside, Moves, turn_exists}
+use Rattle.lex_semantics.proofs.Ends.{Moves, turn_exists}
 use Rattle.lex_semantics.proofs.Step.{one_more, one_more_ended}
 use Rattle.lex_semantics.proofs.Prefix.{asks_here, asks_all}
 use Rattle.lex_semantics.proofs.Reaches.{machine_asks}

@@ -1,5 +1,5 @@
 -- A machine for a specification has its turns, and asks for the same bytes.
-use Rattle.std.proofs.Common.{◌≡◌, ℕ, zero, suc, ◌-◌, ◌≤◌, ◌<◌, Bool, true, false, List, [], ◌∷◌, ◌++◌, length, take, drop, ◌⊎◌, inl, inr, ◌↔◌, Option, Some, None, refl, sym, ◌∙◌, ap, subst, arith}
+use Rattle.std.proofs.Common.{◌≡◌, ℕ, zero, suc, ◌≤◌, ◌<◌, Bool, true, false, List, [], ◌∷◌, ◌++◌, length, take, drop, ◌⊎◌, inl, inr, ◌↔◌, Option, Some, None, refl, sym, ◌∙◌, ap, subst, arith}
 use Rattle.std.specs.Prelude.{slice_get, nat_lt, if◌then◌else◌}
 use Rattle.std.proofs.lemmas.Bool.{cond-true, cond-false, lt-ltb, le-ltb, or_parts, cases_lt}
 use Rattle.lex_semantics.proofs.After.{turns_of}
@@ -270,11 +270,11 @@ turns_to all R Q alike x (suc n) s text (b, h, next) =
 -- what they ask for
 
 module _ (all : Bool) (R Q : Rules) (alike : Alike all R Q) (x : List ℕ) (text : IsText x) where
-  asks_to : (p : Place) (i : ℕ) → p.condition < Q.conditions → AsksAt R x p i → AsksAt Q x p i
+  pub asks_to : (p : Place) (i : ℕ) → p.condition < Q.conditions → AsksAt R x p i → AsksAt Q x p i
   asks_to p i lt (inl e) = inl e
   asks_to p i lt (inr h) = inr ((alike.live p.condition (at_line_start x p.at) (take i (drop p.at x)) lt (is_text_take i (drop p.at x) (is_text_drop p.at x text))).0 h)
 
-  asks_from : (p : Place) (i : ℕ) → p.condition < Q.conditions → AsksAt Q x p i → AsksAt R x p i
+  pub asks_from : (p : Place) (i : ℕ) → p.condition < Q.conditions → AsksAt Q x p i → AsksAt R x p i
   asks_from p i lt (inl e) = inl e
   asks_from p i lt (inr h) = inr ((alike.live p.condition (at_line_start x p.at) (take i (drop p.at x)) lt (is_text_take i (drop p.at x) (is_text_drop p.at x text))).1 h)
 

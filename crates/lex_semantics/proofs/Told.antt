@@ -4,7 +4,7 @@ use Rattle.std.specs.Prelude.{slice_get}
 use Rattle.lex_semantics.specs.Text.{IsText}
 use Rattle.lex_semantics.specs.Acting.{Ending}
 use Rattle.lex_semantics.specs.Run.{State, Turn, NextFrom, first_state}
-use Rattle.lex_semantics.specs.Demand.{Asks, AsksFrom}
+use Rattle.lex_semantics.specs.Demand.{AsksFrom}
 use Rattle.lex_semantics.specs.Scanned.{AfterTurns}
 use Rattle.lex_semantics.specs.Machine.{Machine, rules_of_machine}
 use Rattle.lex_semantics.specs.MachineLaws.{MachineLaws}

@@ -1,6 +1,6 @@
 -- How much the turns ask of the source, when a scanner sees one byte at a time. (This project's; POSIX, lex, says only
 -- which match is taken.)
-use Rattle.std.specs.Prelude.{◌≡◌, ℕ, suc, ◌+◌, ◌≤◌, ◌<◌, Bool, cond, List, length, take, drop, max, ◌⊎◌, ◌↔◌, Option, Some, None}
+use Rattle.std.specs.Prelude.{◌≡◌, ℕ, ◌+◌, ◌≤◌, ◌<◌, Bool, cond, List, length, take, drop, max, ◌⊎◌, ◌↔◌, Option, Some, None}
 use Rattle.lex_semantics.specs.Text.{IsText, BeginsWith, at_line_start}
 use Rattle.lex_semantics.specs.Rules.{Rules}
 use Rattle.lex_semantics.specs.Acting.{Ending}
