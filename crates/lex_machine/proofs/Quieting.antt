@@ -1,5 +1,5 @@
 -- A machine in which rules that only REJECT fit no text keeps the laws, and makes the same turns.
-use Rattle.std.proofs.Common.{◌≡◌, ℕ, zero, suc, ◌-◌, ◌≤◌, ◌<◌, Bool, true, false, List, [], ◌∷◌, ◌++◌, length, take, drop, ◌⊎◌, inl, inr, ◌↔◌, Option, Some, None, refl, sym, ◌∙◌, ap, subst, arith}
+use Rattle.std.proofs.Common.{◌≡◌, ℕ, zero, suc, ◌-◌, ◌≤◌, ◌<◌, Bool, true, false, List, [], ◌∷◌, ◌++◌, length, take, drop, ◌⊎◌, inl, inr, Option, Some, None, refl, sym, ◌∙◌, ap, subst, arith}
 use Rattle.std.specs.Prelude.{nat_lt, map, if◌then◌else◌}
 use Rattle.std.proofs.lemmas.Bool.{cond-true, cond-false, lt-ltb, le-ltb, cases_lt}
 use Rattle.lex_semantics.specs.Text.{Among, Pairwise, at_line_start}
@@ -10,7 +10,8 @@ use Rattle.lex_semantics.specs.Candidates.{Candidate, Before, Candidates}
 use Rattle.lex_semantics.specs.Acting.{Ending, Status, Acting}
 use Rattle.lex_semantics.specs.ActionResults.{act_result, settle, perform_results}
 use Rattle.lex_semantics.specs.Run.{Place, State, MatchTurn, EndTurn, NextFrom, Turns, Run}
-use Rattle.lex_semantics.specs.Demand.{AsksAt, AsksForEnd, FarFrom, Far, EndAsked}
+use Rattle.lex_semantics.specs.Demand.{AsksAt, AsksFrom}
+use Rattle.lex_semantics.specs.Scanned.{AfterTurns}
 use Rattle.lex_semantics.specs.Machine.{Machine, Keeps, rules_of_machine}
 use Rattle.lex_semantics.specs.MachineLaws.{MachineLaws, StaysBelow}
 use Rattle.lex_semantics.specs.ScanLaws.{SameOver}
@@ -112,28 +113,13 @@ module _ (R Q : Rules) (x : List ℕ) (match_to : (p : Place) (s : State) → Ma
   asks_from p i (inl e) = inl e
   asks_from p i (inr h) = inr (live_from p.condition (at_line_start x p.at) (take i (drop p.at x)) h)
 
-  far_from_to : (s : State) (e : Option Ending) (f g : ℕ) → FarFrom R x s e f g → FarFrom Q x s e f g
-  far_from_to s (Some e) f g h = h
-  far_from_to s None f g (inl h) = inl h
-  far_from_to s None f g (inr (before, r, reach, is)) = inr (
-    before,
-    r,
-    record { inside = reach.inside; asked = λ i lt. (λ less. asks_to s.place i ((reach.asked i lt).0 less), λ asks. (reach.asked i lt).1 (asks_from s.place i asks)) },
-    is,
-  )
+  asks_from_to : (p : Place) (e : Option Ending) (f g : ℕ) → AsksFrom R x p e f g → AsksFrom Q x p e f g
+  asks_from_to p (Some e) f g h = h
+  asks_from_to p None f g (r, asks, is) = (r, λ i. (λ lt. (let k = (asks i).0 lt in (k.0, asks_to p i k.1)), λ (fits, a). (asks i).1 (fits, asks_from p i a)), is)
 
-  far_to : (n f : ℕ) → Far R x n f → Far Q x n f
-  far_to zero f h = h
-  far_to (suc n) g (s, f, turns, far, step) = (s, f, turns_to n s turns, far_to n f far, far_from_to s s.ended f g step)
-
-  end_to : (p : Place) → AsksForEnd R x p → AsksForEnd Q x p
-  end_to p (inl e) = inl e
-  end_to p (inr h) = inr (h.0, asks_to p (length x - p.at) h.1)
-
-  end_asked_to : (n : ℕ) → EndAsked R x n → EndAsked Q x n
-  end_asked_to zero h = h
-  end_asked_to (suc n) (inl h) = inl (end_asked_to n h)
-  end_asked_to (suc n) (inr (s, turns, going, asks)) = inr (s, turns_to n s turns, going, end_to s.place asks)
+  after_to : (n : ℕ) (s : State) (asked : ℕ) → AfterTurns R x n s asked → AfterTurns Q x n s asked
+  after_to zero s asked h = h
+  after_to (suc n) s asked (b, before, h, next, asks) = (b, before, after_to n b before h, next_to b s b.ended next, asks_from_to b.place b.ended before asked asks)
 
   run_to : (w : List ℕ) (d : Ending) → Run R x w d → Run Q x w d
   run_to w d (n, p, h) = (n, p, turns_to n (record { written = w; place = p; ended = Some d }) h)
@@ -302,19 +288,9 @@ module _ (M : Machine) where
 pub same_quiet : (M : Machine) → MachineLaws M → (x : List ℕ) → SameOver (rules_of_machine (quiet M)) (rules_of_machine M) x
 same_quiet M laws x = record {
   turns = λ n s. (turns_to Q R x loud_to ends (λ c b w h. h) (λ c b w h. h) n s, turns_to R Q x quiet_to ends (λ c b w h. h) (λ c b w h. h) n s);
-  far = λ n f. (far_to Q R x loud_to ends (λ c b w h. h) (λ c b w h. h) n f, far_to R Q x quiet_to ends (λ c b w h. h) (λ c b w h. h) n f);
-  end_asked = ends_asked;
-  after = λ n s far asked. (
-    λ h. record {
-      turns = turns_to Q R x loud_to ends (λ c b w g. g) (λ c b w g. g) n s h.turns;
-      reaches = far_to Q R x loud_to ends (λ c b w g. g) (λ c b w g. g) n far h.reaches;
-      end = (λ is. (ends_asked n).0 (h.end.0 is), λ asks. h.end.1 ((ends_asked n).1 asks));
-    },
-    λ h. record {
-      turns = turns_to R Q x quiet_to ends (λ c b w g. g) (λ c b w g. g) n s h.turns;
-      reaches = far_to R Q x quiet_to ends (λ c b w g. g) (λ c b w g. g) n far h.reaches;
-      end = (λ is. (ends_asked n).1 (h.end.0 is), λ asks. h.end.1 ((ends_asked n).0 asks));
-    },
+  after = λ n s asked. (
+    after_to Q R x loud_to ends (λ c b w h. h) (λ c b w h. h) n s asked,
+    after_to R Q x quiet_to ends (λ c b w h. h) (λ c b w h. h) n s asked,
   );
   run = λ w d. (run_to Q R x loud_to ends (λ c b v h. h) (λ c b v h. h) w d, run_to R Q x quiet_to ends (λ c b v h. h) (λ c b v h. h) w d);
 }
@@ -333,6 +309,3 @@ same_quiet M laws x = record {
 
     ends : (c : ℕ) → M.ending c ≡ M.ending c
     ends c = refl
-
-    ends_asked : (n : ℕ) → EndAsked Q x n ↔ EndAsked R x n
-    ends_asked n = (end_asked_to Q R x loud_to ends (λ c b w h. h) (λ c b w h. h) n, end_asked_to R Q x quiet_to ends (λ c b w h. h) (λ c b w h. h) n)

@@ -1,5 +1,5 @@
 -- The place never passes what the matches asked for, so what is held is a part of what was taken.
-use Rattle.std.proofs.Common.{◌∙◌, ◌≡◌, ℕ, zero, suc, ◌+◌, ◌-◌, ◌≤◌, ◌<◌, max, Bool, true, false, List, [], ◌∷◌, ◌++◌, length, take, drop, ◌⊎◌, inl, inr, Option, Some, None, refl, sym, subst, arith}
+use Rattle.std.proofs.Common.{◌∙◌, ◌≡◌, ℕ, zero, suc, ◌+◌, ◌-◌, ◌≤◌, ◌<◌, max, min, Bool, true, false, List, [], ◌∷◌, ◌++◌, length, take, drop, ◌⊎◌, inl, inr, Option, Some, None, refl, sym, subst, arith}
 use Rattle.std.proofs.lemmas.List.{length-append, length-take-le, length-take, length-drop}
 use Rattle.lex_semantics.proofs.ResultsAre.{results_are}
 use Rattle.lex_semantics.specs.Text.{IsText, Among, part, at_line_start}
@@ -8,11 +8,11 @@ use Rattle.lex_semantics.specs.Laws.{Laws}
 use Rattle.lex_semantics.specs.Candidates.{Candidate, IsCandidate}
 use Rattle.lex_semantics.specs.Acting.{Ending, Acting}
 use Rattle.lex_semantics.specs.ActionResults.{ActionResult, Done, Again, Over, act_result, settle, perform_results}
-use Rattle.lex_semantics.specs.Run.{Place, State, MatchTurn, NextFrom, Turns, next_start}
-use Rattle.lex_semantics.specs.Scanned.{Covered}
-use Rattle.lex_semantics.specs.Demand.{Reach, FarFrom, Far}
+use Rattle.lex_semantics.specs.Run.{Place, State, MatchTurn, NextFrom, next_start}
+use Rattle.lex_semantics.specs.Scanned.{AfterTurns, Covered}
+use Rattle.lex_semantics.specs.Demand.{Asks, AsksFrom}
 use Rattle.lex_semantics.proofs.Texts.{is_text_drop, take_longer}
-use Rattle.lex_semantics.proofs.Once.{one_state}
+use Rattle.lex_semantics.proofs.Prefix.{asks_some, asks_no_more}
 use Rattle.lex_semantics.proofs.Ends.{no_longer, Leaves}
 
 settle_short : (n : ℕ) (w : ActionResult) (f : Acting → Option Acting) (o : Acting) → Leaves (λ b. length b.text ≤ n) w → ((a : Acting) → f a ≡ Some o → length o.text ≤ n) →
@@ -39,16 +39,16 @@ perform_short R kept y (m ∷ ms) out c cs n o h e =
     (λ b p. perform_short R kept y ms b.written b.condition b.stack n o (λ q i. h q (inr i)) p) e
 
 -- a match is no longer than what it asks for
-len_reached : (R : Rules) (l : Laws R) (x : List ℕ) (p : Place) (r : ℕ) (m : Candidate) → IsText x → p.at < length x → Reach R x p r → IsCandidate R p.condition (at_line_start x p.at) (drop p.at x) m →
+len_asked : (R : Rules) (l : Laws R) (x : List ℕ) (p : Place) (r : ℕ) (m : Candidate) → IsText x → p.at < length x → Asks R x p r → IsCandidate R p.condition (at_line_start x p.at) (drop p.at x) m →
     (m.len ≤ r) ⊎ (r < m.len) → m.len ≤ r
-len_reached R l x p r m text lt reach h (inl le) = le
-len_reached R l x p r m text lt reach h (inr more) = from h.1
+len_asked R l x p r m text lt asks h (inl le) = le
+len_asked R l x p r m text lt asks h (inr more) = from h.1
   where
     n : length (drop p.at x) ≡ length x - p.at
     n = length-drop p.at x
 
     some : 1 ≤ r
-    some = (reach.asked 0 (omega arith)).1 (inl refl)
+    some = asks_some R x p r (omega (arith, lt)) asks
 
     size : length (take m.len (drop p.at x)) ≡ m.len
     size = length-take-le m.len (drop p.at x) h.0
@@ -59,48 +59,45 @@ len_reached R l x p r m text lt reach h (inr more) = from h.1
         let longer = take_longer r m.len (drop p.at x) (omega arith) h.0 in
         let live = l.live_from_full p.condition (at_line_start x p.at) (take r (drop p.at x)) longer.0 m.rule m.keep (longer.3 (is_text_drop p.at x text)) (omega (arith, longer.2))
         (subst (λ w. R.full p.condition (at_line_start x p.at) w m.rule m.keep) longer.1 f.1) in
-        let bad : r < r = (reach.asked r (omega (arith, h.0, n))).1 (inr live) in
-        omega arith
+        absurd (asks_no_more R x p r (omega (arith, more, h.0, n, lt)) asks (inr live))
 
 next_ordered : (p : Place) (a : Acting) (o : Option Ending) (b : Bool) → next_start o b p.start (p.start + length a.text) ≤ p.start + length a.text
 next_ordered p a (Some e) b = omega arith
 next_ordered p a None true = omega arith
 next_ordered p a None false = omega arith
 
-match_covers : (R : Rules) (l : Laws R) (x : List ℕ) (p : Place) (r f : ℕ) (t : State) → IsText x → Covered p f → Reach R x p r → MatchTurn R x p t → Covered t.place (max f (p.at + r))
-match_covers R l x p r f t text h reach turn =
+match_covers : (R : Rules) (l : Laws R) (x : List ℕ) (p : Place) (r f : ℕ) (t : State) → IsText x → Covered p (min f (length x)) → Asks R x p r → MatchTurn R x p t → Covered t.place (min (max f (p.at + r)) (length x))
+match_covers R l x p r f t text h asks turn =
     let line_start : Bool = at_line_start x p.at in
     let kept : length (part x p.start p.at) ≤ p.at - p.start = rw length-take (omega arith) in
-    let bound : (m : Candidate) → Among turn.matches m → m.keep ≤ r = λ m i. keep_bound m ((turn.all.members m).0 i) in
-    let short = perform_short R (part x p.start p.at) (drop p.at x) turn.matches [] p.condition p.stack r turn.outcome bound (sym (results_are _ _ _ _ _ _ _) ∙ turn.performed) in
-    subst (λ (z : State). Covered z.place (max f (p.at + r))) (sym turn.leaves)
-    (record { ordered = next_ordered p turn.outcome turn.outcome.ended turn.outcome.more; covered = omega (arith, h.ordered, kept, short) })
+    let most : ℕ = min r (length x - p.at) in
+    let bound : (m : Candidate) → Among turn.matches m → m.keep ≤ most = λ m i. keep_bound m ((turn.all.members m).0 i) in
+    let short = perform_short R (part x p.start p.at) (drop p.at x) turn.matches [] p.condition p.stack most turn.outcome bound (sym (results_are _ _ _ _ _ _ _) ∙ turn.performed) in
+    subst (λ (z : State). Covered z.place (min (max f (p.at + r)) (length x))) (sym turn.leaves)
+    (record { ordered = next_ordered p turn.outcome turn.outcome.ended turn.outcome.more; covered = omega (arith, h.ordered, h.covered, kept, short, turn.before_end) })
   where
-    keep_bound : (m : Candidate) → IsCandidate R p.condition (at_line_start x p.at) (drop p.at x) m → m.keep ≤ r
+    keep_bound : (m : Candidate) → IsCandidate R p.condition (at_line_start x p.at) (drop p.at x) m → m.keep ≤ min r (length x - p.at)
     keep_bound m k =
-        let len : m.len ≤ r = len_reached R l x p r m text turn.before_end reach k (grind arith) in
-        by_full k.1 len
+        let len : m.len ≤ r = len_asked R l x p r m text turn.before_end asks k (grind arith) in
+        let inside : m.len ≤ length x - p.at = omega (arith, k.0, length-drop p.at x) in
+        by_full k.1 len inside
       where
         size : length (take m.len (drop p.at x)) ≡ m.len
         size = length-take-le m.len (drop p.at x) k.0
 
-        by_full : Full R p.condition (at_line_start x p.at) (take m.len (drop p.at x)) m.rule m.keep → m.len ≤ r → m.keep ≤ r
-        by_full (inl g) len = omega (arith, l.inside p.condition (at_line_start x p.at) (take m.len (drop p.at x)) m.rule m.keep g.1, size)
-        by_full (inr g) len = omega (arith, g.1, g.2, size)
+        by_full : Full R p.condition (at_line_start x p.at) (take m.len (drop p.at x)) m.rule m.keep → m.len ≤ r → m.len ≤ length x - p.at → m.keep ≤ min r (length x - p.at)
+        by_full (inl g) len inside = omega (arith, l.inside p.condition (at_line_start x p.at) (take m.len (drop p.at x)) m.rule m.keep g.1, size, len, inside)
+        by_full (inr g) len inside = omega (arith, g.1, g.2, size, len, inside)
 
-next_covers : (R : Rules) (l : Laws R) (x : List ℕ) (s t : State) (e : Option Ending) (f g : ℕ) → IsText x → Covered s.place f → NextFrom R x s e t → FarFrom R x s e f g → Covered t.place g
-next_covers R l x s t (Some e) f g text h next far = subst (λ n. Covered t.place n) (sym far) (subst (λ (z : State). Covered z.place f) (sym next) h)
-next_covers R l x s t None f g text h (u, inl turn, is) (inl far) = absurd (omega (arith, turn.before_end, far.0))
-next_covers R l x s t None f g text h (u, inl turn, is) (inr (lt, r, reach, far)) =
-    subst (λ n. Covered t.place n) (sym far) (subst (λ (z : State). Covered z.place (max f (s.place.at + r))) (sym is) (match_covers R l x s.place r f u text h reach turn))
-next_covers R l x s t None f g text h (u, inr turn, is) (inr far) = absurd (omega (arith, turn.at_end, far.0))
-next_covers R l x s t None f g text h (u, inr turn, is) (inl far) =
-    subst (λ n. Covered t.place n) (sym far.1) (subst (λ (z : State). Covered z.place f) (sym is)
-    (subst (λ (z : State). Covered z.place f) (sym turn.leaves) (record { ordered = omega arith; covered = h.covered })))
+next_covers : (R : Rules) (l : Laws R) (x : List ℕ) (s t : State) (e : Option Ending) (f g : ℕ) → IsText x → Covered s.place (min f (length x)) → NextFrom R x s e t → AsksFrom R x s.place e f g → Covered t.place (min g (length x))
+next_covers R l x s t (Some e) f g text h next asks = subst (λ n. Covered t.place (min n (length x))) (sym asks) (subst (λ (z : State). Covered z.place (min f (length x))) (sym next) h)
+next_covers R l x s t None f g text h (u, inl turn, is) (r, asks, is_max) =
+    subst (λ n. Covered t.place (min n (length x))) (sym is_max) (subst (λ (z : State). Covered z.place (min (max f (s.place.at + r)) (length x))) (sym is) (match_covers R l x s.place r f u text h asks turn))
+next_covers R l x s t None f g text h (u, inr turn, is) (r, asks, is_max) =
+    subst (λ (z : State). Covered z.place (min g (length x))) (sym is)
+    (subst (λ (z : State). Covered z.place (min g (length x))) (sym turn.leaves) (record { ordered = omega arith; covered = omega (arith, h.covered, is_max) }))
 
 -- After n turns the text starts at or before the place, and the place is not past what the turns asked for.
-pub turns_cover : (R : Rules) (l : Laws R) (x : List ℕ) (n : ℕ) (s : State) (f : ℕ) → IsText x → Turns R x n s → Far R x n f → Covered s.place f
-turns_cover R l x zero s f text turns far = subst (λ (z : State). Covered z.place f) (sym turns) (record { ordered = omega arith; covered = omega arith })
-turns_cover R l x (suc n) s f text (b, turns, next) (c, g, other, far, step) =
-    let same : c ≡ b = one_state R x n c b other turns in
-    next_covers R l x b s b.ended g f text (turns_cover R l x n b g text turns far) next (subst (λ (z : State). FarFrom R x z z.ended g f) same step)
+pub turns_cover : (R : Rules) (l : Laws R) (x : List ℕ) (n : ℕ) (s : State) (asked : ℕ) → IsText x → AfterTurns R x n s asked → Covered s.place (min asked (length x))
+turns_cover R l x zero s asked text h = subst (λ (z : State). Covered z.place (min asked (length x))) (sym h.0) (record { ordered = omega arith; covered = omega arith })
+turns_cover R l x (suc n) s asked text (b, f, h, next, asks) = next_covers R l x b s b.ended f asked text (turns_cover R l x n b f text h) next asks

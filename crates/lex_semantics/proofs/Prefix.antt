@@ -1,4 +1,4 @@
--- Turns, and how far they ask, depend only on the bytes asked for.
+-- Turns, and how much they ask for, depend only on the bytes asked for.
 use Rattle.std.proofs.Common.{◌≡◌, ℕ, zero, suc, ◌+◌, ◌-◌, ◌≤◌, ◌<◌, max, Bool, List, [], ◌++◌, length, take, drop, ◌⊎◌, inl, inr, Option, Some, None, refl, sym, ◌∙◌, ap, subst, arith}
 use Rattle.std.proofs.lemmas.List.{take-append-drop, take-append-le, append-nil, append_assoc, length-append, length-take-le, length-drop, drop-append-le}
 use Rattle.lex_semantics.proofs.ResultsAre.{results_are}
@@ -8,11 +8,11 @@ use Rattle.lex_semantics.specs.Laws.{Laws}
 use Rattle.lex_semantics.specs.Candidates.{Candidate, Candidates}
 use Rattle.lex_semantics.specs.Acting.{Ending, Acting}
 use Rattle.lex_semantics.specs.ActionResults.{perform_results}
-use Rattle.lex_semantics.specs.Run.{Place, State, Turn, MatchTurn, NextFrom, Turns, next_place}
-use Rattle.lex_semantics.specs.Demand.{AsksAt, Reach, AsksForEnd, FarFrom, Far, EndAsked}
+use Rattle.lex_semantics.specs.Run.{Place, State, Turn, MatchTurn, NextFrom, next_place}
+use Rattle.lex_semantics.specs.Demand.{AsksAt, Asks, AsksFrom}
+use Rattle.lex_semantics.specs.Scanned.{AfterTurns}
 use Rattle.lex_semantics.proofs.Texts.{is_text_drop, is_text_right, take_longer, line_start_front, part_front}
 use Rattle.lex_semantics.proofs.Local.{more_input, less_input, keep_inside, same_performed}
-use Rattle.lex_semantics.proofs.Once.{one_state}
 
 -- the bytes that a match saw, and nothing more of the input or nothing more that a match could use
 abbrev pub Suffices : Rules → ℕ → Bool → (v rest : List ℕ) → Type 0
@@ -52,26 +52,30 @@ not_later R l x p r i is_text fits some le dead (inr h) =
     let longer = take_longer r i (drop p.at x) le (omega arith) in
     dead (inr (l.live_shorter p.condition (at_line_start x p.at) (take r (drop p.at x)) longer.0 (longer.3 (is_text_drop p.at x is_text)) (subst (λ w. R.live p.condition (at_line_start x p.at) w) longer.1 h)))
 
--- A match that asked for r bytes, and then for no more, reaches r.
-pub reach_here : (R : Rules) (l : Laws R) (x : List ℕ) (p : Place) (r : ℕ) → IsText x → p.at + r ≤ length x → 1 ≤ r →
-    ((i : ℕ) → i < r → AsksAt R x p i) → (AsksAt R x p r → ⊥) → Reach R x p r
-reach_here R l x p r is_text fits some asked dead = record {
-  inside = fits;
-  asked = λ i lt. (asked i, λ a. below i lt a (grind arith));
-}
+-- A match that asked for r bytes, and then for no more, asks for just these.
+pub asks_here : (R : Rules) (l : Laws R) (x : List ℕ) (p : Place) (r : ℕ) → IsText x → p.at + r ≤ length x → 1 ≤ r →
+    ((i : ℕ) → i < r → AsksAt R x p i) → (AsksAt R x p r → ⊥) → Asks R x p r
+asks_here R l x p r is_text fits some asked dead i = (λ lt. (omega (arith, lt, fits), asked i lt), λ (inside, a). below inside a (grind arith))
   where
-    below : (i : ℕ) → p.at + i < length x → AsksAt R x p i → (i < r) ⊎ (r ≤ i) → i < r
-    below i lt a (inl b) = b
-    below i lt a (inr le) = absurd (not_later R l x p r i is_text (omega arith) some le dead a)
+    below : p.at + i ≤ length x → AsksAt R x p i → (i < r) ⊎ (r ≤ i) → i < r
+    below inside a (inl b) = b
+    below inside a (inr le) = absurd (not_later R l x p r i is_text inside some le dead a)
 
--- and it doesn't ask for the end
-pub end_not_asked : (R : Rules) (l : Laws R) (x : List ℕ) (p : Place) (r : ℕ) → IsText x → p.at + r ≤ length x → 1 ≤ r → (AsksAt R x p r → ⊥) → AsksForEnd R x p → ⊥
-end_not_asked R l x p r is_text fits some dead (inl e) = omega arith
-end_not_asked R l x p r is_text fits some dead (inr h) = not_later R l x p r (length x - p.at) is_text (omega (arith, h.0)) some (omega (arith, h.0)) dead h.1
+-- A turn that asked for every byte up to the input's end, and for the end, asks for all answers.
+pub asks_all : (R : Rules) (x : List ℕ) (p : Place) (r : ℕ) → p.at + r ≡ suc (length x) → ((i : ℕ) → i < r → AsksAt R x p i) → Asks R x p r
+asks_all R x p r all asked i = (λ lt. (omega (arith, lt, all), asked i lt), λ (inside, a). omega (arith, inside, all))
 
--- A match that asked for every byte up to the input's end reaches it.
-pub reach_end : (R : Rules) (x : List ℕ) (p : Place) → p.at ≤ length x → ((i : ℕ) → p.at + i < length x → AsksAt R x p i) → Reach R x p (length x - p.at)
-reach_end R x p fits asked = record { inside = omega arith; asked = λ i lt. (λ h. asked i lt, λ h. omega arith) }
+-- A turn in the input asks for something.
+pub asks_some : (R : Rules) (x : List ℕ) (p : Place) (r : ℕ) → p.at ≤ length x → Asks R x p r → 1 ≤ r
+asks_some R x p r le h = (h 0).1 (omega (arith, le), inl refl)
+
+-- It asks for nothing after that, and no more than there is.
+pub asks_no_more : (R : Rules) (x : List ℕ) (p : Place) (r : ℕ) → p.at + r ≤ length x → Asks R x p r → AsksAt R x p r → ⊥
+asks_no_more R x p r fits h a = let bad : r < r = (h r).1 (fits, a) in omega arith
+
+pub asks_inside : (R : Rules) (x : List ℕ) (p : Place) (r : ℕ) → p.at ≤ length x → Asks R x p r → p.at + r ≤ suc (length x)
+asks_inside R x p zero le h = omega (arith, le)
+asks_inside R x p (suc r) le h = let last = ((h r).0 (omega arith)).0 in omega (arith, last)
 
 -- the bytes from a place on, where more input follows
 module _ (R : Rules) (g a : List ℕ) (p : Place) where
@@ -128,76 +132,46 @@ module _ (R : Rules) (l : Laws R) (g a b : List ℕ) (p : Place) (r : ℕ) (text
       let turn = match_turn R l (g ++ b) p v rb more_b (omega arith) (front_splits R g b p r fits) (omega arith) (inr dead_b) h.matches there h.outcome done in
       subst (MatchTurn R (g ++ b) p) (sym h.leaves) turn
 
-first_asked : (R : Rules) (x : List ℕ) (p : Place) (r : ℕ) → p.at < length x → Reach R x p r → 1 ≤ r
-first_asked R x p r lt h = (h.asked 0 (omega arith)).1 (inl refl)
-
--- A match that doesn't ask for the end asks for nothing after what it reaches.
-reached_dead : (R : Rules) (x : List ℕ) (p : Place) (r : ℕ) → p.at < length x → Reach R x p r → (AsksForEnd R x p → ⊥) → (p.at + r < length x) ⊎ (length x ≤ p.at + r) → AsksAt R x p r → ⊥
-reached_dead R x p r lt h quiet (inl more) a = let bad : r < r = (h.asked r more).1 a in omega arith
-reached_dead R x p r lt h quiet (inr all) a =
-    let fits : p.at + r ≤ length x = h.inside in
-    let same : r ≡ length x - p.at = omega arith in
-    quiet (inr (lt, subst (AsksAt R x p) same a))
-
 -- Two inputs that begin with the bytes g.
 module _ (R : Rules) (l : Laws R) (g a b : List ℕ) (text_a : IsText (g ++ a)) (text_b : IsText (g ++ b)) where
-  -- a turn, what it asks for, and that it doesn't ask for the end
-  AlikeFrom : State → Option Ending → ℕ → ℕ → State → Type 0
-  AlikeFrom s e f h t = NextFrom R (g ++ b) s e t × FarFrom R (g ++ b) s e f h × (s.ended ≡ None → AsksForEnd R (g ++ b) s.place → ⊥)
+  longer_a : length (g ++ a) ≡ length g + length a
+  longer_a = length-append g a
 
-  from_match : (s t u : State) (f h r : ℕ) → h ≤ length g → s.place.at < length (g ++ a) → Reach R (g ++ a) s.place r → h ≡ max f (s.place.at + r) →
-      (AsksForEnd R (g ++ a) s.place → ⊥) → MatchTurn R (g ++ a) s.place u → t ≡ record { written = s.written ++ u.written; place = u.place; ended = u.ended } → AlikeFrom s None f h t
-  unfolding AlikeFrom
-  from_match s t u f h r le lt reach is_max quiet turn is_next =
+  longer_b : length (g ++ b) ≡ length g + length b
+  longer_b = length-append g b
+
+  from_match : (s t u : State) (f h r : ℕ) → h ≤ length g → Asks R (g ++ a) s.place r → h ≡ max f (s.place.at + r) →
+      MatchTurn R (g ++ a) s.place u → t ≡ record { written = s.written ++ u.written; place = u.place; ended = u.ended } → NextFrom R (g ++ b) s None t × AsksFrom R (g ++ b) s.place None f h
+  from_match s t u f h r le asks is_max turn is_next =
       let fits : s.place.at + r ≤ length g = omega arith in
-      let some : 1 ≤ r = first_asked R (g ++ a) s.place r lt reach in
-      let dead : AsksAt R (g ++ a) s.place r → ⊥ = reached_dead R (g ++ a) s.place r lt reach quiet (grind arith) in
+      let some : 1 ≤ r = asks_some R (g ++ a) s.place r (omega (arith, turn.before_end)) asks in
+      let fits_a : s.place.at + r ≤ length (g ++ a) = omega (arith, longer_a) in
+      let fits_b : s.place.at + r ≤ length (g ++ b) = omega (arith, longer_b) in
+      let dead : AsksAt R (g ++ a) s.place r → ⊥ = asks_no_more R (g ++ a) s.place r fits_a asks in
       let dead_b : AsksAt R (g ++ b) s.place r → ⊥ = dead_too R l g a b s.place r text_a text_b fits some dead in
-      let len : length (g ++ b) ≡ length g + length b = length-append g b in
-      let len_a : length (g ++ a) ≡ length g + length a = length-append g a in
-      let fits_b : s.place.at + r ≤ length (g ++ b) = omega arith in
-      let lt_b : s.place.at < length (g ++ b) = omega arith in
-      let asked : (i : ℕ) → i < r → AsksAt R (g ++ b) s.place i = λ i less. asks_front R g b s.place i (omega arith) (front_asks R g a s.place i (omega arith) ((reach.asked i (omega (arith, reach.inside))).0 less)) in
-      let turn_b : MatchTurn R (g ++ b) s.place u = same_turn R l g a b s.place r text_a text_b fits some dead u turn in
-      let reach_b : Reach R (g ++ b) s.place r = reach_here R l (g ++ b) s.place r text_b fits_b some asked dead_b in
-      ((u, inl turn_b, is_next), inr (lt_b, r, reach_b, is_max), λ _. end_not_asked R l (g ++ b) s.place r text_b fits_b some dead_b)
+      let asked : (i : ℕ) → i < r → AsksAt R (g ++ b) s.place i = λ i less. asks_front R g b s.place i (omega arith) (front_asks R g a s.place i (omega arith) ((asks i).0 less).1) in
+      ((u, inl (same_turn R l g a b s.place r text_a text_b fits some dead u turn), is_next), (r, asks_here R l (g ++ b) s.place r text_b fits_b some asked dead_b, is_max))
 
-  from_turn : (s t u : State) (f h : ℕ) → s.ended ≡ None → h ≤ length g → Turn R (g ++ a) s.place u → t ≡ record { written = s.written ++ u.written; place = u.place; ended = u.ended } →
-      FarFrom R (g ++ a) s None f h → (AsksForEnd R (g ++ a) s.place → ⊥) → AlikeFrom s None f h t
-  from_turn s t u f h going le (inr turn) is_next far quiet = absurd (quiet (inl turn.at_end))
-  from_turn s t u f h going le (inl turn) is_next (inl far) quiet = absurd (quiet (inl far.0))
-  from_turn s t u f h going le (inl turn) is_next (inr far) quiet = from_match s t u f h far.1 le far.0 far.2 far.3 quiet turn is_next
+  from_turn : (s t u : State) (f h r : ℕ) → h ≤ length g → Turn R (g ++ a) s.place u → t ≡ record { written = s.written ++ u.written; place = u.place; ended = u.ended } →
+      Asks R (g ++ a) s.place r → h ≡ max f (s.place.at + r) → NextFrom R (g ++ b) s None t × AsksFrom R (g ++ b) s.place None f h
+  from_turn s t u f h r le (inl turn) is_next asks is_max = from_match s t u f h r le asks is_max turn is_next
+  from_turn s t u f h r le (inr turn) is_next asks is_max =
+      let some : 1 ≤ r = asks_some R (g ++ a) s.place r (omega (arith, turn.at_end)) asks in
+      absurd (omega (arith, turn.at_end, longer_a, le, is_max, some))
 
-  alike_next : (s t : State) (e : Option Ending) (f h : ℕ) → s.ended ≡ e → h ≤ length g → NextFrom R (g ++ a) s e t → FarFrom R (g ++ a) s e f h →
-      (s.ended ≡ None → AsksForEnd R (g ++ a) s.place → ⊥) → AlikeFrom s e f h t
-  unfolding AlikeFrom
-  alike_next s t (Some e) f h is le next far quiet = (next, far, λ none _. no_both none is)
-    where
-      no_both : s.ended ≡ None → s.ended ≡ Some e → ⊥
-      no_both p q = cc
-  alike_next s t None f h is le next far quiet = from_turn s t next.0 f h is le next.1 next.2 far (quiet is)
+  alike_next : (s t : State) (e : Option Ending) (f h : ℕ) → h ≤ length g → NextFrom R (g ++ a) s e t → AsksFrom R (g ++ a) s.place e f h →
+      NextFrom R (g ++ b) s e t × AsksFrom R (g ++ b) s.place e f h
+  alike_next s t (Some e) f h le next asks = (next, asks)
+  alike_next s t None f h le (u, turn, is_next) (r, asks, is_max) = from_turn s t u f h r le turn is_next asks is_max
 
-  far_grows : (x : List ℕ) (s : State) (e : Option Ending) (f h : ℕ) → FarFrom R x s e f h → f ≤ h
-  far_grows x s (Some e) f h far = omega arith
-  far_grows x s None f h (inl far) = omega arith
-  far_grows x s None f h (inr far) = omega arith
+  grows : (x : List ℕ) (p : Place) (e : Option Ending) (f h : ℕ) → AsksFrom R x p e f h → f ≤ h
+  grows x p (Some e) f h asks = omega arith
+  grows x p None f h (r, asks, is_max) = omega arith
 
   -- n turns that ask for nothing after these bytes, and not for the end, are the same in both
-  pub same_turns : (n : ℕ) (s : State) (f : ℕ) → f ≤ length g → Turns R (g ++ a) n s → Far R (g ++ a) n f → (EndAsked R (g ++ a) n → ⊥) →
-      Turns R (g ++ b) n s × Far R (g ++ b) n f × (EndAsked R (g ++ b) n → ⊥)
-  unfolding AlikeFrom
-  same_turns zero s f le turns far quiet = (turns, far, λ h. h)
-  same_turns (suc n) s f le turns far quiet =
-      let before : State = turns.0 in
-      let same : far.0 ≡ before = one_state R (g ++ a) n far.0 before far.2 turns.1 in
-      let step : FarFrom R (g ++ a) before before.ended far.1 f = subst (λ (z : State). FarFrom R (g ++ a) z z.ended far.1 f) same far.4 in
-      let grows : far.1 ≤ f = far_grows (g ++ a) before before.ended far.1 f step in
-      let ih = same_turns n before far.1 (omega arith) turns.1 far.3 (λ h. quiet (inl h)) in
-      let next = alike_next before s before.ended far.1 f refl le turns.2 step (λ none asks. quiet (inr (before, turns.1, none, asks))) in
-      let only : (z : State) → Turns R (g ++ b) n z → z ≡ before = λ z k. one_state R (g ++ b) n z before k ih.0 in
-      ((before, ih.0, next.0), (before, far.1, ih.0, ih.1, next.1), λ asked. end_step ih.2 next.2 only asked)
-    where
-      end_step : (EndAsked R (g ++ b) n → ⊥) → (turns.0.ended ≡ None → AsksForEnd R (g ++ b) turns.0.place → ⊥) → ((z : State) → Turns R (g ++ b) n z → z ≡ turns.0) → EndAsked R (g ++ b) (suc n) → ⊥
-      end_step earlier now only (inl h) = earlier h
-      end_step earlier now only (inr h) =
-          now (subst (λ (z : State). z.ended ≡ None) (only h.0 h.1) h.2) (subst (λ (z : State). AsksForEnd R (g ++ b) z.place) (only h.0 h.1) h.3)
+  pub same_turns : (n : ℕ) (s : State) (asked : ℕ) → asked ≤ length g → AfterTurns R (g ++ a) n s asked → AfterTurns R (g ++ b) n s asked
+  same_turns zero s asked le h = h
+  same_turns (suc n) s asked le (before, f, h, next, asks) =
+      let less : f ≤ asked = grows (g ++ a) before.place before.ended f asked asks in
+      let more = alike_next before s before.ended f asked le next asks in
+      (before, f, same_turns n before f (omega arith) h, more.0, more.1)

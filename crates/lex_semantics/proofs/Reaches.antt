@@ -1,17 +1,17 @@
--- How far a match asks: without a gap, in one way, and for a machine as far as the plain program computes.
-use Rattle.std.proofs.Common.{◌≡◌, ℕ, zero, suc, ◌+◌, ◌-◌, ◌≤◌, ◌<◌, Bool, true, false, List, [], ◌∷◌, length, take, drop, ◌⊎◌, inl, inr, refl, sym, ◌∙◌, ap, subst, arith}
+-- What a turn asks for: without a gap, in one way, and of a machine as far as the plain program computes.
+use Rattle.std.proofs.Common.{◌≡◌, ℕ, zero, suc, ◌+◌, ◌-◌, ◌≤◌, ◌<◌, min, Bool, true, false, List, [], ◌∷◌, length, take, drop, ◌⊎◌, inl, inr, refl, sym, ◌∙◌, ap, subst, arith}
 use Rattle.std.specs.Prelude.{if◌then◌else◌}
 use Rattle.std.proofs.lemmas.List.{length-drop}
 use Rattle.lex_semantics.specs.Text.{IsText, at_line_start}
 use Rattle.lex_semantics.specs.Rules.{Rules}
 use Rattle.lex_semantics.specs.Laws.{Laws}
 use Rattle.lex_semantics.specs.Run.{Place}
-use Rattle.lex_semantics.specs.Demand.{AsksAt, Reach}
+use Rattle.lex_semantics.specs.Demand.{AsksAt, Asks}
 use Rattle.lex_semantics.specs.Machine.{Machine, walk, state_after, rules_of_machine}
 use Rattle.lex_semantics.specs.MachineLaws.{MachineLaws}
 use Rattle.lex_semantics.specs.PlainMachine.{reach_from, reach_of}
 use Rattle.lex_semantics.proofs.Texts.{is_text_drop, take_longer}
-use Rattle.lex_semantics.proofs.Prefix.{reach_here, reach_end}
+use Rattle.lex_semantics.proofs.Prefix.{asks_here, asks_all}
 use Rattle.lex_semantics.proofs.MachineLaws.{machine_laws}
 
 -- What is asked for at a place is asked for at each place before.
@@ -23,21 +23,19 @@ no_gap R l x p i j text fits le (inr live) =
     inr (l.live_shorter p.condition (at_line_start x p.at) (take i (drop p.at x)) longer.0 (longer.3 (is_text_drop p.at x text))
     (subst (λ w. R.live p.condition (at_line_start x p.at) w) longer.1 live))
 
-reach_not_less : (R : Rules) (x : List ℕ) (p : Place) (q r : ℕ) → Reach R x p q → Reach R x p r → q < r → ⊥
-reach_not_less R x p q r h k lt =
-    let inside : p.at + r ≤ length x = k.inside in
-    let asked : AsksAt R x p q = (k.asked q (omega arith)).0 lt in
-    let bad : q < q = (h.asked q (omega arith)).1 asked in
+asks_not_less : (R : Rules) (x : List ℕ) (p : Place) (q r : ℕ) → Asks R x p q → Asks R x p r → q < r → ⊥
+asks_not_less R x p q r h k lt =
+    let bad : q < q = (h q).1 ((k q).0 lt) in
     omega arith
 
--- a match reaches in one way
-pub one_reach : (R : Rules) (x : List ℕ) (p : Place) (q r : ℕ) → Reach R x p q → Reach R x p r → q ≡ r
+-- a turn asks for so much in one way
+pub one_reach : (R : Rules) (x : List ℕ) (p : Place) (q r : ℕ) → Asks R x p q → Asks R x p r → q ≡ r
 one_reach R x p q r h k = from (grind arith)
   where
     from : (q < r) ⊎ ((q ≡ r) ⊎ (r < q)) → q ≡ r
-    from (inl lt) = absurd (reach_not_less R x p q r h k lt)
+    from (inl lt) = absurd (asks_not_less R x p q r h k lt)
     from (inr (inl e)) = e
-    from (inr (inr lt)) = absurd (reach_not_less R x p r q k h lt)
+    from (inr (inr lt)) = absurd (asks_not_less R x p r q k h lt)
 
 -- how far the plain program asks from a state on
 
@@ -75,13 +73,17 @@ true_or_false b h k = absurd (no (sym h ∙ k))
     no : true ≡ false → ⊥
     no e = cc
 
--- A match of a machine reaches as far as the plain program says.
-pub machine_reach : (M : Machine) → MachineLaws M → (x : List ℕ) (p : Place) → IsText x → p.at < length x →
-    Reach (rules_of_machine M) x p (reach_of M p.condition (at_line_start x p.at) (drop p.at x))
-machine_reach M laws x p text lt = from (drop p.at x) refl
+-- What a turn of a machine asks for: so many bytes as the plain program says.
+abbrev pub MachineAsks : Machine → List ℕ → Place → Type 0
+MachineAsks M x p = (r : ℕ) × Asks (rules_of_machine M) x p r × (min (p.at + r) (length x) ≡ p.at + reach_of M p.condition (at_line_start x p.at) (drop p.at x))
+
+pub machine_asks : (M : Machine) → MachineLaws M → (x : List ℕ) (p : Place) → IsText x → p.at ≤ length x → MachineAsks M x p
+machine_asks M laws x p text le = from (drop p.at x) refl
   where
-    from : (y : List ℕ) → drop p.at x ≡ y → Reach (rules_of_machine M) x p (reach_of M p.condition (at_line_start x p.at) y)
-    from [] e = let n : length (drop p.at x) ≡ length x - p.at = length-drop p.at x in let z : length (drop p.at x) ≡ 0 = ap length e in absurd (omega arith)
+    from : (y : List ℕ) → drop p.at x ≡ y → (r : ℕ) × Asks (rules_of_machine M) x p r × (min (p.at + r) (length x) ≡ p.at + reach_of M p.condition (at_line_start x p.at) y)
+    from [] e =
+        let z : length x - p.at ≡ 0 = sym (length-drop p.at x) ∙ ap length e in
+        (1, asks_all (rules_of_machine M) x p 1 (omega (arith, z, le)) (λ i less. inl (omega (arith, less))), omega (arith, z, le))
     from (b ∷ y) e = by_end (grind arith)
       where
         line_start : Bool
@@ -103,15 +105,26 @@ machine_reach M laws x p text lt = from (drop p.at x) refl
         asked zero less = inl refl
         asked (suc i) less = inr (subst (λ z. M.goes_on (state_after M p.condition line_start (take (suc i) z)) ≡ true) (sym e) (reach_below M s y i (omega (arith, less))))
 
-        dead : q < length y → AsksAt (rules_of_machine M) x p (suc q) → ⊥
-        dead less (inl z) = omega (arith, z)
-        dead less (inr live) =
+        dead : M.goes_on (walk M s (take q y)) ≡ false → AsksAt (rules_of_machine M) x p (suc q) → ⊥
+        dead stops (inl z) = omega (arith, z)
+        dead stops (inr live) =
             true_or_false (M.goes_on (walk M s (take q y)))
-            (subst (λ z. M.goes_on (state_after M p.condition line_start (take (suc q) z)) ≡ true) e live) (reach_stops M s y less)
+            (subst (λ z. M.goes_on (state_after M p.condition line_start (take (suc q) z)) ≡ true) e live) stops
 
-        by_end : (q < length y) ⊎ (length y ≤ q) → Reach (rules_of_machine M) x p (suc q)
-        by_end (inl less) = reach_here (rules_of_machine M) (machine_laws M laws) x p (suc q) text (omega (arith, size, small, lt)) (omega arith) asked (dead less)
-        by_end (inr all) =
-            let same : length x - p.at ≡ suc q = omega (arith, size, small, all) in
-            subst (Reach (rules_of_machine M) x p) same
-            (reach_end (rules_of_machine M) x p (omega (arith, lt)) (λ i less. asked i (omega (arith, less, same))))
+        one_more : M.goes_on (walk M s (take q y)) ≡ true → (i : ℕ) → i < suc (suc q) → AsksAt (rules_of_machine M) x p i
+        one_more goes i less = by_last (grind arith)
+          where
+            by_last : (i < suc q) ⊎ (i ≡ suc q) → AsksAt (rules_of_machine M) x p i
+            by_last (inl lower) = asked i lower
+            by_last (inr last) = subst (AsksAt (rules_of_machine M) x p) (sym last) (inr (subst (λ z. M.goes_on (state_after M p.condition line_start (take (suc q) z)) ≡ true) (sym e) goes))
+
+        stopped : M.goes_on (walk M s (take q y)) ≡ false → (r : ℕ) × Asks (rules_of_machine M) x p r × (min (p.at + r) (length x) ≡ p.at + suc q)
+        stopped stops = (suc q, asks_here (rules_of_machine M) (machine_laws M laws) x p (suc q) text (omega (arith, size, small, le)) (omega arith) asked (dead stops), omega (arith, size, small, le))
+
+        by_goes : length y ≤ q → (t : Bool) → M.goes_on (walk M s (take q y)) ≡ t → (r : ℕ) × Asks (rules_of_machine M) x p r × (min (p.at + r) (length x) ≡ p.at + suc q)
+        by_goes all false stops = stopped stops
+        by_goes all true goes = (suc (suc q), asks_all (rules_of_machine M) x p (suc (suc q)) (omega (arith, size, small, all, le)) (one_more goes), omega (arith, size, small, all, le))
+
+        by_end : (q < length y) ⊎ (length y ≤ q) → (r : ℕ) × Asks (rules_of_machine M) x p r × (min (p.at + r) (length x) ≡ p.at + suc q)
+        by_end (inl less) = stopped (reach_stops M s y less)
+        by_end (inr all) = by_goes all (M.goes_on (walk M s (take q y))) refl

@@ -13,7 +13,7 @@ use Rattle.lex_semantics.specs.Sound.{IsSound}
 use Rattle.lex_semantics.proofs.Actions.{BeginsBelow, begins_below}
 use Rattle.lex_semantics.proofs.Texts.{is_text_append}
 use Rattle.lex_semantics.proofs.Exists.{candidates_exist}
-use Rattle.lex_semantics.proofs.Table.{Alike, get_at, turns_to, far_to, end_asked_to, after_to, run_to}
+use Rattle.lex_semantics.proofs.Table.{Alike, get_at, turns_to, after_to, run_to}
 
 pub turned_round : (S T : Spec) → SameRules S T → SameRules T S
 turned_round S T same = record {
@@ -57,9 +57,7 @@ module _ (S T : Spec) (sound : IsSound S) (sound' : IsSound T) (same : SameRules
 pub same_over : (S T : Spec) → IsSound S → IsSound T → SameRules S T → (x : List ℕ) → IsText x → SameOver (rules_of S) (rules_of T) x
 same_over S T sound sound' same x text = record {
   turns = λ n s. (λ h. (turns_to true (rules_of S) (rules_of T) on x n s text h).0, λ h. (turns_to true (rules_of T) (rules_of S) back x n s text h).0);
-  far = λ n f. (λ h. far_to true (rules_of S) (rules_of T) on x text n f h, λ h. far_to true (rules_of T) (rules_of S) back x text n f h);
-  end_asked = λ n. (λ h. end_asked_to true (rules_of S) (rules_of T) on x text n h, λ h. end_asked_to true (rules_of T) (rules_of S) back x text n h);
-  after = λ n s f e. (λ h. after_to true (rules_of S) (rules_of T) on x text n s f e h, λ h. after_to true (rules_of T) (rules_of S) back x text n s f e h);
+  after = λ n s asked. (λ h. after_to true (rules_of S) (rules_of T) on x text n s asked h, λ h. after_to true (rules_of T) (rules_of S) back x text n s asked h);
   run = λ w d. (λ h. run_to true (rules_of S) (rules_of T) on x text w d h, λ h. run_to true (rules_of T) (rules_of S) back x text w d h);
 }
   where

@@ -1,5 +1,5 @@
 -- One more turn of a scanner: what it saw of the input is enough for every input that goes on from there.
-use Rattle.std.proofs.Common.{◌≡◌, ℕ, suc, ◌+◌, ◌-◌, ◌≤◌, ◌<◌, max, Bool, true, false, List, [], ◌++◌, length, take, drop, ◌⊎◌, inl, inr, ◌↔◌, Some, None, refl, sym, ◌∙◌, ap, subst, arith}
+use Rattle.std.proofs.Common.{◌≡◌, ℕ, suc, ◌+◌, ◌-◌, ◌≤◌, ◌<◌, max, Bool, true, false, List, [], ◌++◌, length, take, drop, ◌⊎◌, inl, inr, Some, None, refl, sym, ◌∙◌, ap, subst, arith}
 use Rattle.std.proofs.lemmas.List.{append-nil, append_assoc, length-append, length-take-le, length-drop, drop_all}
 use Rattle.lex_semantics.specs.Text.{at_line_start, IsText}
 use Rattle.lex_semantics.specs.Rules.{Rules}
@@ -8,43 +8,26 @@ use Rattle.lex_semantics.specs.Candidates.{Candidates}
 use Rattle.lex_semantics.specs.Acting.{Ending}
 use Rattle.lex_semantics.specs.ActionResults.{perform_results}
 use Rattle.lex_semantics.specs.Run.{Place, State, Turn, MatchTurn, EndTurn, NextFrom, first_state}
-use Rattle.lex_semantics.specs.Demand.{AsksAt, Reach, AsksForEnd, FarFrom, EndAsked, ExtendsGiven}
+use Rattle.lex_semantics.specs.Demand.{AsksAt, Asks, AsksFrom, ExtendsGiven, answers}
 use Rattle.lex_semantics.specs.Scanned.{AfterTurns, Scanned, Seen, seen_turn, then_turn}
 use Rattle.lex_semantics.proofs.Texts.{is_text_drop, is_text_right, line_start_front, part_front}
-use Rattle.lex_semantics.proofs.Once.{one_state}
-use Rattle.lex_semantics.proofs.Prefix.{Suffices, match_turn, reach_here, end_not_asked, front_asks, asks_front, front_splits}
+use Rattle.lex_semantics.proofs.Prefix.{Suffices, match_turn, asks_here, asks_all, front_asks, asks_front, front_splits}
 
--- One turn over an input, after n turns: how far they ask together, and whether for the end.
-pub one_more : (R : Rules) (x : List ℕ) (n : ℕ) (s t : State) (far far' : ℕ) (e e' : Bool) → AfterTurns R x n s far e → s.ended ≡ None → Turn R x s.place t →
-    FarFrom R x s None far far' → ((e' ≡ true) ↔ ((e ≡ true) ⊎ AsksForEnd R x s.place)) → AfterTurns R x (suc n) (then_turn s t) far' e'
-one_more R x n s t far far' e e' h going turn reach ends = record {
-  turns = (s, h.turns, subst (λ z. NextFrom R x s z (then_turn s t)) (sym going) (t, turn, refl));
-  reaches = (s, far, h.turns, h.reaches, subst (λ z. FarFrom R x s z far far') (sym going) reach);
-  end = (λ is. to (ends.0 is), λ asked. ends.1 (from asked));
-}
-  where
-    to : (e ≡ true) ⊎ AsksForEnd R x s.place → EndAsked R x (suc n)
-    to (inl is) = inl (h.end.0 is)
-    to (inr asks) = inr (s, h.turns, going, asks)
-
-    from : EndAsked R x (suc n) → (e ≡ true) ⊎ AsksForEnd R x s.place
-    from (inl asked) = inl (h.end.1 asked)
-    from (inr asked) = inr (subst (λ (z : State). AsksForEnd R x z.place) (one_state R x n asked.0 s asked.1 h.turns) asked.3)
+-- One turn over an input, after n turns: how much they ask for together.
+pub one_more : (R : Rules) (x : List ℕ) (n : ℕ) (s t : State) (before r : ℕ) → AfterTurns R x n s before → s.ended ≡ None → Turn R x s.place t →
+    Asks R x s.place r → AfterTurns R x (suc n) (then_turn s t) (max before (s.place.at + r))
+one_more R x n s t before r h going turn asks = (
+  s,
+  before,
+  h,
+  subst (λ z. NextFrom R x s z (then_turn s t)) (sym going) (t, turn, refl),
+  subst (λ z. AsksFrom R x s.place z before (max before (s.place.at + r))) (sym going) (r, asks, refl),
+)
 
 -- a turn after the end changes nothing
-pub one_more_ended : (R : Rules) (x : List ℕ) (n : ℕ) (s : State) (far : ℕ) (e : Bool) (ending : Ending) → AfterTurns R x n s far e → s.ended ≡ Some ending → AfterTurns R x (suc n) s far e
-one_more_ended R x n s far e ending h is = record {
-  turns = (s, h.turns, subst (λ z. NextFrom R x s z s) (sym is) refl);
-  reaches = (s, far, h.turns, h.reaches, subst (λ z. FarFrom R x s z far far) (sym is) refl);
-  end = (λ b. inl (h.end.0 b), from);
-}
-  where
-    no_both : s.ended ≡ None → ⊥
-    no_both p = cc
-
-    from : EndAsked R x (suc n) → e ≡ true
-    from (inl asked) = h.end.1 asked
-    from (inr asked) = absurd (no_both (subst (λ (z : State). z.ended ≡ None) (one_state R x n asked.0 s asked.1 h.turns) asked.2))
+pub one_more_ended : (R : Rules) (x : List ℕ) (n : ℕ) (s : State) (asked : ℕ) (ending : Ending) → AfterTurns R x n s asked → s.ended ≡ Some ending → AfterTurns R x (suc n) s asked
+one_more_ended R x n s asked ending h is =
+    (s, asked, h, subst (λ z. NextFrom R x s z s) (sym is) refl, subst (λ z. AsksFrom R x s.place z asked asked) (sym is) refl)
 
 -- A match that asks for nothing more is the turn of every input that goes on from the bytes given.
 pub seen_match : (R : Rules) (l : Laws R) (given rest : List ℕ) (p : Place) (r : ℕ) (h : Seen R given p r) → IsText (given ++ rest) → (drop r (drop p.at given) ++ rest ≡ []) ⊎ (AsksAt R given p r → ⊥) →
@@ -87,17 +70,19 @@ scanned_match R l given more at_end n s r going before none h dead far x consist
     let fits : s.place.at + r ≤ length (g ++ rest) = omega (arith, h.inside) in
     let dead_x : AsksAt R (g ++ rest) s.place r → ⊥ = λ a. dead (front_asks R g rest s.place r h.inside a) in
     let asked : (i : ℕ) → i < r → AsksAt R (g ++ rest) s.place i = λ i lt. asks_front R g rest s.place i (omega (arith, h.inside)) (h.asked i lt) in
-    let reach : Reach R (g ++ rest) s.place r = reach_here R l (g ++ rest) s.place r is_text fits h.some asked dead_x in
-    let quiet : AsksForEnd R (g ++ rest) s.place → ⊥ = end_not_asked R l (g ++ rest) s.place r is_text fits h.some dead_x in
+    let asks : Asks R (g ++ rest) s.place r = asks_here R l (g ++ rest) s.place r is_text fits h.some asked dead_x in
     let turn : Turn R (g ++ rest) s.place (seen_turn s.place h.outcome) = inl (seen_match R l g rest s.place r h is_text (inr dead)) in
-    let lt : s.place.at < length (g ++ rest) = omega (arith, h.some) in
-    let old : AfterTurns R (g ++ rest) n s (length given) at_end = subst (λ y. AfterTurns R y n s (length given) at_end) split.1 (before x (consistent.0, consistent_before given more at_end x none consistent.1)) in
-    subst (λ y. AfterTurns R y (suc n) (then_turn s (seen_turn s.place h.outcome)) (length g) at_end) (sym split.1)
-    (one_more R (g ++ rest) n s (seen_turn s.place h.outcome) (length given) (length g) at_end at_end old going turn (inr (lt, r, reach, far)) (λ b. inl b, ends quiet))
+    let old : AfterTurns R (g ++ rest) n s (answers given at_end) = subst (λ y. AfterTurns R y n s (answers given at_end)) split.1 (before x (consistent.0, consistent_before given more at_end x none consistent.1)) in
+    let count : max (answers given at_end) (s.place.at + r) ≡ answers g at_end = counted at_end none far h.inside in
+    subst (λ y. AfterTurns R y (suc n) (then_turn s (seen_turn s.place h.outcome)) (answers g at_end)) (sym split.1)
+    (subst (AfterTurns R (g ++ rest) (suc n) (then_turn s (seen_turn s.place h.outcome))) count
+    (one_more R (g ++ rest) n s (seen_turn s.place h.outcome) (answers given at_end) r old going turn asks))
   where
-    ends : {A : Type 0} → (A → ⊥) → (at_end ≡ true) ⊎ A → at_end ≡ true
-    ends quiet (inl b) = b
-    ends quiet (inr a) = absurd (quiet a)
+    counted : (b : Bool) → (b ≡ true → more ≡ []) → length (given ++ more) ≡ max (length given) (s.place.at + r) → s.place.at + r ≤ length (given ++ more) → max (answers given b) (s.place.at + r) ≡ answers (given ++ more) b
+    counted true none far fits =
+        let same : length (given ++ more) ≡ length given = ap (λ m. length (given ++ m)) (none refl) ∙ ap length (append-nil given) in
+        omega (arith, same, fits)
+    counted false none far fits = omega (arith, far)
 
 -- The same where the match asks for a byte after them, and the source answers its end.
 pub scanned_match_end : (R : Rules) (l : Laws R) (given more : List ℕ) (at_end : Bool) (n : ℕ) (s : State) (r : ℕ) → s.ended ≡ None → Scanned R given at_end n s →
@@ -108,42 +93,54 @@ scanned_match_end R l given more at_end n s r going before none h asks all x con
     let is_text : IsText g = subst IsText consistent.1 consistent.0 in
     let is_text' : IsText (g ++ []) = subst IsText (sym (append-nil g)) is_text in
     let n_drop : length (drop s.place.at g) ≡ length g - s.place.at = length-drop s.place.at g in
-    let same : r ≡ length g - s.place.at = omega arith in
     let nothing : drop r (drop s.place.at g) ++ [] ≡ [] = ap (λ z. z ++ []) (drop_all r (drop s.place.at g) (omega arith)) in
     let turn : Turn R g s.place (seen_turn s.place h.outcome) =
     inl (subst (λ y. MatchTurn R y s.place (seen_turn s.place h.outcome)) (append-nil g) (seen_match R l g [] s.place r h is_text' (inl nothing))) in
-    let lt : s.place.at < length g = omega (arith, h.some) in
-    let reach : Reach R g s.place r = record { inside = h.inside; asked = λ i less. (λ lower. h.asked i lower, λ a. omega arith) } in
+    let asks : Asks R g s.place (suc r) = asks_all R g s.place (suc r) (omega (arith, all)) on in
     let len : length g ≡ length given + length more = length-append given more in
-    let far : length g ≡ max (length given) (s.place.at + r) = omega arith in
-    let old : AfterTurns R g n s (length given) at_end = before g (is_text, consistent_before given more at_end g none (ends_here at_end)) in
-    subst (λ y. AfterTurns R y (suc n) (then_turn s (seen_turn s.place h.outcome)) (length g) true) (sym consistent.1)
-    (one_more R g n s (seen_turn s.place h.outcome) (length given) (length g) at_end true old going turn (inr (lt, r, reach, far)) (λ b. inr (inr (lt, subst (AsksAt R g s.place) same asks)), λ _. refl))
+    let old : AfterTurns R g n s (answers given at_end) = before g (is_text, consistent_before given more at_end g none (ends_here at_end)) in
+    let count : max (answers given at_end) (s.place.at + suc r) ≡ answers g true = counted at_end len in
+    subst (λ y. AfterTurns R y (suc n) (then_turn s (seen_turn s.place h.outcome)) (answers g true)) (sym consistent.1)
+    (subst (AfterTurns R g (suc n) (then_turn s (seen_turn s.place h.outcome))) count
+    (one_more R g n s (seen_turn s.place h.outcome) (answers given at_end) (suc r) old going turn asks))
   where
     ends_here : (e : Bool) → ExtendsGiven (given ++ more) e (given ++ more)
     ends_here true = refl
     ends_here false = ([], sym (append-nil (given ++ more)))
+
+    on : (i : ℕ) → i < suc r → AsksAt R (given ++ more) s.place i
+    on i lt = from (grind arith)
+      where
+        from : (i < r) ⊎ (i ≡ r) → AsksAt R (given ++ more) s.place i
+        from (inl less) = h.asked i less
+        from (inr e) = subst (AsksAt R (given ++ more) s.place) (sym e) asks
+
+    counted : (b : Bool) → length (given ++ more) ≡ length given + length more → max (answers given b) (s.place.at + suc r) ≡ answers (given ++ more) true
+    counted true len = omega (arith, all, len)
+    counted false len = omega (arith, all, len)
 
 -- A turn at the end of the input, for which the source has answered its end.
 pub scanned_end : (R : Rules) (given : List ℕ) (at_end : Bool) (n : ℕ) (s t : State) → s.ended ≡ None → Scanned R given at_end n s → s.place.at ≡ length given →
     EndTurn R given s.place t → Scanned R given true (suc n) (then_turn s t)
 scanned_end R given at_end n s t going before at turn x consistent =
     let is_text : IsText given = subst IsText consistent.1 consistent.0 in
-    let old : AfterTurns R given n s (length given) at_end = before given (is_text, ends_here at_end) in
-    subst (λ y. AfterTurns R y (suc n) (then_turn s t) (length given) true) (sym consistent.1)
-    (one_more R given n s t (length given) (length given) at_end true old going (inr turn) (inl (at, refl)) (λ b. inr (inl at), λ _. refl))
+    let old : AfterTurns R given n s (answers given at_end) = before given (is_text, ends_here at_end) in
+    let asks : Asks R given s.place 1 = asks_all R given s.place 1 (omega (arith, at)) (λ i lt. inl (omega (arith, lt))) in
+    subst (λ y. AfterTurns R y (suc n) (then_turn s t) (answers given true)) (sym consistent.1)
+    (subst (AfterTurns R given (suc n) (then_turn s t)) (counted at_end) (one_more R given n s t (answers given at_end) 1 old going (inr turn) asks))
   where
     ends_here : (e : Bool) → ExtendsGiven given e given
     ends_here true = refl
     ends_here false = ([], sym (append-nil given))
 
+    counted : (b : Bool) → max (answers given b) (s.place.at + 1) ≡ answers given true
+    counted true = omega (arith, at)
+    counted false = omega (arith, at)
+
 -- A turn after the end.
 pub scanned_ended : (R : Rules) (given : List ℕ) (at_end : Bool) (n : ℕ) (s : State) (e : Ending) → s.ended ≡ Some e → Scanned R given at_end n s → Scanned R given at_end (suc n) s
-scanned_ended R given at_end n s e is before x consistent = one_more_ended R x n s (length given) at_end e (before x consistent) is
+scanned_ended R given at_end n s e is before x consistent = one_more_ended R x n s (answers given at_end) e (before x consistent) is
 
 -- A scanner that has made no turn.
 pub scanned_first : (R : Rules) → Scanned R [] false 0 first_state
-scanned_first R x consistent = record { turns = refl; reaches = refl; end = (λ b. no b, λ h. absurd h) }
-  where
-    no : false ≡ true → ⊥
-    no e = cc
+scanned_first R x consistent = (refl, refl)

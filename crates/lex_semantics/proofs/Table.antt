@@ -1,7 +1,8 @@
 -- A machine for a specification has its turns, and asks for the same bytes.
-use Rattle.std.proofs.Common.{◌≡◌, ℕ, zero, suc, ◌-◌, ◌≤◌, ◌<◌, Bool, true, false, List, [], ◌∷◌, ◌++◌, length, take, drop, ◌⊎◌, inl, inr, ◌↔◌, Option, Some, None, refl, sym, ◌∙◌, ap, subst, arith}
+use Rattle.std.proofs.Common.{◌≡◌, ℕ, zero, suc, ◌≤◌, ◌<◌, Bool, true, false, List, [], ◌∷◌, ◌++◌, length, take, drop, ◌⊎◌, inl, inr, ◌↔◌, Option, Some, None, refl, sym, ◌∙◌, ap, subst, arith}
 use Rattle.std.specs.Prelude.{slice_get, nat_lt, if◌then◌else◌}
 use Rattle.std.proofs.lemmas.Bool.{cond-true, cond-false, lt-ltb, le-ltb, or_parts, cases_lt}
+use Rattle.lex_semantics.proofs.After.{turns_of}
 use Rattle.lex_semantics.proofs.ResultsAre.{results_are}
 use Rattle.lex_semantics.specs.Text.{IsText, Among, AllBelow, part, at_line_start}
 use Rattle.lex_semantics.specs.Spec.{Spec, Rule, Statement, Echo, Print, Begin, More, Less, Reject, End, Push, Pop, has_reject, EndAction, statements_at, rejects, any_reject}
@@ -10,14 +11,14 @@ use Rattle.lex_semantics.specs.Candidates.{Candidate, Before, IsCandidate, Candi
 use Rattle.lex_semantics.specs.Acting.{Ending, Status, StackFault, Acting}
 use Rattle.lex_semantics.specs.ActionResults.{ActionResult, Done, Again, Over, act_result, has_room, popped, settle, perform_results}
 use Rattle.lex_semantics.specs.Run.{Place, State, Turn, MatchTurn, EndTurn, NextFrom, Turns, Run}
-use Rattle.lex_semantics.specs.Demand.{AsksAt, Reach, AsksForEnd, FarFrom, Far, EndAsked}
+use Rattle.lex_semantics.specs.Demand.{AsksAt, Asks, AsksFrom}
 use Rattle.lex_semantics.specs.Scanned.{AfterTurns}
 use Rattle.lex_semantics.specs.Machine.{Machine, MachineFits, rules_of_machine, Keeps}
 use Rattle.lex_semantics.specs.Reports.{HasFit}
 use Rattle.lex_semantics.specs.Sound.{IsSound}
 use Rattle.lex_semantics.proofs.Actions.{BeginsBelow, begins_below}
 use Rattle.lex_semantics.proofs.Texts.{is_text_take, is_text_drop}
-use Rattle.lex_semantics.proofs.Once.{one_state, same_order, same_heads}
+use Rattle.lex_semantics.proofs.Once.{same_order, same_heads}
 use Rattle.lex_semantics.proofs.Local.{settle_same}
 use Rattle.lex_semantics.proofs.Cuts.{cut_keeps, keeps_one}
 use Rattle.lex_semantics.proofs.Exists.{candidates_exist}
@@ -269,58 +270,27 @@ turns_to all R Q alike x (suc n) s text (b, h, next) =
 -- what they ask for
 
 module _ (all : Bool) (R Q : Rules) (alike : Alike all R Q) (x : List ℕ) (text : IsText x) where
-  asks_to : (p : Place) (i : ℕ) → p.condition < Q.conditions → AsksAt R x p i → AsksAt Q x p i
+  pub asks_to : (p : Place) (i : ℕ) → p.condition < Q.conditions → AsksAt R x p i → AsksAt Q x p i
   asks_to p i lt (inl e) = inl e
   asks_to p i lt (inr h) = inr ((alike.live p.condition (at_line_start x p.at) (take i (drop p.at x)) lt (is_text_take i (drop p.at x) (is_text_drop p.at x text))).0 h)
 
-  asks_from : (p : Place) (i : ℕ) → p.condition < Q.conditions → AsksAt Q x p i → AsksAt R x p i
+  pub asks_from : (p : Place) (i : ℕ) → p.condition < Q.conditions → AsksAt Q x p i → AsksAt R x p i
   asks_from p i lt (inl e) = inl e
   asks_from p i lt (inr h) = inr ((alike.live p.condition (at_line_start x p.at) (take i (drop p.at x)) lt (is_text_take i (drop p.at x) (is_text_drop p.at x text))).1 h)
 
-  pub reach_to : (p : Place) (r : ℕ) → p.condition < Q.conditions → Reach R x p r → Reach Q x p r
-  reach_to p r lt h = record { inside = h.inside; asked = λ i less. (λ a. asks_to p i lt ((h.asked i less).0 a), λ a. (h.asked i less).1 (asks_from p i lt a)) }
+  pub reach_to : (p : Place) (r : ℕ) → p.condition < Q.conditions → Asks R x p r → Asks Q x p r
+  reach_to p r lt h i = (λ less. (let k = (h i).0 less in (k.0, asks_to p i lt k.1)), λ (fits, a). (h i).1 (fits, asks_from p i lt a))
 
-  end_asks_to : (p : Place) → p.condition < Q.conditions → AsksForEnd R x p → AsksForEnd Q x p
-  end_asks_to p lt (inl e) = inl e
-  end_asks_to p lt (inr h) = inr (h.0, asks_to p (length x - p.at) lt h.1)
-
-  end_asks_from : (p : Place) → p.condition < Q.conditions → AsksForEnd Q x p → AsksForEnd R x p
-  end_asks_from p lt (inl e) = inl e
-  end_asks_from p lt (inr h) = inr (h.0, asks_from p (length x - p.at) lt h.1)
-
-  far_from_to : (s : State) (e : Option Ending) (f g : ℕ) → s.place.condition < Q.conditions → FarFrom R x s e f g → FarFrom Q x s e f g
-  far_from_to s (Some e) f g lt h = h
-  far_from_to s None f g lt (inl h) = inl h
-  far_from_to s None f g lt (inr (a, r, reach, is)) = inr (a, r, reach_to s.place r lt reach, is)
-
-  pub far_to : (n f : ℕ) → Far R x n f → Far Q x n f
-  far_to zero f h = h
-  far_to (suc n) g (s, f, turns, far, step) =
-      let k = turns_to all R Q alike x n s text turns in
-      (s, f, k.0, far_to n f far, far_from_to s s.ended f g k.1.0 step)
-
-  pub end_asked_to : (n : ℕ) → EndAsked R x n → EndAsked Q x n
-  end_asked_to zero h = h
-  end_asked_to (suc n) (inl h) = inl (end_asked_to n h)
-  end_asked_to (suc n) (inr (s, turns, going, asks)) =
-      let k = turns_to all R Q alike x n s text turns in
-      inr (s, k.0, going, end_asks_to s.place k.1.0 asks)
-
-  pub end_asked_from : (n : ℕ) (s : State) → Turns R x n s → EndAsked Q x n → EndAsked R x n
-  end_asked_from zero s turns h = h
-  end_asked_from (suc n) s (b, turns, next) (inl h) = inl (end_asked_from n b turns h)
-  end_asked_from (suc n) s (b, turns, next) (inr (t, other, going, asks)) =
-      let k = turns_to all R Q alike x n b text turns in
-      let same : t ≡ b = one_state Q x n t b other k.0 in
-      inr (b, turns, subst (λ (z : State). z.ended ≡ None) same going, end_asks_from b.place k.1.0 (subst (λ (z : State). AsksForEnd Q x z.place) same asks))
+  asks_from_to : (p : Place) (e : Option Ending) (f g : ℕ) → p.condition < Q.conditions → AsksFrom R x p e f g → AsksFrom Q x p e f g
+  asks_from_to p (Some e) f g lt h = h
+  asks_from_to p None f g lt (r, asks, is) = (r, reach_to p r lt asks, is)
 
   -- how a scan over R stands is how one over Q stands
-  pub after_to : (n : ℕ) (s : State) (far : ℕ) (e : Bool) → AfterTurns R x n s far e → AfterTurns Q x n s far e
-  after_to n s far e h = record {
-    turns = (turns_to all R Q alike x n s text h.turns).0;
-    reaches = far_to n far h.reaches;
-    end = (λ b. end_asked_to n (h.end.0 b), λ asked. h.end.1 (end_asked_from n s h.turns asked));
-  }
+  pub after_to : (n : ℕ) (s : State) (asked : ℕ) → AfterTurns R x n s asked → AfterTurns Q x n s asked
+  after_to zero s asked h = h
+  after_to (suc n) s asked (b, f, h, next, asks) =
+      let k = turns_to all R Q alike x n b text (turns_of R x n b f h) in
+      (b, f, after_to n b f h, (next_to all R Q alike x b s b.ended text k.1 next).0, asks_from_to b.place b.ended f asked k.1.0 asks)
 
   pub run_to : (w : List ℕ) (d : Ending) → Run R x w d → Run Q x w d
   run_to w d (n, p, h) = (n, p, (turns_to all R Q alike x n (record { written = w; place = p; ended = Some d }) text h).0)
@@ -383,8 +353,8 @@ module _ (M : Machine) (S : Spec) (sound : IsSound S) (table : TableFor M S) whe
   }
 
   -- What is known of a scan over the machine is known of one over the specification.
-  pub table_after : (x : List ℕ) (n : ℕ) (s : State) (far : ℕ) (e : Bool) → IsText x → AfterTurns (rules_of_machine M) x n s far e → AfterTurns (rules_of S) x n s far e
-  table_after x n s far e text h = after_to (rejects S) (rules_of_machine M) (rules_of S) table_alike x text n s far e h
+  pub table_after : (x : List ℕ) (n : ℕ) (s : State) (asked : ℕ) → IsText x → AfterTurns (rules_of_machine M) x n s asked → AfterTurns (rules_of S) x n s asked
+  table_after x n s asked text h = after_to (rejects S) (rules_of_machine M) (rules_of S) table_alike x text n s asked h
 
   -- A run of the machine is the run of the specification.
   pub table_run : (x w : List ℕ) (d : Ending) → IsText x → Run (rules_of_machine M) x w d → Run (rules_of S) x w d

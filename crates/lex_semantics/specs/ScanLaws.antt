@@ -1,11 +1,11 @@
 -- The laws of a scan. Each is the contract of a function of this crate. (This project's.)
-use Rattle.std.specs.Prelude.{◌≡◌, ℕ, suc, ◌+◌, ◌≤◌, ◌<◌, max, Bool, true, false, List, [], ◌++◌, length, ◌↔◌, Option, Some, None, slice_get}
+use Rattle.std.specs.Prelude.{◌≡◌, ℕ, suc, ◌+◌, ◌≤◌, ◌<◌, max, min, Bool, true, false, List, [], ◌++◌, length, ◌↔◌, Option, Some, None, slice_get}
 use Rattle.lex_semantics.specs.Text.{IsText, BeginsWith}
 use Rattle.lex_semantics.specs.Rules.{Rules}
 use Rattle.lex_semantics.specs.Candidates.{Candidate, Candidates}
 use Rattle.lex_semantics.specs.Acting.{Ending}
 use Rattle.lex_semantics.specs.Run.{Place, State, Turn, EndTurn, Turns, Run, first_state}
-use Rattle.lex_semantics.specs.Demand.{AsksAt, Reach, Far, EndAsked}
+use Rattle.lex_semantics.specs.Demand.{AsksAt, Asks}
 use Rattle.lex_semantics.specs.Scanned.{AfterTurns, Scanned, Seen, seen_turn, then_turn, Covered}
 use Rattle.lex_semantics.specs.Machine.{Machine, rules_of_machine}
 use Rattle.lex_semantics.specs.PlainMachine.{told_of}
@@ -44,44 +44,44 @@ SomeRun R = (x : List ℕ) → (w : List ℕ) × (e : Ending) × Run R x w e
 abbrev pub NoGap : Rules → Type 0
 NoGap R = (x : List ℕ) (p : Place) (i j : ℕ) → IsText x → p.at + j ≤ length x → i ≤ j → AsksAt R x p j → AsksAt R x p i
 
--- a match reaches in one way
+-- a turn asks for so much in one way
 abbrev pub OneReach : Rules → Type 0
-OneReach R = (x : List ℕ) (p : Place) (q r : ℕ) → Reach R x p q → Reach R x p r → q ≡ r
+OneReach R = (x : List ℕ) (p : Place) (q r : ℕ) → Asks R x p q → Asks R x p r → q ≡ r
 
 -- and in some way
 abbrev pub SomeReach : Rules → Type 0
 SomeReach R =
-    (x : List ℕ) (p : Place) → IsText x → p.at < length x → p.condition < R.conditions → (r : ℕ) × Reach R x p r
+    (x : List ℕ) (p : Place) → IsText x → p.at ≤ length x → p.condition < R.conditions → (r : ℕ) × Asks R x p r
 
--- After n turns a scan stands in one way, and they ask for one number of bytes, and for the end or not.
+-- after n turns a scan stands in one way, and they ask for one number of answers
 abbrev pub OneDemand : Rules → Type 0
 OneDemand R =
-    (x : List ℕ) (n : ℕ) (s t : State) (f g : ℕ) (d e : Bool) → AfterTurns R x n s f d → AfterTurns R x n t g e
-    → (s ≡ t) × (f ≡ g) × (d ≡ e)
+    (x : List ℕ) (n : ℕ) (s t : State) (a b : ℕ) → AfterTurns R x n s a → AfterTurns R x n t b → (s ≡ t) × (a ≡ b)
 
 -- and there are such
 abbrev pub SomeDemand : Rules → Type 0
-SomeDemand R =
-    (x : List ℕ) (n : ℕ) → IsText x → (s : State) × (far : ℕ) × (end_asked : Bool) × AfterTurns R x n s far end_asked
+SomeDemand R = (x : List ℕ) (n : ℕ) → IsText x → (s : State) × (asked : ℕ) × AfterTurns R x n s asked
 
--- The same where nothing decides which words are live: it is never so that there is no reach, and no such state.
+-- The same where nothing decides which words are live: it is never so that a turn asks for no number of answers, and
+-- that there is no such state.
 abbrev pub NeverNoReach : Rules → Type 0
-NeverNoReach R = (x : List ℕ) (p : Place) → IsText x → p.at < length x → ((r : ℕ) → Reach R x p r → ⊥) → ⊥
+NeverNoReach R = (x : List ℕ) (p : Place) → IsText x → p.at ≤ length x → ((r : ℕ) → Asks R x p r → ⊥) → ⊥
 
 abbrev pub NeverNoDemand : Rules → Type 0
-NeverNoDemand R =
-    (x : List ℕ) (n : ℕ) → IsText x → ((s : State) (far : ℕ) (end_asked : Bool) → AfterTurns R x n s far end_asked → ⊥)
-    → ⊥
+NeverNoDemand R = (x : List ℕ) (n : ℕ) → IsText x → ((s : State) (asked : ℕ) → AfterTurns R x n s asked → ⊥) → ⊥
 
--- The text starts at or before the place, and the place is not past what the turns asked for.
+-- They are turns of the scan. The text starts at or before the place, and the place is in the input, and not past what
+-- the turns asked for.
 abbrev pub StaysCovered : Rules → Type 0
-StaysCovered R = (x : List ℕ) (n : ℕ) (s : State) (f : ℕ) → IsText x → Turns R x n s → Far R x n f → Covered s.place f
+StaysCovered R =
+    (x : List ℕ) (n : ℕ) (s : State) (asked : ℕ) → IsText x → AfterTurns R x n s asked
+    → Turns R x n s × Covered s.place (min asked (length x))
 
 -- Turns that ask for nothing after the bytes of `front`, and not for the end, are the same whatever follows.
 abbrev pub SameWhateverFollows : Rules → Type 0
 SameWhateverFollows R =
-    (front a b : List ℕ) → IsText (front ++ a) → IsText (front ++ b) → (n : ℕ) (s : State) (f : ℕ) → f ≤ length front →
-    AfterTurns R (front ++ a) n s f false → AfterTurns R (front ++ b) n s f false
+    (front a b : List ℕ) → IsText (front ++ a) → IsText (front ++ b) → (n : ℕ) (s : State) (asked : ℕ)
+    → asked ≤ length front → AfterTurns R (front ++ a) n s asked → AfterTurns R (front ++ b) n s asked
 
 -- What n turns write is a front of what the run writes.
 abbrev pub BeginsTheRun : Rules → Type 0
@@ -133,10 +133,7 @@ KnownOnceEnded R =
 -- two sets of rules with the same turns, demand and run over an input
 pub record SameOver (R Q : Rules) (x : List ℕ) : Type 0 where
   pub turns : (n : ℕ) (s : State) → Turns R x n s ↔ Turns Q x n s
-  pub far : (n f : ℕ) → Far R x n f ↔ Far Q x n f
-  pub end_asked : (n : ℕ) → EndAsked R x n ↔ EndAsked Q x n
-  pub after : (n : ℕ) (s : State) (far : ℕ) (end_asked : Bool) → AfterTurns R x n s far end_asked
-      ↔ AfterTurns Q x n s far end_asked
+  pub after : (n : ℕ) (s : State) (asked : ℕ) → AfterTurns R x n s asked ↔ AfterTurns Q x n s asked
   pub run : (w : List ℕ) (d : Ending) → Run R x w d ↔ Run Q x w d
 
 -- over each input
@@ -145,7 +142,8 @@ SameScan R Q = (x : List ℕ) → IsText x → SameOver R Q x
 
 -- a row of what the plain program tells: after n turns they ask for so many bytes, and the text starts there
 abbrev pub IsTold : Rules → List ℕ → ℕ → ℕ × ℕ → Type 0
-IsTold R x n row = (t : State) × Turns R x n t × Far R x n row.0 × (t.place.start ≡ row.1)
+IsTold R x n row =
+    (t : State) × (asked : ℕ) × AfterTurns R x n t asked × (row.0 ≡ min asked (length x)) × (t.place.start ≡ row.1)
 
 abbrev pub RowsAreTold : Machine → Type 0
 RowsAreTold M =

@@ -1,23 +1,24 @@
 -- What is known of a scanner that sees one byte at a time. (This project's.)
-use Rattle.std.specs.Prelude.{◌≡◌, ℕ, ◌+◌, ◌≤◌, ◌<◌, Bool, true, List, [], ◌++◌, length, take, drop, ◌↔◌, Some}
+use Rattle.std.specs.Prelude.{◌≡◌, ℕ, zero, suc, ◌+◌, ◌≤◌, ◌<◌, Bool, List, [], ◌++◌, length, take, drop, Some}
 use Rattle.lex_semantics.specs.Text.{part, at_line_start}
 use Rattle.lex_semantics.specs.Rules.{Rules}
 use Rattle.lex_semantics.specs.Candidates.{Candidate, Candidates}
 use Rattle.lex_semantics.specs.Acting.{Acting}
 use Rattle.lex_semantics.specs.ActionResults.{perform_results}
-use Rattle.lex_semantics.specs.Run.{Place, State, Turns, next_place}
-use Rattle.lex_semantics.specs.Demand.{AsksAt, Far, EndAsked, Consistent}
+use Rattle.lex_semantics.specs.Run.{Place, State, NextFrom, first_state, next_place}
+use Rattle.lex_semantics.specs.Demand.{AsksAt, AsksFrom, OfEach, answers}
 
--- After n turns over x the scan stands so. They ask for just the first `far` bytes, and for the end or not.
-pub record AfterTurns (R : Rules) (x : List ℕ) (n : ℕ) (s : State) (far : ℕ) (end_asked : Bool) : Type 0 where
-  pub turns : Turns R x n s
-  pub reaches : Far R x n far
-  pub end : (end_asked ≡ true) ↔ EndAsked R x n
+-- after n turns over x the scan stands so, and they ask for just so many answers of the source
+abbrev pub AfterTurns : Rules → List ℕ → ℕ → State → (asked : ℕ) → Type 0
+AfterTurns R x zero s asked = (s ≡ first_state) × (asked ≡ 0)
+AfterTurns R x (suc n) s asked =
+    (b : State) × (before : ℕ) × AfterTurns R x n b before × NextFrom R x b b.ended s
+    × AsksFrom R x b.place b.ended before asked
 
 -- The source has given these bytes, and answered its end or not. Whatever input that is the beginning of, n turns
--- over it have written these bytes and led to this place, and they ask for just what the source has told.
+-- over it have written these bytes and led to this place, and they ask for just what the source has answered.
 abbrev pub Scanned : Rules → (given : List ℕ) → (at_end : Bool) → (n : ℕ) → State → Type 0
-Scanned R given at_end n s = (x : List ℕ) → Consistent given at_end x → AfterTurns R x n s (length given) at_end
+Scanned R given at_end n s = OfEach given at_end (λ x. AfterTurns R x n s (answers given at_end))
 
 -- the scan after a turn that wrote and led so
 abbrev pub then_turn : State → State → State

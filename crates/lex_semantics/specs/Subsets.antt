@@ -38,19 +38,23 @@ pub record AreAll (Kind : List ℕ → Type 0) (ls : List (List ℕ)) : Type 0 w
   pub distinct : Pairwise ◌≢◌ ls
   pub listed : (l : List ℕ) → Among ls l ↔ ((1 ≤ length l) × Kind l)
 
+-- the rule of this number is active
+abbrev pub IsActive : Spec → ℕ → Bool → ℕ → Type 0
+IsActive S c line_start i = (r : Rule) × (slice_get S.rules i ≡ Some r) × (active S c line_start r ≡ true)
+
 -- How many states there are before minimising: the dead one, one for each set of active rules, and one for each set of
 -- last positions of a word that is not empty. The empty sets are left out.
 pub record HasSubsets (S : Spec) (n : ℕ) : Type 0 where
   pub starts : List (List ℕ)
   pub lasts : List (List ℕ)
-  pub are_starts : AreAll (λ l. (c : ℕ) × (line_start : Bool) × (c < length S.conditions) × ListsSet l (λ i.
-      (r : Rule) × (slice_get S.rules i ≡ Some r) × (active S c line_start r ≡ true))) starts
+  pub are_starts : AreAll (λ l. (c : ℕ) × (line_start : Bool) × (c < length S.conditions)
+      × ListsSet l (IsActive S c line_start)) starts
   pub are_lasts : AreAll (λ l. (c : ℕ) × (line_start : Bool) × (w : List ℕ) × (c < length S.conditions) × IsText w
       × (1 ≤ length w) × ListsSet l (IsLast (ReadsActive S c line_start) w)) lasts
   pub total : n ≡ 1 + length starts + length lasts
 
 -- Names that the code and proofs have: for the positions of a rule, for where those of rule i begin, when those of the
--- first of these rules begin at `base`, for the side of the trail, for the active rules, and for the lists of subsets.
+-- first of these rules begin at `base`, for the side of the trail, and for the lists of subsets.
 
 abbrev pub positions_of_rule : Rule → ℕ
 positions_of_rule r = positions r.head + option_map_or positions r.trail 0
@@ -68,9 +72,6 @@ ReadsTrail trail base rs = MatchOption trail (rs ≡ []) (λ t. Reads t base rs)
 
 abbrev pub Distinct : List (List ℕ) → Type 0
 Distinct ls = Pairwise ◌≢◌ ls
-
-abbrev pub IsActive : Spec → ℕ → Bool → ℕ → Type 0
-IsActive S c line_start i = (r : Rule) × (slice_get S.rules i ≡ Some r) × (active S c line_start r ≡ true)
 
 abbrev pub AreStarts : Spec → List (List ℕ) → Type 0
 AreStarts S ls =

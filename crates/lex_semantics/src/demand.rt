@@ -1,4 +1,4 @@
-//! How much of the input the matches ask for.
+//! How much the turns ask of the source.
 
 ghost use Rattle.lex_semantics.specs.Spec.{Spec};
 ghost use Rattle.lex_semantics.specs.Rules.{rules_of};
@@ -15,36 +15,35 @@ pub fn no_gap()
     ensures machine { (M : Machine) → MachineLaws M → NoGap (rules_of_machine M) }
 {}
 
-/// A match reaches in at most one way.
+/// A turn asks for at most one number of answers.
 pub fn one_reach()
     ensures specification { (S : Spec) → OneReach (rules_of S) }
     ensures machine { (M : Machine) → OneReach (rules_of_machine M) }
 {}
 
-/// And it reaches in some way: over a machine that keeps its laws, and over a sound specification for which such a
-/// machine is a table. Without a machine nothing decides which words are live, so what is known is that there is never
-/// no reach.
+/// And it asks for some number: over a machine that keeps its laws, and over a sound specification for which such a
+/// machine is a table. Without a machine nothing decides which words are live, so what is known is that it is never so
+/// that there is no such number.
 pub fn some_reach()
     ensures machine { (M : Machine) → MachineLaws M → SomeReach (rules_of_machine M) }
     ensures table { (M : Machine) (S : Spec) → MachineLaws M → IsSound S → TableFor M S → SomeReach (rules_of S) }
     ensures specification { (S : Spec) → IsSound S → NeverNoReach (rules_of S) }
 {}
 
-/// After a number of turns a scan stands in at most one way, and its turns ask for one number of bytes, and for the end
-/// or not.
+/// After a number of turns a scan stands in at most one way, and its turns ask for one number of answers.
 pub fn one_demand()
     ensures specification { (S : Spec) → OneDemand (rules_of S) }
     ensures machine { (M : Machine) → OneDemand (rules_of_machine M) }
 {}
 
-/// And there are such, in the same three forms as the reach of a match.
+/// And there are such, in the same three forms as what one turn asks for.
 pub fn some_demand()
     ensures machine { (M : Machine) → MachineLaws M → SomeDemand (rules_of_machine M) }
     ensures table { (M : Machine) (S : Spec) → MachineLaws M → IsSound S → TableFor M S → SomeDemand (rules_of S) }
     ensures specification { (S : Spec) → IsSound S → NeverNoDemand (rules_of S) }
 {}
 
-/// The place never passes what the turns asked for.
+/// The place is in the input, and never passes what the turns asked for.
 pub fn stays_covered()
     ensures specification { (S : Spec) → IsSound S → StaysCovered (rules_of S) }
     ensures machine { (M : Machine) → MachineLaws M → StaysCovered (rules_of_machine M) }

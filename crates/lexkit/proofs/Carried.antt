@@ -9,6 +9,7 @@ use Rattle.lex_semantics.specs.Machine.{Machine, rules_of_machine}
 use Rattle.lex_semantics.specs.MachineLaws.{MachineLaws}
 use Rattle.lex_semantics.specs.TableFor.{TableFor}
 use Rattle.lex_semantics.specs.Acting.{Ending, Status, StackFault}
+use Rattle.lex_semantics.specs.Demand.{answers}
 use Rattle.lex_semantics.specs.ScanLaws.{SameScan}
 use Rattle.lex_semantics.proofs.Both.{same_over}
 use Rattle.lexscan_window.specs.declared.error.RunError.{RunError}
@@ -33,27 +34,24 @@ module _ (R Q : Rules) (same : SameScan R Q) where
     text = h.text;
     turns = h.turns;
     place = h.place;
-    scanned = λ x k. ((same x k.0).after h.turns (record { written = out; place = h.place; ended = Some d }) _ at_end).0 (h.scanned x k);
+    scanned = λ x k. ((same x k.0).after h.turns (record { written = out; place = h.place; ended = Some d }) (answers given at_end)).0 (h.scanned x k);
   }
 
   pub stopped_to : (given out : List ℕ) (at_end : Bool) (most : ℕ) (e : RunError) → RunStopped R given out at_end most e → RunStopped Q given out at_end most e
   stopped_to given out at_end most e h = record {
     turns = h.turns;
     had = h.had;
-    got = h.got;
-    all = h.all;
     refused_turn = record {
       text = h.refused_turn.text;
       before = h.refused_turn.before;
-      end_before = h.refused_turn.end_before;
-      after = λ x k. ((same x k.0).after h.turns h.refused_turn.before _ h.refused_turn.end_before).0 (h.refused_turn.after x k);
       going = h.refused_turn.going;
-      front = λ x k w d r. h.refused_turn.front x k w d (((same x k.0).run w d).1 r);
-      within = λ x k t far asked after. h.refused_turn.within x k t far asked (((same x k.0).after (suc h.turns) t far asked).1 after);
+      after = λ x k. ((same x k.0).after h.turns h.refused_turn.before h.had).0 (h.refused_turn.after x k);
+      few = h.refused_turn.few;
       kept = h.refused_turn.kept;
       whole = h.refused_turn.whole;
-      not_before = h.refused_turn.not_before;
-      asks_end = λ is t far asked after. h.refused_turn.asks_end is t far asked (((same (h.had ++ h.got) h.refused_turn.text).after (suc h.turns) t far asked).1 after);
+      front = λ x k w d r. h.refused_turn.front x k w d (((same x k.0).run w d).1 r);
+      within = λ x k t asked after. h.refused_turn.within x k t asked (((same x k.0).after (suc h.turns) t asked).1 after);
+      more = λ is t asked after. h.refused_turn.more is t asked (((same given h.refused_turn.text).after (suc h.turns) t asked).1 after);
     };
     too_many = h.too_many;
     fault = λ is. completed_to given out at_end StackFault (h.fault is);

@@ -10,6 +10,7 @@ use Rattle.lex_semantics.specs.Acting.{Ending, Status, perform}
 use Rattle.lex_semantics.specs.Run.{Run}
 use Rattle.lex_semantics.specs.Subsets.{all_positions}
 use Rattle.lex_semantics.specs.Demand.{Consistent}
+use Rattle.lex_semantics.proofs.After.{turns_of}
 use Rattle.lex_semantics.proofs.Once.{one_run}
 use Rattle.lex_semantics.proofs.PlainRun.{run_is}
 use Rattle.lexre_bytes.proofs.MemoryLaws.{unless_memory}
@@ -40,7 +41,7 @@ module _ (one : (how : ReadOptions) (file : List ℕ) (S T : Spec) → SpellsSpe
   ends : (written : List ℕ) (faults status : ℕ) → KeyScan [] written true faults (Ok status) → (written ≡ codes "K x") × (status ≡ 0)
   ends written faults status (S, spells, within, scan) =
       let all : scan.given ≡ codes "if x" = sym (append-nil scan.given) ∙ sym scan.source in
-      let own : Run (rules_of S) scan.given scan.out (Status status) = (scan.ran.turns, scan.ran.place, (scan.ran.scanned scan.given (scan.ran.text, refl)).turns) in
+      let own : Run (rules_of S) scan.given scan.out (Status status) = (scan.ran.turns, scan.ran.place, (turns_of _ _ _ _ _ (scan.ran.scanned scan.given (scan.ran.text, refl)))) in
       let runs : Run (rules_of key_spec) (codes "if x") scan.out (Status status) = subst (λ x. Run (rules_of key_spec) x scan.out (Status status)) all (subst (λ T. Run (rules_of T) scan.given scan.out (Status status)) (is_key S spells) own) in
       let same = one_run (rules_of key_spec) (codes "if x") scan.out (codes "K x") (Status status) (Status 0) runs key_run in
       (scan.sink ∙ same.0, same_status status 0 same.1)
@@ -53,7 +54,7 @@ module _ (one : (how : ReadOptions) (file : List ℕ) (S T : Spec) → SpellsSpe
   stops : (left written : List ℕ) (at_end : Bool) (faults : ℕ) (e : RunError) → (at_end ≡ true → left ≡ []) → KeyScan left written at_end faults (Err (scans.Run e)) → BeginsWith (codes "K x") written
   stops left written at_end faults e none (S, spells, within, scan) =
       let run : Run (rules_of S) (codes "if x") (codes "K x") (Status 0) = subst (λ T. Run (rules_of T) (codes "if x") (codes "K x") (Status 0)) (sym (is_key S spells)) key_run in
-      let given : Consistent (scan.ran.had ++ scan.ran.got) at_end (codes "if x") = subst (λ g. Consistent g at_end (codes "if x")) scan.ran.all (consistent scan.given left at_end scan.source none) in
+      let given : Consistent scan.given at_end (codes "if x") = consistent scan.given left at_end scan.source none in
       subst (BeginsWith (codes "K x")) (sym scan.sink) (scan.ran.refused_turn.front (codes "if x") given (codes "K x") (Status 0) run)
 
   pub headline_of_key : HeadlineOfKey

@@ -1,6 +1,7 @@
 -- What a scan by the text of a specification leaves. (What is written is that of POSIX and flex; what is taken from the
 -- source, the limits and the refusals are this project's.)
-use Rattle.std.specs.Prelude.{◌≡◌, ℕ, ◌+◌, ◌<◌, ◌≤◌, Bool, false, cond, List, length, Result, Ok, Err, Some, ⊤, slice_index_or}
+use Rattle.std.specs.Prelude.{◌≡◌, ℕ, ◌+◌, ◌<◌, ◌≤◌, Bool, false, List, length, Result, Ok, Err, Some, ⊤, slice_index_or}
+use Rattle.lex_semantics.specs.Demand.{answers}
 use Rattle.lex_semantics.specs.Spec.{Spec}
 use Rattle.lex_semantics.specs.Rules.{Rules, rules_of}
 use Rattle.lex_semantics.specs.Machine.{rules_of_machine}
@@ -77,7 +78,7 @@ module _ {A B : Type 0} (gave : A → List ℕ → A → Type 0) (wrote : B → 
     pub source : gave s given s'
     pub sink : wrote t out t'
     pub ran : Ran R given out at_end max_reads answer
-    pub few_reads : length given + cond at_end 1 0 + faults ≤ max_reads
+    pub few_reads : answers given at_end + faults ≤ max_reads
 
   -- The text spells a specification within the limits, and the scan is by its rules.
   abbrev pub ScansSpec : Options → List ℕ → Result ℕ RunError → Type 0

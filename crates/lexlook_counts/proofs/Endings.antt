@@ -11,6 +11,7 @@ use Rattle.lex_semantics.specs.Rules.{Rules, rules_of, statements_of}
 use Rattle.lex_semantics.specs.Run.{MatchTurn, NextFrom, Place, State, Turns}
 use Rattle.lex_semantics.specs.Spec.{Spec, rejects, Statement, Echo, Print, Begin, More, Less, Reject, End, Push, Pop}
 use Rattle.lex_semantics.specs.Text.{BeginsWith, IsText, part}
+use Rattle.lex_semantics.proofs.After.{turns_of}
 use Rattle.lex_semantics.proofs.Once.{one_candidates, one_state, some_inj, stays}
 use Rattle.lex_semantics.proofs.ResultsAre.{results_are}
 use Rattle.lex_semantics.proofs.Both.{same_over}
@@ -308,7 +309,7 @@ front_of given left fed told at_end all ending x (text, goes) = (text, by at_end
 pub comes_from : (M : Machine) (fed : List ℕ) (told : Bool) (tokens : List Token) (s : ScanState) (waiting : List ℕ) → TokensTold M fed told tokens s waiting → ComesToSo (rules_of_machine M) fed told tokens s.place.condition
 comes_from M fed told tokens s waiting h x k =
     let front : Consistent h.given s.reading.at_end x = front_of h.given h.left fed told s.reading.at_end h.all h.ending x k in
-    (h.turns, state_of h.out h.invariant.start s, (h.invariant.scanned x front).turns, h.tokens_are x k, refl)
+    (h.turns, state_of h.out h.invariant.start s, (turns_of _ _ _ _ _ (h.invariant.scanned x front)), h.tokens_are x k, refl)
 
 -- ---- by a table for a specification
 

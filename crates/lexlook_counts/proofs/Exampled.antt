@@ -3,16 +3,16 @@ use Rattle.std.proofs.Common.{◌≡◌, ◌⊎◌, ℕ, ◌+◌, ◌≤◌, ◌
 use Rattle.std.proofs.lemmas.List.{length-take-le}
 use Rattle.lex_semantics.specs.ByteSets.{has, set_of, single}
 use Rattle.lex_semantics.specs.Candidates.{Candidate, Candidates}
-use Rattle.lex_semantics.specs.Demand.{AsksAt, Reach}
+use Rattle.lex_semantics.specs.Demand.{AsksAt}
 use Rattle.lex_semantics.specs.Examples as E
 use Rattle.lex_semantics.specs.Rules.{rules_of}
 use Rattle.lex_semantics.proofs.PlainRun.{candidates_are}
 use Rattle.lex_semantics.specs.Machine.{walk}
 use Rattle.lexlook_counts.specs.CountExamples.{letters_machine, three_asked}
-use Rattle.lexlook_counts.specs.Costs.{begins_at}
+use Rattle.lexlook_counts.specs.Costs.{LooksAt, begins_at}
 
-pub three_reach : (x : List ℕ) (at r : ℕ) → at + r ≤ length x → (r ≡ 3) ⊎ ((r ≤ 3) × (at + r ≡ length x)) → 1 ≤ r → Reach three_asked x (begins_at at 0) r
-three_reach x at r inside far some = record { inside = inside; asked = λ i lt. (to i lt far, from i lt far) }
+pub three_reach : (x : List ℕ) (at r : ℕ) → at + r ≤ length x → (r ≡ 3) ⊎ ((r ≤ 3) × (at + r ≡ length x)) → 1 ≤ r → LooksAt three_asked x (begins_at at 0) r
+three_reach x at r inside far some j = (λ less. (omega (arith, inside, less), to j (omega (arith, inside, less)) far less), λ (lt, a). from j lt far a)
   where
     size : (i : ℕ) → at + i < length x → length (take i (drop at x)) ≡ i
     size i lt = let n = length-drop at x in length-take-le i (drop at x) (omega (arith, n, lt))

@@ -1,20 +1,21 @@
 -- How far turns look by a machine that is a table for a specification is how far they look by the specification.
-use Rattle.std.proofs.Common.{◌≡◌, ◌∙◌, ℕ, zero, suc, ◌<◌, Bool, true, false, cond, List, [], ◌∷◌, ◌⊎◌, inl, inr, ap, arith, drop, refl, sym, subst, take}
+use Rattle.std.proofs.Common.{◌≡◌, ◌∙◌, ℕ, zero, suc, ◌+◌, ◌≤◌, ◌<◌, Bool, true, false, cond, List, [], ◌∷◌, ◌⊎◌, inl, inr, ap, arith, drop, refl, sym, subst, take}
 use Rattle.lex_semantics.proofs.Fronts.{among_append}
 use Rattle.lex_semantics.proofs.Once.{same_order}
-use Rattle.lex_semantics.proofs.Table.{Alike, candidate_to, reach_to, same_statements, table_alike, turns_to}
+use Rattle.lex_semantics.proofs.Table.{Alike, asks_from, asks_to, candidate_to, same_statements, table_alike, turns_to}
 use Rattle.lex_semantics.proofs.Texts.{is_text_drop, is_text_take}
 use Rattle.lex_semantics.specs.Candidates.{Candidate, IsCandidate}
 use Rattle.lex_semantics.specs.Acting.{Ending}
 use Rattle.lex_semantics.specs.Machine.{Machine, rules_of_machine}
 use Rattle.lex_semantics.specs.Rules.{Full, Rules, rules_of, statements_of}
+use Rattle.lex_semantics.specs.Run.{Place}
 use Rattle.lex_semantics.specs.Sound.{IsSound}
 use Rattle.lex_semantics.specs.Spec.{Spec, Statement, has_reject, rejects}
 use Rattle.lex_semantics.specs.TableFor.{TableFor}
 use Rattle.lex_semantics.specs.Text.{Among, IsText, at_line_start}
 use Rattle.lexscan.specs.Tokens.{Tokenised, TokensOf}
 use Rattle.lexscan.specs.declared.token.Token.{Token}
-use Rattle.lexlook_counts.specs.Costs.{AreCosts, TurnCost, begins_at, tokens_in}
+use Rattle.lexlook_counts.specs.Costs.{AreCosts, LooksAt, TurnCost, begins_at, tokens_in}
 use Rattle.lexlook_counts.specs.GivenUp.{AreGivenUp, GivesUp, given_up}
 use Rattle.lexlook_counts.proofs.Turns.{none_given_up}
 
@@ -33,10 +34,13 @@ module _ (all : Bool) (R Q : Rules) (alike : Alike all R Q) (x : List ℕ) (text
       one_low Q.conditions ts u (tokens_low n ts before) (subst (λ (c : ℕ). c < Q.conditions) (sym token.condition_is) low) t (among_append ts (u ∷ []) t (subst (λ (l : List Token). Among l t) is at))
 
   -- how far they look is the same
+  looks_to : (p : Place) (r : ℕ) → p.condition < Q.conditions → LooksAt R x p r → LooksAt Q x p r
+  looks_to p r lt h i = (λ less. (let k = (h i).0 less in (k.0, asks_to all R Q alike x text p i lt k.1)), λ (fits, a). (h i).1 (fits, asks_from all R Q alike x text p i lt a))
+
   pub costs_to : (at : ℕ) (cs : List TurnCost) → ((t : Token) → Among (tokens_in cs) t → t.condition < Q.conditions) → AreCosts R x at cs → AreCosts Q x at cs
   costs_to at [] low h = tt
   costs_to at (c ∷ cs) low h = (
-    record { looked = h.0.looked; reach = reach_to all R Q alike x text (begins_at at c.token.condition) h.0.looked (low c.token (inl refl)) h.0.reach; beyond_is = h.0.beyond_is },
+    record { looked = h.0.looked; reach = looks_to (begins_at at c.token.condition) h.0.looked (low c.token (inl refl)) h.0.reach; beyond_is = h.0.beyond_is },
     costs_to c.token.end cs (λ t a. low t (inr a)) h.1,
   )
 

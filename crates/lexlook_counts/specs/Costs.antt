@@ -1,7 +1,7 @@
 -- What the turns of a scan look at behind the texts that they tell. (flex, Performance Considerations: backing up;
 -- POSIX, lex, Rules in lex: the longest match; the words are this project's.)
-use Rattle.std.specs.Prelude.{◌≡◌, ℕ, ◌-◌, Bool, List, [], ◌∷◌, map, ⊤}
-use Rattle.lex_semantics.specs.Demand.{Consistent, Reach}
+use Rattle.std.specs.Prelude.{◌≡◌, ℕ, ◌+◌, ◌-◌, ◌<◌, ◌↔◌, Bool, List, [], ◌∷◌, length, map, ⊤}
+use Rattle.lex_semantics.specs.Demand.{AsksAt, Consistent}
 use Rattle.lex_semantics.specs.Rules.{Rules}
 use Rattle.lex_semantics.specs.Run.{Place}
 use Rattle.lexscan.specs.Pulls.{whole_token}
@@ -23,10 +23,14 @@ tokens_in costs = map (λ c. c.token) costs
 abbrev pub begins_at : ℕ → ℕ → Place
 begins_at at condition = record { start = at; at = at; condition = condition; stack = [] }
 
+-- the match at a place asks for just the first r bytes there
+abbrev pub LooksAt : Rules → List ℕ → Place → ℕ → Type 0
+LooksAt R x p r = (i : ℕ) → (i < r) ↔ ((p.at + i < length x) × AsksAt R x p i)
+
 -- A turn that begins here looks at the bytes that its match asks for. Of these it tells how many lie behind its text.
 pub record IsCost (R : Rules) (x : List ℕ) (at : ℕ) (c : TurnCost) : Type 0 where
   pub looked : ℕ
-  pub reach : Reach R x (begins_at at c.token.condition) looked
+  pub reach : LooksAt R x (begins_at at c.token.condition) looked
   pub beyond_is : c.beyond ≡ looked - (c.token.end - at)
 
 -- Turns of an input: the first begins here, and each later one where the text of the one before ended.

@@ -8,6 +8,7 @@ use Rattle.lex_semantics.specs.Sound.{IsSound}
 use Rattle.lex_semantics.specs.Spec.{Spec}
 use Rattle.lex_semantics.specs.TableFor.{TableFor}
 use Rattle.lex_semantics.specs.Text.{IsText}
+use Rattle.lex_semantics.proofs.After.{turns_of}
 use Rattle.lex_semantics.proofs.Both.{same_run}
 use Rattle.lex_semantics.proofs.Once.{one_run, run_by}
 use Rattle.lex_semantics.specs.Demand.{ExtendsGiven}
@@ -50,7 +51,7 @@ goes x given rest ends ends' false e h = (rest, h.taken)
 
 -- a scan to the end over a text in memory is the run over all of it
 pub whole_run : (R : Rules) (x given out rest : List ℕ) (ends ends' : ℕ) (ending : Ending) → IsText x → Gives (Some x) (Some rest) ends ends' given → RunCompleted R given out (nat_lt ends ends') ending → Run R x out ending
-whole_run R x given out rest ends ends' ending text gave ran = (ran.turns, ran.place, (ran.scanned x (text, goes x given rest ends ends' (nat_lt ends ends') refl gave)).turns)
+whole_run R x given out rest ends ends' ending text gave ran = (ran.turns, ran.place, (turns_of _ _ _ _ _ (ran.scanned x (text, goes x given rest ends ends' (nat_lt ends ends') refl gave))))
 
 -- the run ends as the tokens do
 pub run_ends : (R : Rules) (x out : List ℕ) (us : List Token) (d e : Ending) → Tokenised R x us d → Run R x out e → Run R x out d

@@ -1,13 +1,16 @@
 -- The worked examples of what turns ask for.
-use Rattle.std.proofs.Common.{◌≡◌, ℕ, zero, suc, ◌+◌, ◌<◌, Bool, true, List, [], ◌∷◌, ◌++◌, length, inl, inr, ◌↔◌, Some, None, refl, ap, subst, arith}
-use Rattle.std.specs.Prelude.{codes, slice_get, max}
+use Rattle.std.proofs.Common.{◌≡◌, ℕ, zero, suc, ◌≤◌, Bool, true, false, List, [], ◌∷◌, ◌++◌, length, inl, inr, Some, refl, ap, subst, arith}
+use Rattle.std.specs.Prelude.{codes, slice_get, take, drop}
+use Rattle.std.proofs.lemmas.List.{length-append}
 use Rattle.lex_semantics.proofs.ExampleWords.{is_a, string_in, string_is, word_fits, fits_word}
-use Rattle.lex_semantics.specs.Demand.{AsksAt, AsksForEnd, Far, FarFrom}
+use Rattle.lex_semantics.specs.Demand.{Asks, AsksAt}
+use Rattle.lex_semantics.specs.Text.{at_line_start}
+use Rattle.lex_semantics.specs.Examples.{nothing}
 use Rattle.lex_semantics.specs.Fits.{Fits}
 use Rattle.lex_semantics.specs.Rules.{Live, rules_of}
-use Rattle.lex_semantics.specs.Run.{State, first_state, first_place}
+use Rattle.lex_semantics.specs.Run.{Place, first_place}
 use Rattle.lex_semantics.specs.Spec.{Rule}
-use Rattle.lexscan.specs.AskingExamples.{two_as, Asking, AskingEnd, Given, Known, Order}
+use Rattle.lexscan.specs.AskingExamples.{two_as, first_asks, second_place, Asking, AskingTogether, Given, Known, Order}
 
 -- the word of the rule, and the words that go on
 
@@ -29,94 +32,92 @@ first_byte : List ℕ → ℕ
 first_byte (b ∷ w) = b
 first_byte w = 0
 
-second_byte : List ℕ → ℕ
-second_byte (b ∷ c ∷ w) = c
-second_byte w = 0
+-- two bytes or more do not go on, and neither does a b
+long_is_dead : (line_start : Bool) (w : List ℕ) → 2 ≤ length w → Live two_as 0 line_start w → ⊥
+long_is_dead line_start w long (u, text, some, i, k, fits) =
+    let n : length (w ++ u) ≡ length (codes "aa") = ap length (only_aa 0 line_start (w ++ u) i k fits) in
+    omega (arith, n, long, some, length-append w u)
 
-whole_is_dead : Live two_as 0 true (codes "aa") → ⊥
-whole_is_dead (b ∷ u, text, some, i, k, fits) =
-    let n : length (codes "aa" ++ b ∷ u) ≡ length (codes "aa") = ap length (only_aa 0 true (codes "aa" ++ b ∷ u) i k fits) in
-    omega (arith, n)
-whole_is_dead ([], text, some, i, k, fits) = omega (arith, some)
-
-ab_is_dead : Live two_as 0 true (codes "ab") → ⊥
-unfolding second_byte
-ab_is_dead (u, text, some, i, k, fits) = let e : 98 ≡ 97 = ap second_byte (only_aa 0 true (codes "ab" ++ u) i k fits) in omega (arith, e)
-
-b_is_dead : Live two_as 0 true (codes "b") → ⊥
+b_is_dead : (line_start : Bool) → Live two_as 0 line_start (codes "b") → ⊥
 unfolding first_byte
-b_is_dead (u, text, some, i, k, fits) = let e : 98 ≡ 97 = ap first_byte (only_aa 0 true (codes "b" ++ u) i k fits) in omega (arith, e)
+b_is_dead line_start (u, text, some, i, k, fits) = let e : 98 ≡ 97 = ap first_byte (only_aa 0 line_start (codes "b" ++ u) i k fits) in omega (arith, e)
 
--- the bytes of the first match
+-- the answers that the first match asks for
 
-asked_of_aab : (i : ℕ) → 0 + i < 3 → (i < 2) ↔ AsksAt (rules_of two_as) (codes "aab") first_place i
-asked_of_aab zero lt = (λ h. inl refl, λ h. omega arith)
-asked_of_aab (suc zero) lt = (λ h. inr goes_on, λ h. omega arith)
-asked_of_aab (suc (suc zero)) lt = (λ h. absurd (omega (arith, h)), no)
+dead_at : (x : List ℕ) (p : Place) (i : ℕ) → p.condition ≡ 0 → (1 ≤ i) → (Live two_as 0 (at_line_start x p.at) (take i (drop p.at x)) → ⊥) → AsksAt (rules_of two_as) x p i → ⊥
+dead_at x p i c some dead (inl e) = omega (arith, e, some)
+dead_at x p i c some dead (inr live) = dead (subst (λ d. Live two_as d (at_line_start x p.at) (take i (drop p.at x))) c live)
+
+asks_two : (b : ℕ) → first_asks (97 ∷ b ∷ []) 2
+asks_two b zero = (λ h. (omega arith, inl refl), λ h. omega arith)
+asks_two b (suc zero) = (λ h. (omega arith, inr goes_on), λ h. omega arith)
+asks_two b (suc (suc zero)) = (λ h. absurd (omega (arith, h)), λ h. absurd (dead_at (97 ∷ b ∷ []) first_place 2 refl (omega arith) (long_is_dead true (97 ∷ b ∷ []) (omega arith)) h.1))
+asks_two b (suc (suc (suc i))) = (λ h. absurd (omega (arith, h)), λ h. absurd (omega (arith, h.0)))
+
+asked_of_aab : first_asks (codes "aab") 2
+asked_of_aab zero = (λ h. (omega arith, inl refl), λ h. omega arith)
+asked_of_aab (suc zero) = (λ h. (omega arith, inr goes_on), λ h. omega arith)
+asked_of_aab (suc (suc zero)) = (λ h. absurd (omega (arith, h)), λ h. absurd (dead_at (codes "aab") first_place 2 refl (omega arith) (long_is_dead true (codes "aa") (omega arith)) h.1))
+asked_of_aab (suc (suc (suc zero))) = (λ h. absurd (omega (arith, h)), λ h. absurd (dead_at (codes "aab") first_place 3 refl (omega arith) (long_is_dead true (codes "aab") (omega arith)) h.1))
+asked_of_aab (suc (suc (suc (suc i)))) = (λ h. absurd (omega (arith, h)), λ h. absurd (omega (arith, h.0)))
+
+asked_of_ba : first_asks (codes "ba") 1
+asked_of_ba zero = (λ h. (omega arith, inl refl), λ h. omega arith)
+asked_of_ba (suc zero) = (λ h. absurd (omega (arith, h)), λ h. absurd (dead_at (codes "ba") first_place 1 refl (omega arith) (b_is_dead true) h.1))
+asked_of_ba (suc (suc zero)) = (λ h. absurd (omega (arith, h)), λ h. absurd (dead_at (codes "ba") first_place 2 refl (omega arith) (long_is_dead true (codes "ba") (omega arith)) h.1))
+asked_of_ba (suc (suc (suc i))) = (λ h. absurd (omega (arith, h)), λ h. absurd (omega (arith, h.0)))
+
+asked_of_a : first_asks (codes "a") 2
+asked_of_a zero = (λ h. (omega arith, inl refl), λ h. omega arith)
+asked_of_a (suc zero) = (λ h. (omega arith, inr goes_on), λ h. omega arith)
+asked_of_a (suc (suc i)) = (λ h. absurd (omega (arith, h)), λ h. absurd (omega (arith, h.0)))
+
+asked_of_nothing : first_asks [] 1
+asked_of_nothing zero = (λ h. (omega arith, inl refl), λ h. omega arith)
+asked_of_nothing (suc i) = (λ h. absurd (omega (arith, h)), λ h. absurd (omega (arith, h.0)))
+
+third_of : (b c : ℕ) (w : List ℕ) → first_asks (b ∷ c ∷ w) 3 → ⊥
+third_of b c w h = dead_at (b ∷ c ∷ w) first_place 2 refl (omega arith) (long_is_dead true (b ∷ c ∷ []) (omega arith)) ((h 2).0 (omega arith)).1
+
+none_lives : (line_start : Bool) (w : List ℕ) → Live nothing 0 line_start w → ⊥
+none_lives line_start w (u, text, some, i, k, fits) = no_more_rules i fits.rule fits.at
+
+asked_of_none : Asks (rules_of nothing) (codes "a") first_place 1
+asked_of_none zero = (λ h. (omega arith, inl refl), λ h. omega arith)
+asked_of_none (suc zero) = (λ h. absurd (omega (arith, h)), λ h. absurd (dead h.1))
   where
-    no : AsksAt (rules_of two_as) (codes "aab") first_place 2 → 2 < 2
-    no (inl e) = absurd (omega (arith, e))
-    no (inr live) = absurd (whole_is_dead live)
-asked_of_aab (suc (suc (suc i))) lt = absurd (omega (arith, lt))
-
-asked_of_ab : (i : ℕ) → 0 + i < 2 → (i < 2) ↔ AsksAt (rules_of two_as) (codes "ab") first_place i
-asked_of_ab zero lt = (λ h. inl refl, λ h. omega arith)
-asked_of_ab (suc zero) lt = (λ h. inr goes_on, λ h. omega arith)
-asked_of_ab (suc (suc i)) lt = absurd (omega (arith, lt))
-
-asked_of_ba : (i : ℕ) → 0 + i < 2 → (i < 1) ↔ AsksAt (rules_of two_as) (codes "ba") first_place i
-asked_of_ba zero lt = (λ h. inl refl, λ h. omega arith)
-asked_of_ba (suc zero) lt = (λ h. absurd (omega (arith, h)), no)
-  where
-    no : AsksAt (rules_of two_as) (codes "ba") first_place 1 → 1 < 1
-    no (inl e) = absurd (omega (arith, e))
-    no (inr live) = absurd (b_is_dead live)
-asked_of_ba (suc (suc i)) lt = absurd (omega (arith, lt))
-
-three_of_aab : Far (rules_of two_as) (codes "aab") 1 3 → ⊥
-three_of_aab (s, f, turns, start, from) = far (subst (λ g. FarFrom (rules_of two_as) (codes "aab") first_state None g 3) start (subst (λ (t : State). FarFrom (rules_of two_as) (codes "aab") t t.ended f 3) turns from))
-  where
-    far : FarFrom (rules_of two_as) (codes "aab") first_state None 0 3 → ⊥
-    far (inl (at_end, e)) = omega (arith, at_end)
-    far (inr (before, r, reach, e)) =
-        let most : 3 ≡ max 0 (0 + r) = e in
-        let three : r ≡ 3 = omega (arith, most) in
-        let lt : 2 < r = omega (arith, three) in
-        no ((reach.asked 2 (omega arith)).0 lt)
-      where
-        no : AsksAt (rules_of two_as) (codes "aab") first_place 2 → ⊥
-        no (inl f) = omega (arith, f)
-        no (inr live) = whole_is_dead live
+    dead : AsksAt (rules_of nothing) (codes "a") first_place 1 → ⊥
+    dead (inl e) = omega (arith, e)
+    dead (inr live) = none_lives true (codes "a") live
+asked_of_none (suc (suc i)) = (λ h. absurd (omega (arith, h)), λ h. absurd (omega (arith, h.0)))
 
 pub asking : Asking
 asking = record {
-  none = refl;
-  whole = (first_state, 0, refl, refl, inr (omega arith, 2, record { inside = omega arith; asked = asked_of_aab }, refl));
-  no_more = three_of_aab;
-  second_byte = (first_state, 0, refl, refl, inr (omega arith, 2, record { inside = omega arith; asked = asked_of_ab }, refl));
-  first_byte = (first_state, 0, refl, refl, inr (omega arith, 1, record { inside = omega arith; asked = asked_of_ba }, refl));
+  whole = asked_of_aab;
+  no_more = third_of 97 97 (codes "b");
+  second_byte = asks_two 98;
+  first_byte = asked_of_ba;
+  longer_match = asked_of_a;
+  no_input = asked_of_nothing;
+  all_of_it = asks_two 97;
+  other_byte = third_of 97 98 [];
+  without_rules = asked_of_none;
 }
 
-end_of : (x : List ℕ) (s : State) → s ≡ first_state → AsksForEnd (rules_of two_as) x s.place → AsksForEnd (rules_of two_as) x first_place
-end_of x s e h = subst (λ (t : State). AsksForEnd (rules_of two_as) x t.place) e h
+second_of_aab : Asks (rules_of two_as) (codes "aab") second_place 1
+second_of_aab zero = (λ h. (omega arith, inl refl), λ h. omega arith)
+second_of_aab (suc zero) = (λ h. absurd (omega (arith, h)), λ h. absurd (dead_at (codes "aab") second_place 1 refl (omega arith) (b_is_dead false) h.1))
+second_of_aab (suc (suc i)) = (λ h. absurd (omega (arith, h)), λ h. absurd (omega (arith, h.0)))
 
-end_of_aa : AsksForEnd (rules_of two_as) (codes "aa") first_place → ⊥
-end_of_aa (inl e) = omega (arith, e)
-end_of_aa (inr (lt, inl e)) = omega (arith, e)
-end_of_aa (inr (lt, inr live)) = whole_is_dead live
-
-end_of_ab : AsksForEnd (rules_of two_as) (codes "ab") first_place → ⊥
-end_of_ab (inl e) = omega (arith, e)
-end_of_ab (inr (lt, inl e)) = omega (arith, e)
-end_of_ab (inr (lt, inr live)) = ab_is_dead live
-
-pub asking_end : AskingEnd
-asking_end = record {
-  longer_match = inr (first_state, refl, refl, inr (omega arith, inr goes_on));
-  no_input = inr (first_state, refl, refl, inl refl);
-  whole = λ h. elim h [ inl none ↦ none | inr (s, turns, going, asks) ↦ end_of_aa (end_of (codes "aa") s turns asks) ];
-  other_byte = λ h. elim h [ inl none ↦ none | inr (s, turns, going, asks) ↦ end_of_ab (end_of (codes "ab") s turns asks) ];
-  no_turn = λ h. h;
+pub together : AskingTogether
+together = record {
+  none = (refl, refl);
+  some = λ h. omega (arith, h.1);
+  further = (1, second_of_aab, refl);
+  no_further = (2, asked_of_aab, refl);
+  not_again = λ h. omega (arith, h.2);
+  ended = refl;
+  not_ended = λ h. omega (arith, h);
 }
 
 pub given : Given
@@ -130,9 +131,11 @@ given = record {
 
 pub known : Known
 known = record {
-  first = λ x consistent. record { turns = refl; reaches = refl; end = (λ e. cc, λ h. absurd h) };
-  at_end = λ h. (h [] (tt, refl)).end.0 refl;
-  one_byte = λ h. (let n : 1 ≡ 0 = (h (codes "a") ((omega arith, tt), ([], refl))).reaches in omega (arith, n));
+  first = λ x consistent. (refl, refl);
+  at_end = λ h. (let n : 1 ≡ 0 = (h [] (tt, refl)).1 in omega (arith, n));
+  one_byte = λ h. (let n : 1 ≡ 0 = (h (codes "a") ((omega arith, tt), ([], refl))).1 in omega (arith, n));
+  answered = refl;
+  end_answered = refl;
 }
 
 pub order : Order

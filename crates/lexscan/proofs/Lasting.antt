@@ -6,9 +6,10 @@ use Rattle.std.proofs.lemmas.Bool.{lt-ltb, ltb-true}
 use Rattle.std.proofs.lemmas.List.{length-drop}
 use Rattle.lex_semantics.specs.Scanned.{Scanned}
 use Rattle.lex_semantics.specs.Acting.{Status}
-use Rattle.lex_semantics.specs.Demand.{Consistent}
+use Rattle.lex_semantics.specs.Demand.{Consistent, answers}
 use Rattle.lex_semantics.specs.Machine.{Machine, rules_of_machine}
 use Rattle.lex_semantics.specs.MachineLaws.{MachineLaws}
+use Rattle.lex_semantics.proofs.After.{turns_of}
 use Rattle.lex_semantics.proofs.MachineLaws.{machine_laws}
 use Rattle.lex_semantics.proofs.MachineRun.{machine_candidates_exist}
 use Rattle.lex_semantics.proofs.Ends.{Grows}
@@ -49,7 +50,7 @@ turn_falls M laws m n given got out wrote old new h k none going few few' =
     let before : Consistent given old.reading.at_end g = (k.text, earlier given got old.reading.at_end new.reading.at_end g (λ e. (none e).0) (λ e. (none e).1) consistent.1) in
     let grows : Grows (state_of out h.start old).place (state_of (out ++ wrote) k.start new).place =
     turns_grow (rules_of_machine M) (machine_laws M laws) laws.legal (λ c line_start y. machine_candidates_exist M laws c line_start y) g n (state_of out h.start old) (state_of (out ++ wrote) k.start new)
-    (h.scanned g before).turns (k.scanned g consistent).turns (ap ending_of going) in
+    (turns_of _ _ _ _ _ (h.scanned g before)) (turns_of (rules_of_machine M) g (suc n) (state_of (out ++ wrote) k.start new) (answers g new.reading.at_end) (k.scanned g consistent)) (ap ending_of going) in
     let less = falls m (state_of out h.start old).place (state_of (out ++ wrote) k.start new).place (omega arith) (omega (arith, h.covered, h.taken)) (omega arith) (omega (arith, k.covered, k.taken)) grows in
     let a : start_of old ≡ h.start = start_is M n given out old h in
     let b : start_of new ≡ k.start = start_is M (suc n) g (out ++ wrote) new k in
@@ -127,9 +128,7 @@ ran_into M n e e' m given got out s error ends many h =
     let told : nat_lt e e' ≡ s.reading.at_end = answered e e' s.reading.at_end ends in
     subst (λ b. RunStopped (rules_of_machine M) (given ++ got) out b m error) (sym told) (record {
       turns = n;
-      had = given;
-      got = got;
-      all = refl;
+      had = answers given h.end_before;
       refused_turn = h.refused_turn;
       too_many = λ is. (let all = many is in (sym h.taken ∙ all.0, all.1));
       fault = h.fault;

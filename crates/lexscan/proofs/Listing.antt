@@ -8,6 +8,7 @@ use Rattle.lex_semantics.specs.Machine.{Machine, rules_of_machine}
 use Rattle.lex_semantics.specs.MachineLaws.{MachineLaws}
 use Rattle.lex_semantics.specs.Rules.{Rules}
 use Rattle.lex_semantics.specs.Run.{Place}
+use Rattle.lex_semantics.proofs.After.{turns_of}
 use Rattle.lex_semantics.proofs.Texts.{is_text_drop}
 use Rattle.lexscan_window.proofs.Keeping.{text_dropped}
 use Rattle.lexscan_window.specs.Memos.{AreTrue}
@@ -101,7 +102,7 @@ module _ (M : Machine) (old new : State) (got put : List ℕ) (m : Match) (going
         let first : Consistent given old.reading.at_end x = (c.0, earlier given got old.reading.at_end new.reading.at_end x (λ e. absurd (not_both (sym reading ∙ e))) (λ e. absurd (not_both (sym reading ∙ e))) c.1) in
         let e : suc n ≡ 1 + n = omega arith in
         subst (λ j. TokensOf R x j (us ++ token_by m old.place.condition ∷ [])) e
-        (state_of before h.start old, us, (h.scanned x first).turns, ap ending_of going, ts, inl (token_by m old.place.condition, token, refl));
+        (state_of before h.start old, us, (turns_of _ _ _ _ _ (h.scanned x first)), ap ending_of going, ts, inl (token_by m old.place.condition, token, refl));
   }
 
 -- some turns and then others

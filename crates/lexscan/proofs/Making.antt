@@ -98,8 +98,7 @@ module _ {S K : Type 0} (M : Machine) (laws : MachineLaws M) (gave : S → List 
           λ _. refl,
           λ n given out h. Fall.refusal M laws gave wrote _ _ _ _ n given out old new e going h m refl wants []
               (Fall.wanted_front M laws gave wrote _ _ _ _ n given out old new e going h m)
-              (Fall.unmet_within M laws gave wrote _ _ _ _ n given out old new e going h m k.0)
-              (Fall.unmet_end M laws gave wrote _ _ _ _ n given out old new e going h m k.0) (λ is. absurd (not is)) (λ _. refl),
+              (Fall.unmet_within M laws gave wrote _ _ _ _ n given out old new e going h m k.0) (λ is. absurd (not is)) (λ _. refl),
         ),
       )
 
@@ -116,8 +115,7 @@ module _ {S K : Type 0} (M : Machine) (laws : MachineLaws M) (gave : S → List 
           λ early. absurd (late early),
           λ n given out h. Fall.refusal M laws gave wrote _ _ _ _ n given out old new e going h m refl wants k.2.out
               (Fall.match_front M laws gave wrote _ _ _ _ n given out old new e going h m k.0 k.1 k.2)
-              (Fall.match_within M laws gave wrote _ _ _ _ n given out old new e going h m k.0 k.1)
-              (Fall.match_end M laws gave wrote _ _ _ _ n given out old new e going h m k.0 k.1) (λ is. absurd (not is)) (λ early. absurd (late early)),
+              (Fall.match_within M laws gave wrote _ _ _ _ n given out old new e going h m k.0 k.1) (λ is. absurd (not is)) (λ early. absurd (late early)),
         ),
       )
       from not late (inr (inr k)) = (
@@ -130,8 +128,7 @@ module _ {S K : Type 0} (M : Machine) (laws : MachineLaws M) (gave : S → List 
           λ early. absurd (late early),
           λ n given out h. Fall.refusal M laws gave wrote _ _ _ _ n given out old new e going h m refl wants k.1
               (Fall.end_front M laws gave wrote _ _ _ _ n given out old new e going h m k.0 k.1 k.2)
-              (Fall.end_within M laws gave wrote _ _ _ _ n given out old new e going h m k.0)
-              (Fall.end_end M laws gave wrote _ _ _ _ n given out old new e going h m k.0) (λ is. absurd (not is)) (λ early. absurd (late early)),
+              (Fall.end_within M laws gave wrote _ _ _ _ n given out old new e going h m k.0) (λ is. absurd (not is)) (λ early. absurd (late early)),
         ),
       )
 
@@ -153,7 +150,6 @@ module _ {S K : Type 0} (M : Machine) (laws : MachineLaws M) (gave : S → List 
               λ n given out h. Fall.refusal M laws gave wrote _ _ _ _ n given out old new e going h m refl wants k.2.performed.out
                   (Fall.match_front M laws gave wrote _ _ _ _ n given out old new e going h m k.0 k.1 cut)
                   (Fall.match_within M laws gave wrote _ _ _ _ n given out old new e going h m k.0 k.1)
-                  (Fall.match_end M laws gave wrote _ _ _ _ n given out old new e going h m k.0 k.1)
                   (λ _. Go.faulted_ran M laws gave wrote _ _ _ _ n given out old new going h m.took k.0 k.1 k.2)
                   (λ early. absurd (early.1 is)),
             ),

@@ -8,11 +8,12 @@ use Rattle.lex_semantics.specs.Text.{IsText, BeginsWith, part}
 use Rattle.lex_semantics.specs.ByteSets.{bit_of}
 use Rattle.lex_semantics.specs.Rules.{Rules}
 use Rattle.lex_semantics.specs.Acting.{Status, StackFault}
-use Rattle.lex_semantics.specs.Demand.{Consistent, ExtendsGiven}
+use Rattle.lex_semantics.specs.Demand.{Consistent, ExtendsGiven, answers}
 use Rattle.lex_semantics.specs.Machine.{Machine, rules_of_machine}
 use Rattle.lex_semantics.specs.MachineLaws.{MachineLaws}
 use Rattle.lex_semantics.specs.Run as Scan
 use Rattle.lex_semantics.specs.Run.{Place, Turns, NextFrom}
+use Rattle.lex_semantics.proofs.After.{turns_of}
 use Rattle.lex_semantics.proofs.Once.{one_state}
 use Rattle.lex_semantics.proofs.Texts.{part_front, is_text_append}
 use Rattle.lex_io.specs.Source.{Gives}
@@ -154,8 +155,8 @@ goes_by_match M n given got out put old new going h k none is =
     let consistent : Consistent g new.reading.at_end g = (invariant.text, just_these g new.reading.at_end) in
     let s : Scan.State = state_of out h.start old in
     let t : Scan.State = state_of (out ++ put) invariant.start new in
-    let before : Turns R g n s = (h.scanned g (invariant.text, earlier given got old.reading.at_end new.reading.at_end g (λ e. (none e).0) (λ e. (none e).1) consistent.1)).turns in
-    let after : Turns R g (suc n) t = (invariant.scanned g consistent).turns in
+    let before : Turns R g n s = (turns_of _ _ _ _ _ (h.scanned g (invariant.text, earlier given got old.reading.at_end new.reading.at_end g (λ e. (none e).0) (λ e. (none e).1) consistent.1))) in
+    let after : Turns R g (suc n) t = turns_of R g (suc n) t (answers g new.reading.at_end) (invariant.scanned g consistent) in
     let tells : TellsMatch R g new.reading.at_end s.place None (text_of None new) = subst (λ o. TellsMatch R g new.reading.at_end s.place o (text_of o new)) is (k.2 going n given out h) in
     let one : after.0 ≡ s = one_state R g n after.0 s after.1 before in
     let next : NextFrom R g s None t = subst (λ e. NextFrom R g s e t) (ap ending_of going) (subst (λ (z : Scan.State). NextFrom R g z z.ended t) one after.2) in
@@ -169,7 +170,7 @@ pub ended_all : (M : Machine) (fed : List ℕ) (told : Bool) (tokens : List Toke
 ended_all M fed told tokens s waiting status h over x c = record {
   turns = h.turns;
   last = state_of h.out h.invariant.start s;
-  reached = (h.invariant.scanned x (c.0, goes_on fed h.given h.left told s.reading.at_end x h.all h.ending c.1)).turns;
+  reached = (turns_of _ _ _ _ _ (h.invariant.scanned x (c.0, goes_on fed h.given h.left told s.reading.at_end x h.all h.ending c.1)));
   ends = ap ending_of over;
   tokens = h.tokens_are x c;
 }
@@ -208,7 +209,7 @@ module _ (M : Machine) (fed : List ℕ) (told : Bool) (tokens : List Token) (old
           (told_true told (omega (arith, few, one, limit, taken, sizes, ap length nothing)), nothing)
 
   before : (x : List ℕ) → Consistent fed told x → Turns R x h.turns (state_of h.out h.invariant.start old)
-  before x c = (h.invariant.scanned x (c.0, goes_on fed h.given h.left told old.reading.at_end x h.all h.ending c.1)).turns
+  before x c = (turns_of _ _ _ _ _ (h.invariant.scanned x (c.0, goes_on fed h.given h.left told old.reading.at_end x h.all h.ending c.1)))
 
   -- it was made
   module _ (turn : Turn) (k : TurnPreserves M old new got put (Ok turn)) where
@@ -311,7 +312,7 @@ module _ (M : Machine) (fed : List ℕ) (told : Bool) (tokens : List Token) (old
       because (inr is) =
           let ran : RunCompleted R (h.given ++ got) (h.out ++ put) new.reading.at_end StackFault = refusal.fault is in
           let last : Scan.State = record { written = h.out ++ put; place = ran.place; ended = Some StackFault } in
-          inr (is, last, subst (λ n. Turns R x n last) (refusal.at_once is) (ran.scanned x (c.0, goes_on fed (h.given ++ got) left told new.reading.at_end x fed_is (ending refusal.taken) c.1)).turns, refl)
+          inr (is, last, subst (λ n. Turns R x n last) (refusal.at_once is) (turns_of _ _ _ _ _ (ran.scanned x (c.0, goes_on fed (h.given ++ got) left told new.reading.at_end x fed_is (ending refusal.taken) c.1))), refl)
 
 -- The match asks for more than all that waits.
 pub asks_on : (M : Machine) → MachineLaws M → (states : ℕ) (fed : List ℕ) (told : Bool) (tokens : List Token) (s : State) (waiting : List ℕ) (last : ℕ) → TokensTold M fed told tokens s waiting → told ≡ false → s.ended ≡ None → s.place.at ≤ length s.reading.window.bytes →

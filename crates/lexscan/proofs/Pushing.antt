@@ -4,6 +4,7 @@ use Rattle.std.specs.Prelude.{IfSome, Result, IfErr, OnErr, IsErrOf, nat_le}
 use Rattle.std.proofs.lemmas.Bool.{cases_lt, cases_eq, cases_Bool, le-leb}
 use Rattle.std.proofs.lemmas.List.{length-append, drop-append-le, nil_from_length, take-append-le, length-drop, drop_all}
 use Rattle.std.proofs.Math.Seq.{take-append_seam, drop-append_seam, drop-append-add}
+use Rattle.lex_semantics.proofs.After.{turns_of}
 use Rattle.lex_semantics.proofs.Once.{run_by}
 use Rattle.lex_semantics.specs.Text.{IsText, BeginsWith, at_line_start}
 use Rattle.lex_semantics.specs.Acting.{Ending, Status}
@@ -102,7 +103,7 @@ module _ (M : Machine) (n : ℕ) (given got out out' : List ℕ) (old mid new : 
   same_start =
       let b = refusal.refused_turn.after all consistent in
       let a = h.scanned all (refusal.refused_turn.text, earlier given got old.reading.at_end mid.reading.at_end all (λ e. (none e).0) (λ e. (none e).1) consistent.1) in
-      let one : refusal.refused_turn.before ≡ state_of out h.start old = one_state (rules_of_machine M) all n refusal.refused_turn.before (state_of out h.start old) b.turns a.turns in
+      let one : refusal.refused_turn.before ≡ state_of out h.start old = one_state (rules_of_machine M) all n refusal.refused_turn.before (state_of out h.start old) (turns_of _ _ _ _ _ b) (turns_of _ _ _ _ _ a) in
       ap (λ (s : Scan.State). s.place.start) one
 
   pub same_bytes : new.reading.window.bytes ≡ take (length old.reading.window.bytes) mid.reading.window.bytes → new.reading.window.bytes ≡ old.reading.window.bytes
@@ -133,7 +134,7 @@ module _ (M : Machine) (n : ℕ) (given got out out' : List ℕ) (old mid new : 
       }
 
   pub asks_more : AsksForMore (rules_of_machine M) n all
-  asks_more = refusal.refused_turn.asks_end (inl refl)
+  asks_more t asked after = omega (arith, refusal.refused_turn.more refl t asked after)
 
 -- some turns, and then some more
 pub made_then : (M : Machine) (old mid new : State) (a b : ℕ) (got put got' put' : List ℕ) → MadeTurns M old mid a got put → MadeTurns M mid new b got' put' → MadeTurns M old new (b + a) (got ++ got') (put ++ put')
@@ -269,7 +270,7 @@ module _ (M : Machine) (old new : State) (waiting : List ℕ) (fed out : List �
   run_of turns status got put b x made ended reading text goes =
       let invariant = made h.turns h.given out h.invariant in
       let last : Scan.State = state_of (out ++ put) invariant.start new in
-      run_by R x (out ++ put) (Status status) (turns + h.turns) last (invariant.scanned x (text, subst (λ e. ExtendsGiven (h.given ++ got) e x) (sym reading) goes)).turns refl (ap ending_of ended)
+      run_by R x (out ++ put) (Status status) (turns + h.turns) last (turns_of _ _ _ _ _ (invariant.scanned x (text, subst (λ e. ExtendsGiven (h.given ++ got) e x) (sym reading) goes))) refl (ap ending_of ended)
 
   pub fed_ended : (turns status : ℕ) (got put left kept : List ℕ) → MadeTurns M old new turns got put → new.ended ≡ Some status → new.reading.at_end ≡ false → waiting ≡ got ++ left → AfterFeed M fed (out ++ put) new kept (Ok (Turn.Ended status))
   fed_ended turns status got put left kept made ended reading is = (
@@ -297,14 +298,14 @@ module _ (M : Machine) (old new : State) (waiting : List ℕ) (fed out : List �
     pub fed_refused : (kept : List ℕ) → new.reading.at_end ≡ false → AfterFeed M fed (out ++ put) new kept (Err e)
     fed_refused kept reading = (
       λ x text begins. refusal.refused_turn.front x (goes x text begins),
-      λ fault x text begins. (let ran = refusal.fault fault in (ran.turns, ran.place, (ran.scanned x (goes x text begins)).turns)),
+      λ fault x text begins. (let ran = refusal.fault fault in (ran.turns, ran.place, (turns_of _ _ _ _ _ (ran.scanned x (goes x text begins))))),
     )
       where
         goes : (x : List ℕ) → IsText x → BeginsWith x fed → Consistent ((h.given ++ had) ++ more) new.reading.at_end x
         goes x text begins = (text, subst (λ b. ExtendsGiven ((h.given ++ had) ++ more) b x) (sym reading) (begins_less x ((h.given ++ had) ++ more) left (subst (BeginsWith x) (all_fed got had more left is waits) begins)))
 
     pub end_refused : (new.reading.at_end ≡ true → left ≡ []) → AfterFinish R fed (out ++ put) (Err e)
-    end_refused none text = (refusal.refused_turn.front fed goes, λ fault. (let ran = refusal.fault fault in (ran.turns, ran.place, (ran.scanned fed goes).turns)))
+    end_refused none text = (refusal.refused_turn.front fed goes, λ fault. (let ran = refusal.fault fault in (ran.turns, ran.place, (turns_of _ _ _ _ _ (ran.scanned fed goes)))))
       where
         goes : Consistent ((h.given ++ had) ++ more) new.reading.at_end fed
         goes = (text, subst (ExtendsGiven ((h.given ++ had) ++ more) new.reading.at_end) (sym (all_fed got had more left is waits)) (consistent_end ((h.given ++ had) ++ more) left new.reading.at_end none))
@@ -353,11 +354,11 @@ module _ (M : Machine) (fed out : List ℕ) (s : State) (waiting : List ℕ) (h 
       (text, subst (λ b. ExtendsGiven h.given b x) (sym h.reading) (begins_less x h.given (h.left ++ piece) (subst (BeginsWith x) all begins)))
 
   pub fed_first : (piece : List ℕ) → WritesFirst (rules_of_machine M) (fed ++ piece) (out ++ [])
-  fed_first piece x text begins w ending run = subst (BeginsWith w) (sym (append-nil out)) (run_begins (rules_of_machine M) x h.turns (state_of out h.invariant.start s) w ending (h.invariant.scanned x (goes_on piece x text begins)).turns run)
+  fed_first piece x text begins w ending run = subst (BeginsWith w) (sym (append-nil out)) (run_begins (rules_of_machine M) x h.turns (state_of out h.invariant.start s) w ending (turns_of _ _ _ _ _ (h.invariant.scanned x (goes_on piece x text begins))) run)
 
   pub fed_runs : (piece : List ℕ) (status : ℕ) → s.ended ≡ Some status → RunsTo (rules_of_machine M) (fed ++ piece) (out ++ []) (Status status)
   fed_runs piece status ended x text begins =
-      run_by (rules_of_machine M) x (out ++ []) (Status status) h.turns (state_of out h.invariant.start s) (h.invariant.scanned x (goes_on piece x text begins)).turns (sym (append-nil out)) (ap ending_of ended)
+      run_by (rules_of_machine M) x (out ++ []) (Status status) h.turns (state_of out h.invariant.start s) (turns_of _ _ _ _ _ (h.invariant.scanned x (goes_on piece x text begins))) (sym (append-nil out)) (ap ending_of ended)
 
   pub fed_over : (piece : List ℕ) (status : ℕ) → s.ended ≡ Some status → AfterFeed M (fed ++ piece) (out ++ []) s waiting (Ok (Turn.Ended status))
   fed_over piece status ended = (
@@ -409,7 +410,7 @@ asking_more M s waiting piece waiting' first last inside is h k =
 -- Where the match goes on over all the bytes, the next turn asks for more.
 pub asks_still : (M : Machine) → MachineLaws M → (fed out : List ℕ) (s : State) (waiting : List ℕ) (last : ℕ) (h : Fed M fed out s waiting) → s.ended ≡ None → s.place.at ≤ length s.reading.window.bytes →
     WalkStaysLive M (M.start s.place.condition s.place.line_start) (drop s.place.at (s.reading.window.bytes ++ waiting)) last → IsText fed → AsksForMore (rules_of_machine M) h.turns fed
-asks_still M laws fed out s waiting last h going inside goes text t far asked after =
+asks_still M laws fed out s waiting last h going inside goes text t asked after =
     let k = h.invariant in
     let w : List ℕ = s.reading.window.bytes ++ waiting in
     let size : length w ≡ length s.reading.window.bytes + length waiting = length-append s.reading.window.bytes waiting in
@@ -420,8 +421,8 @@ asks_still M laws fed out s waiting last h going inside goes text t far asked af
     let wants : Wants M s.place reading = record { inside = omega (arith, inside, size); asked = λ i some le. goes.1 i some (omega (arith, left, le)); reading = h.reading } in
     let more : WantsMore (rules_of_machine M) (h.given ++ waiting) (record { start = k.start; at = k.start + s.place.at; condition = s.place.condition; stack = s.acting.stack }) =
     wants_here M laws h.given waiting k.start s.place s.acting.stack w k.covered win k.line reading refl wants in
-    let turns = (k.scanned fed (text, subst (λ b. ExtendsGiven h.given b fed) (sym h.reading) (waiting, all))).turns in
-    wanted_end (rules_of_machine M) fed h.turns (state_of out k.start s) t far asked turns (ap ending_of going) (subst (λ l. WantsMore (rules_of_machine M) l (record { start = k.start; at = k.start + s.place.at; condition = s.place.condition; stack = s.acting.stack })) (sym all) more) after
+    let turns = (turns_of _ _ _ _ _ (k.scanned fed (text, subst (λ b. ExtendsGiven h.given b fed) (sym h.reading) (waiting, all)))) in
+    wanted_end (rules_of_machine M) fed h.turns (state_of out k.start s) t asked turns (ap ending_of going) (subst (λ l. WantsMore (rules_of_machine M) l (record { start = k.start; at = k.start + s.place.at; condition = s.place.condition; stack = s.acting.stack })) (sym all) more) after
 
 -- what two walks tell, and one more
 pub asking_all : (M : Machine) (states : ℕ) (s : State) (waiting : List ℕ) (held : ℕ) (o : Option ℕ) → s.place.at ≤ length s.reading.window.bytes → WalkStaysLive M (M.start s.place.condition s.place.line_start) (drop s.place.at s.reading.window.bytes) held →

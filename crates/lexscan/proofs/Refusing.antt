@@ -1,23 +1,22 @@
 -- What a turn that was refused leaves.
-use Rattle.std.proofs.Common.{◌≡◌, ℕ, zero, suc, ◌+◌, ◌-◌, ◌≤◌, ◌<◌, Bool, true, false, List, [], ◌++◌, length, drop, ◌⊎◌, inl, inr, Some, None, refl, sym, ◌∙◌, ap, subst, arith}
+use Rattle.std.proofs.Common.{◌≡◌, ℕ, zero, suc, ◌+◌, ◌-◌, ◌≤◌, ◌<◌, max, Bool, true, false, List, [], ◌++◌, length, drop, ◌⊎◌, inl, inr, Some, None, refl, sym, ◌∙◌, ap, subst, arith}
 use Rattle.std.proofs.lemmas.List.{append-nil, append_assoc, length-append, length-drop, drop-append-le, drop_all, nil_from_length}
 use Rattle.lex_semantics.specs.Text.{IsText, BeginsWith}
-use Rattle.lex_semantics.specs.Rules.{Rules}
 use Rattle.lex_semantics.specs.Acting as Scan
 use Rattle.lex_semantics.specs.Acting.{Ending, Status, StackFault}
 use Rattle.lex_semantics.specs.Run as Run
 use Rattle.lex_semantics.specs.Run.{Place, Turns}
-use Rattle.lex_semantics.specs.Demand.{AsksAt, FarFrom, Far, Consistent, ExtendsGiven}
+use Rattle.lex_semantics.specs.Demand.{AsksAt, Asks, Consistent, ExtendsGiven, answers}
 use Rattle.lex_semantics.specs.Scanned.{AfterTurns, seen_turn}
 use Rattle.lex_semantics.specs.Machine.{Machine, rules_of_machine}
 use Rattle.lex_semantics.specs.MachineLaws.{MachineLaws}
 use Rattle.lex_semantics.proofs.MachineLaws.{machine_laws}
-use Rattle.lex_semantics.proofs.Once.{one_state}
-use Rattle.lex_semantics.proofs.Both.{one_far}
+use Rattle.lex_semantics.proofs.After.{last_asks, turns_of}
+use Rattle.lex_semantics.proofs.Both.{one_after}
 use Rattle.lex_semantics.proofs.Prefix.{asks_front}
 use Rattle.lex_semantics.proofs.Step.{seen_match}
 use Rattle.lex_semantics.proofs.Texts.{is_text_append}
-use Rattle.lex_semantics.proofs.Wanted.{WantsMore, wanted_far, wanted_end}
+use Rattle.lex_semantics.proofs.Wanted.{WantsMore, wanted}
 use Rattle.lex_semantics.proofs.Written.{run_begins, part_begins}
 use Rattle.lexscan_window.specs.declared.state.State.{State}
 use Rattle.lexscan_window.specs.declared.error.RunError.{RunError}
@@ -48,38 +47,13 @@ pub just_these : (given : List ℕ) (b : Bool) → ExtendsGiven given b given
 just_these given true = refl
 just_these given false = ([], sym (append-nil given))
 
--- how far one more turn asks
-module _ (R : Rules) (x : List ℕ) (n : ℕ) (s : Run.State) (f : ℕ) (turns : Turns R x n s) (far : Far R x n f) (going : s.ended ≡ None) (t : Run.State) (g : ℕ) (e : Bool) (after : AfterTurns R x (suc n) t g e) where
-  far_step : FarFrom R x s None f g
-  far_step =
-      let r = after.reaches in
-      let same : r.0 ≡ s = one_state R x n r.0 s r.2 turns in
-      let one : r.1 ≡ f = one_far R x n r.1 f r.3 far in
-      subst (λ k. FarFrom R x s None k g) one (subst (λ z. FarFrom R x s z r.1 g) going (subst (λ (z : Run.State). FarFrom R x z z.ended r.1 g) same r.4))
-
-  pub no_less : f ≤ g
-  no_less = from far_step
-    where
-      from : FarFrom R x s None f g → f ≤ g
-      from (inl k) = omega (arith, k.1)
-      from (inr k) = let is = k.3 in omega (arith, is)
-
-  pub asked_far : (k : ℕ) → 1 ≤ k → s.place.at + k ≤ length x → ((i : ℕ) → i < k → AsksAt R x s.place i) → s.place.at + k ≤ g
-  asked_far zero some fits asks = absurd (omega (arith, some))
-  asked_far (suc k) some fits asks = from far_step
-    where
-      from : FarFrom R x s None f g → s.place.at + suc k ≤ g
-      from (inl h) = absurd (omega (arith, h.0, fits))
-      from (inr h) =
-          let reach = h.2 in
-          let less : k < h.1 = (reach.asked k (omega (arith, fits))).1 (asks k (omega arith)) in
-          let is = h.3 in
-          omega (arith, is, less)
-
 module _ {S K : Type 0} (M : Machine) (laws : MachineLaws M) (gave : S → List ℕ → S → Type 0) (wrote : K → List ℕ → K → Type 0) (s s' : S) (t t' : K) (n : ℕ) (given out : List ℕ) (old new : State) (error : RunError)
     (going : old.ended ≡ None) (h : TurnInvariant M n given out old) (m : RefusedStep M gave wrote s s' t t' (record old { failed = true }) new error) where
-  after_before : (x : List ℕ) → Consistent (given ++ m.took.got) new.reading.at_end x → AfterTurns (rules_of_machine M) x n (state_of out h.start old) (length given) old.reading.at_end
+  after_before : (x : List ℕ) → Consistent (given ++ m.took.got) new.reading.at_end x → AfterTurns (rules_of_machine M) x n (state_of out h.start old) (answers given old.reading.at_end)
   after_before x k = h.scanned x (k.0, earlier given m.took.got old.reading.at_end new.reading.at_end x m.took.nothing m.took.end_stays k.1)
+
+  turns_before : (x : List ℕ) → Consistent (given ++ m.took.got) new.reading.at_end x → Turns (rules_of_machine M) x n (state_of out h.start old)
+  turns_before x k = turns_of (rules_of_machine M) x n (state_of out h.start old) (answers given old.reading.at_end) (after_before x k)
 
   win : drop h.start (given ++ m.took.got) ≡ new.reading.window.bytes
   win = drop-append-le h.start given m.took.got (omega (arith, h.covered)) ∙ ap (λ z. z ++ m.took.got) (sym h.held) ∙ sym m.took.held
@@ -94,84 +68,66 @@ module _ {S K : Type 0} (M : Machine) (laws : MachineLaws M) (gave : S → List 
   abbrev pub Fronts : List ℕ → Type 0
   Fronts w = (x : List ℕ) → Consistent (given ++ m.took.got) new.reading.at_end x → (v : List ℕ) (e : Ending) → Run.Run (rules_of_machine M) x v e → BeginsWith v (out ++ w)
 
-  -- the bytes taken are asked for
+  -- the place of the turn, and what was taken
+  abbrev pub p : Place
+  p = record { start = h.start; at = h.start + old.place.at; condition = old.place.condition; stack = old.acting.stack }
+
+  abbrev pub all : List ℕ
+  all = given ++ m.took.got
+
+  -- what was answered is asked for
   abbrev pub Within : Type 0
-  Within = (x : List ℕ) → Consistent (given ++ m.took.got) new.reading.at_end x → (t : Run.State) (far : ℕ) (asked : Bool) → AfterTurns (rules_of_machine M) x (suc n) t far asked → length (given ++ m.took.got) ≤ far
+  Within = (x : List ℕ) → Consistent all new.reading.at_end x → (r : ℕ) → Asks (rules_of_machine M) x p r → answers all new.reading.at_end ≤ max (answers given old.reading.at_end) (p.at + r)
 
-  -- the end is asked for
-  abbrev pub AsksEnd : Type 0
-  AsksEnd = (t : Run.State) (far : ℕ) (asked : Bool) → AfterTurns (rules_of_machine M) (given ++ m.took.got) (suc n) t far asked → asked ≡ true
-
-  over_these : AfterTurns (rules_of_machine M) (given ++ m.took.got) n (state_of out h.start old) (length given) old.reading.at_end
-  over_these = after_before (given ++ m.took.got) (is_text_append given m.took.got h.text m.took.text, just_these (given ++ m.took.got) new.reading.at_end)
-
-  -- it was answered before this turn, if at all
-  pub kept_end : new.reading.at_end ≡ old.reading.at_end → new.reading.at_end ≡ true → AsksEnd
-  kept_end same ended = (λ t far asked after. after.end.1 (inl (over_these.end.0 (sym same ∙ ended))))
-
-  pub unmet_end : Unmet M old.place old.reading new.reading → new.reading.at_end ≡ true → AsksEnd
-  unmet_end (inl wants) ended = absurd (no (sym ended ∙ wants.reading))
+  -- No more was answered than what was before, or at the end of what is asked for now.
+  few_answers : (a b : Bool) → (a ≡ true → length m.took.got ≡ 0) → (a ≡ true → b ≡ true) → (r : ℕ) → length all ≤ max (length given) (p.at + r) → (b ≡ true → (a ≡ true) ⊎ (length all < p.at + r)) →
+      answers all b ≤ max (answers given a) (p.at + r)
+  few_answers a true none stays r le ends = by_end a none (ends refl)
     where
-      no : true ≡ false → ⊥
-      no e = cc
-  unmet_end (inr same) ended = kept_end same.1 ended
+      by_end : (a : Bool) → (a ≡ true → length m.took.got ≡ 0) → (a ≡ true) ⊎ (length all < p.at + r) → answers all true ≤ max (answers given a) (p.at + r)
+      by_end true none told = omega (arith, none refl, longer)
+      by_end false none (inl told) = absurd cc
+      by_end false none (inr more) = omega (arith, more)
+  few_answers true false none stays r le ends = absurd (let no : false ≡ true = stays refl in cc)
+  few_answers false false none stays r le ends = omega (arith, le)
 
-  -- the turn is at the end
-  pub end_end : LookedAtEnd old.place old.reading new.reading → new.reading.at_end ≡ true → AsksEnd
-  end_end looked ended = (λ t far asked after. after.end.1 (inr (state_of out h.start old, over_these.turns, ap ending_of going, inl (omega (arith, size, looked.all, longer, h.covered)))))
+  none_after : old.reading.at_end ≡ true → length m.took.got ≡ 0
+  none_after told = ap length (m.took.nothing told)
 
-  -- the match asks for the byte after those held
-  pub match_end : (path : List ℕ) → Looked M old.place old.reading new.reading path → new.reading.at_end ≡ true → AsksEnd
-  match_end path looked ended = from looked.stops
-    where
-      from : ((M.goes_on looked.state ≡ false) × (new.reading.at_end ≡ old.reading.at_end)) ⊎ ((M.goes_on looked.state ≡ true) × (old.place.at + looked.reach ≡ length new.reading.window.bytes) × (new.reading.at_end ≡ true)) → AsksEnd
-      from (inl q) = kept_end q.1 ended
-      from (inr q) = (λ t far asked after.
-          let g : List ℕ = given ++ m.took.got in
-          let p : Place = record { start = h.start; at = h.start + old.place.at; condition = old.place.condition; stack = old.acting.stack } in
-          let live : AsksAt (rules_of_machine M) g p looked.reach = live_here M laws given m.took.got h.start old.place old.acting.stack new.reading.window.bytes h.covered win h.line looked.reach looked.state path looked.some looked.so_far q.0 in
-          let fits : h.start + old.place.at + looked.reach ≤ length g = inside_here M laws given m.took.got h.start old.place old.acting.stack new.reading.window.bytes h.covered win h.line looked.reach looked.state path looked.some looked.so_far in
-          let last : looked.reach ≡ length g - (h.start + old.place.at) = omega (arith, size, q.1, fits) in
-          after.end.1 (inr (state_of out h.start old, over_these.turns, ap ending_of going, inr (omega (arith, fits, looked.some), subst (AsksAt (rules_of_machine M) g p) last live))))
+  pub wants_more : Wants M old.place new.reading → WantsMore (rules_of_machine M) all p
+  wants_more wants = wants_here M laws given m.took.got h.start old.place old.acting.stack new.reading.window.bytes h.covered win h.line new.reading refl wants
 
-  pub wants_end : Wants M old.place new.reading → (old.reading.at_end ≡ false) × ((t : Run.State) (far : ℕ) (asked : Bool) → AfterTurns (rules_of_machine M) (given ++ m.took.got) (suc n) t far asked → asked ≡ true)
-  wants_end wants =
-      let g : List ℕ = given ++ m.took.got in
-      let more : WantsMore (rules_of_machine M) g (record { start = h.start; at = h.start + old.place.at; condition = old.place.condition; stack = old.acting.stack }) =
-      wants_here M laws given m.took.got h.start old.place old.acting.stack new.reading.window.bytes h.covered win h.line new.reading refl wants in
-      (not_before old.reading.at_end refl, λ t far asked after. wanted_end (rules_of_machine M) g n (state_of out h.start old) t far asked over_these.turns (ap ending_of going) more after)
-    where
-      no : true ≡ false → ⊥
-      no p = cc
+  -- over an input that goes on from them the turn asks for more than was taken
+  pub wants_beyond : Wants M old.place new.reading → (x : List ℕ) → Consistent all new.reading.at_end x → (r : ℕ) → Asks (rules_of_machine M) x p r → length all < p.at + r
+  wants_beyond wants x k r asks =
+      let split = with_rest all new.reading.at_end x k.1 in
+      wanted (rules_of_machine M) all split.0 p r (wants_more wants) (subst (λ y. Asks (rules_of_machine M) y p r) split.1 asks)
 
-      not_before : (b : Bool) → old.reading.at_end ≡ b → old.reading.at_end ≡ false
-      not_before true e = absurd (no (sym (m.took.end_stays e) ∙ wants.reading))
-      not_before false e = e
+  false_first : (b : Bool) → b ≡ false → b ≡ true → ⊥
+  false_first b e k = let no : false ≡ true = sym e ∙ k in cc
 
   pub wanted_front : Fronts []
-  wanted_front = (λ x k v e run. subst (BeginsWith v) (sym (append-nil out)) (run_begins (rules_of_machine M) x n (state_of out h.start old) v e (after_before x k).turns run))
+  wanted_front = (λ x k v e run. subst (BeginsWith v) (sym (append-nil out)) (run_begins (rules_of_machine M) x n (state_of out h.start old) v e (turns_before x k) run))
 
   -- nothing was taken
-  nothing_within : new.reading.window.bytes ≡ old.reading.window.bytes → Within
-  nothing_within same = (λ x k t far asked after.
+  took_none : new.reading.window.bytes ≡ old.reading.window.bytes → length all ≡ length given
+  took_none same =
       let took : length new.reading.window.bytes ≡ length old.reading.window.bytes + length m.took.got = ap length m.took.held ∙ length-append old.reading.window.bytes m.took.got in
-      let over = after_before x k in
-      let le : length given ≤ far = no_less (rules_of_machine M) x n (state_of out h.start old) (length given) over.turns over.reaches (ap ending_of going) t far asked after in
-      omega (arith, longer, took, ap length same, le))
+      omega (arith, longer, took, ap length same)
 
   pub unmet_within : Unmet M old.place old.reading new.reading → Within
-  unmet_within (inr same) = nothing_within same.0
-  unmet_within (inl wants) = (λ x k t far asked after.
-      let g : List ℕ = given ++ m.took.got in
-      let split = with_rest g new.reading.at_end x k.1 in
-      let more : WantsMore (rules_of_machine M) g (record { start = h.start; at = h.start + old.place.at; condition = old.place.condition; stack = old.acting.stack }) =
-      wants_here M laws given m.took.got h.start old.place old.acting.stack new.reading.window.bytes h.covered win h.line new.reading refl wants in
-      wanted_far (rules_of_machine M) (machine_laws M laws) g split.0 (subst IsText split.1 k.0) n (state_of out h.start old) t far asked
-      (subst (λ y. Turns (rules_of_machine M) y n (state_of out h.start old)) split.1 (after_before x k).turns) (ap ending_of going) more
-      (subst (λ y. AfterTurns (rules_of_machine M) y (suc n) t far asked) split.1 after))
+  unmet_within (inr same) x k r asks =
+      few_answers old.reading.at_end new.reading.at_end none_after m.took.end_stays r (omega (arith, took_none same.0)) (λ told. inl (sym same.1 ∙ told))
+  unmet_within (inl wants) x k r asks =
+      let beyond : length all < p.at + r = wants_beyond wants x k r asks in
+      few_answers old.reading.at_end new.reading.at_end none_after m.took.end_stays r (omega (arith, beyond)) (λ told. inr beyond)
 
   pub end_within : LookedAtEnd old.place old.reading new.reading → Within
-  end_within looked = nothing_within looked.same
+  end_within looked x k r asks =
+      let at : p.at ≡ length all = omega (arith, size, looked.all, longer, h.covered) in
+      let whole : x ≡ all = subst (λ b. ExtendsGiven all b x) looked.at_end k.1 in
+      let some : 0 < r = (asks 0).1 (omega (arith, at, ap length whole), inl refl) in
+      few_answers old.reading.at_end new.reading.at_end none_after m.took.end_stays r (omega (arith, took_none looked.same)) (λ told. inr (omega (arith, at, some)))
 
   pub end_front : LookedAtEnd old.place old.reading new.reading → (w : List ℕ) → BeginsWith (M.ending old.place.condition).print w → Fronts w
   end_front looked w is = (λ x k v e run.
@@ -182,23 +138,38 @@ module _ {S K : Type 0} (M : Machine) (laws : MachineLaws M) (gave : S → List 
         ended = Some (Status (M.ending old.place.condition).status);
       } in
       let at : h.start + old.place.at ≡ length x = omega (arith, ap length whole, size, looked.all, longer, h.covered) in
-      part_begins (rules_of_machine M) x n (state_of out h.start old) last w v e (after_before x k).turns (ap ending_of going) (inr (record { at_end = at; leaves = refl })) is run)
+      part_begins (rules_of_machine M) x n (state_of out h.start old) last w v e (turns_before x k) (ap ending_of going) (inr (record { at_end = at; leaves = refl })) is run)
+
+  match_asks : (path : List ℕ) (looked : Looked M old.place old.reading new.reading path) (x : List ℕ) → Consistent all new.reading.at_end x → (r : ℕ) → Asks (rules_of_machine M) x p r →
+      (i : ℕ) → p.at + i ≤ length all → AsksAt (rules_of_machine M) all p i → i < r
+  match_asks path looked x k r asks i fits at =
+      let split = with_rest all new.reading.at_end x k.1 in
+      let whole : length x ≡ length all + length split.0 = ap length split.1 ∙ length-append all split.0 in
+      (asks i).1 (omega (arith, fits, whole), subst (λ y. AsksAt (rules_of_machine M) y p i) (sym split.1) (asks_front (rules_of_machine M) all split.0 p i fits at))
+
+  last_asked : (path : List ℕ) (looked : Looked M old.place old.reading new.reading path) (x : List ℕ) → Consistent all new.reading.at_end x → (r : ℕ) → Asks (rules_of_machine M) x p r →
+      (k : ℕ) → looked.reach ≡ k → k ≤ r
+  last_asked path looked x k r asks zero is = omega arith
+  last_asked path looked x k r asks (suc i) is =
+      let fits : p.at + looked.reach ≤ length all = inside_here M laws given m.took.got h.start old.place old.acting.stack new.reading.window.bytes h.covered win h.line looked.reach looked.state path looked.some looked.so_far in
+      let at : AsksAt (rules_of_machine M) all p i = asks_here M laws given m.took.got h.start old.place old.acting.stack new.reading.window.bytes h.covered win h.line looked.reach looked.state path looked.some looked.so_far i (omega (arith, is)) in
+      match_asks path looked x k r asks i (omega (arith, fits, is)) at
 
   pub match_within : (path : List ℕ) → Looked M old.place old.reading new.reading path → Within
-  match_within path looked = (λ x k t far asked after.
-      let g : List ℕ = given ++ m.took.got in
-      let p : Place = record { start = h.start; at = h.start + old.place.at; condition = old.place.condition; stack = old.acting.stack } in
-      let split = with_rest g new.reading.at_end x k.1 in
-      let over = after_before x k in
-      let fits : h.start + old.place.at + looked.reach ≤ length g = inside_here M laws given m.took.got h.start old.place old.acting.stack new.reading.window.bytes h.covered win h.line looked.reach looked.state path looked.some looked.so_far in
-      let whole : length x ≡ length g + length split.0 = ap length split.1 ∙ length-append g split.0 in
-      let asks : (i : ℕ) → i < looked.reach → AsksAt (rules_of_machine M) x p i =
-      λ i lt. subst (λ y. AsksAt (rules_of_machine M) y p i) (sym split.1) (asks_front (rules_of_machine M) g split.0 p i (omega (arith, fits, lt))
-      (asks_here M laws given m.took.got h.start old.place old.acting.stack new.reading.window.bytes h.covered win h.line looked.reach looked.state path looked.some looked.so_far i lt)) in
-      let le : length given ≤ far = no_less (rules_of_machine M) x n (state_of out h.start old) (length given) over.turns over.reaches (ap ending_of going) t far asked after in
-      let reached : h.start + old.place.at + looked.reach ≤ far = asked_far (rules_of_machine M) x n (state_of out h.start old) (length given) over.turns over.reaches (ap ending_of going) t far asked after looked.reach looked.some (omega (arith, fits, whole)) asks in
+  match_within path looked x k r asks =
+      let fits : p.at + looked.reach ≤ length all = inside_here M laws given m.took.got h.start old.place old.acting.stack new.reading.window.bytes h.covered win h.line looked.reach looked.state path looked.some looked.so_far in
+      let reached : looked.reach ≤ r = last_asked path looked x k r asks looked.reach refl in
       let before : length old.reading.window.bytes ≡ length given - h.start = ap length h.held ∙ length-drop h.start given in
-      omega (arith, size, before, looked.size, le, reached, longer, h.covered))
+      few_answers old.reading.at_end new.reading.at_end none_after m.took.end_stays r (omega (arith, size, before, looked.size, reached, longer, h.covered)) (λ told. ends told looked.stops)
+    where
+      ends : new.reading.at_end ≡ true → ((M.goes_on looked.state ≡ false) × (new.reading.at_end ≡ old.reading.at_end)) ⊎ ((M.goes_on looked.state ≡ true) × (old.place.at + looked.reach ≡ length new.reading.window.bytes) × (new.reading.at_end ≡ true)) →
+          (old.reading.at_end ≡ true) ⊎ (length all < p.at + r)
+      ends told (inl q) = inl (sym q.1 ∙ told)
+      ends told (inr q) =
+          let live : AsksAt (rules_of_machine M) all p looked.reach = live_here M laws given m.took.got h.start old.place old.acting.stack new.reading.window.bytes h.covered win h.line looked.reach looked.state path looked.some looked.so_far q.0 in
+          let fits : p.at + looked.reach ≤ length all = inside_here M laws given m.took.got h.start old.place old.acting.stack new.reading.window.bytes h.covered win h.line looked.reach looked.state path looked.some looked.so_far in
+          let less : looked.reach < r = match_asks path looked x k r asks looked.reach fits live in
+          inr (omega (arith, size, q.1, fits, less))
 
   pub match_front : (path : List ℕ) → Looked M old.place old.reading new.reading path →
       (cut : CutAll M wrote t t' new.reading.window.bytes old.place.at (matches_of M new.reading.window.bytes old.place.at path) (conditions_at old)) → Fronts cut.out
@@ -210,7 +181,7 @@ module _ {S K : Type 0} (M : Machine) (laws : MachineLaws M) (gave : S → List 
       let wrote_all : BeginsWith ahead.0.outcome.written cut.out = subst (λ (z : Scan.Acting). BeginsWith z.written cut.out) (sym ahead.1) (cut.front [] q.0 is) in
       (λ x k v e run.
       let split = with_rest (given ++ m.took.got) new.reading.at_end x k.1 in
-      part_begins (rules_of_machine M) x n (state_of out h.start old) (seen_turn (record { start = h.start; at = h.start + old.place.at; condition = old.place.condition; stack = old.acting.stack }) ahead.0.outcome) cut.out v e (after_before x k).turns (ap ending_of going)
+      part_begins (rules_of_machine M) x n (state_of out h.start old) (seen_turn (record { start = h.start; at = h.start + old.place.at; condition = old.place.condition; stack = old.acting.stack }) ahead.0.outcome) cut.out v e (turns_before x k) (ap ending_of going)
       (inl (subst (λ y. Run.MatchTurn (rules_of_machine M) y (record { start = h.start; at = h.start + old.place.at; condition = old.place.condition; stack = old.acting.stack }) (seen_turn (record { start = h.start; at = h.start + old.place.at; condition = old.place.condition; stack = old.acting.stack }) ahead.0.outcome)) (sym split.1)
       (seen_match (rules_of_machine M) (machine_laws M laws) (given ++ m.took.got) split.0 (record { start = h.start; at = h.start + old.place.at; condition = old.place.condition; stack = old.acting.stack }) looked.reach ahead.0 (subst IsText split.1 k.0)
       (enough x k split.0 split.1 looked.stops)))) wrote_all run)
@@ -227,25 +198,46 @@ module _ {S K : Type 0} (M : Machine) (laws : MachineLaws M) (gave : S → List 
           let left : length (drop (h.start + old.place.at) g) ≡ length g - (h.start + old.place.at) = length-drop (h.start + old.place.at) g in
           inl (ap (λ z. drop looked.reach (drop (h.start + old.place.at) g) ++ z) none ∙ append-nil (drop looked.reach (drop (h.start + old.place.at) g)) ∙ drop_all looked.reach (drop (h.start + old.place.at) g) (omega (arith, size, left, q.1)))
 
-  pub refusal : new.failed ≡ true → (error ≡ TooManyReads → Wants M old.place new.reading) → (w : List ℕ) → Fronts w → Within → (new.reading.at_end ≡ true → AsksEnd) →
+  pub refusal : new.failed ≡ true → (error ≡ TooManyReads → Wants M old.place new.reading) → (w : List ℕ) → Fronts w → Within →
       (error ≡ Stack → (r : RunCompleted (rules_of_machine M) (given ++ m.took.got) (out ++ w) new.reading.at_end StackFault) × (r.turns ≡ suc n)) → (IsEarly error → w ≡ []) → AfterRefusal M n given m.took.got (out ++ w) new error
-  refusal failed wants w front within ended fault quiet = record {
+  refusal failed wants w front within fault quiet = record {
     failed = failed;
+    end_before = old.reading.at_end;
     refused_turn = record {
       text = is_text_append given m.took.got h.text m.took.text;
       before = state_of out h.start old;
-      end_before = old.reading.at_end;
-      after = after_before;
       going = ap ending_of going;
-      front = front;
-      within = within;
-      not_before = λ is. (wants_end (wants is)).0;
-      asks_end = λ asks. elim asks [ inl is ↦ (wants_end (wants is)).1 | inr is ↦ ended is ];
+      after = after_before;
+      few = few_before old.reading.at_end new.reading.at_end m.took.end_stays;
       kept = (w, refl);
       whole = λ sink stack. sym (append-nil out) ∙ ap (λ z. out ++ z) (sym (quiet (sink, stack)));
+      front = front;
+      within = λ x k t asked after. all_asked within x k t asked (turns_before x k) after;
+      more = λ is t asked after. beyond (wants is) t asked after;
     };
     held = sym win;
     taken = m.took.taken ∙ ap (λ k. k + length m.took.got) h.taken ∙ sym longer;
     fault = λ is. (fault is).0;
     at_once = λ is. (fault is).1;
   }
+    where
+      few_before : (a b : Bool) → (a ≡ true → b ≡ true) → answers given a ≤ answers all b
+      few_before true true stays = omega (arith, longer)
+      few_before false true stays = omega (arith, longer)
+      few_before false false stays = omega (arith, longer)
+      few_before true false stays = absurd (let no : false ≡ true = stays refl in cc)
+
+      all_asked : Within → (x : List ℕ) → Consistent all new.reading.at_end x → (t : Run.State) (asked : ℕ) → Turns (rules_of_machine M) x n (state_of out h.start old) → AfterTurns (rules_of_machine M) x (suc n) t asked → answers all new.reading.at_end ≤ asked
+      all_asked within x k t asked turns after =
+          let (before, was, r, asks, is) = last_asks (rules_of_machine M) x n (state_of out h.start old) t asked turns (ap ending_of going) after in
+          let one : before ≡ answers given old.reading.at_end = (one_after (rules_of_machine M) x n (state_of out h.start old) (state_of out h.start old) before (answers given old.reading.at_end) was (after_before x k)).1 in
+          let le = within x k r asks in
+          omega (arith, le, one, is)
+
+      beyond : Wants M old.place new.reading → (t : Run.State) (asked : ℕ) → AfterTurns (rules_of_machine M) all (suc n) t asked → suc (answers all new.reading.at_end) ≤ asked
+      beyond wants t asked after =
+          let k : Consistent all new.reading.at_end all = (is_text_append given m.took.got h.text m.took.text, just_these all new.reading.at_end) in
+          let last = last_asks (rules_of_machine M) all n (state_of out h.start old) t asked (turns_before all k) (ap ending_of going) after in
+          let more : length all < p.at + last.2 = wants_beyond wants all k last.2 last.3 in
+          let is = last.4 in
+          subst (λ b. suc (answers all b) ≤ asked) (sym wants.reading) (omega (arith, more, is))

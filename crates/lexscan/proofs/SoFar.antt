@@ -3,11 +3,12 @@ use Rattle.std.proofs.Common.{◌≡◌, ℕ, suc, ◌+◌, ◌≤◌, ◌<◌, 
 use Rattle.std.specs.Io.KnownBytes.{Consumes}
 use Rattle.lex_semantics.specs.Text.{IsText, part}
 use Rattle.lex_semantics.specs.Acting.{Status, StackFault}
-use Rattle.lex_semantics.specs.Demand.{Consistent, ExtendsGiven}
+use Rattle.lex_semantics.specs.Demand.{Consistent, ExtendsGiven, answers}
 use Rattle.lex_semantics.specs.Machine.{Machine, rules_of_machine}
 use Rattle.lex_semantics.specs.MachineLaws.{MachineLaws}
 use Rattle.lex_semantics.specs.Run as Scan
 use Rattle.lex_semantics.specs.Run.{Place, Turns}
+use Rattle.lex_semantics.proofs.After.{turns_of}
 use Rattle.lex_semantics.proofs.Ends.{Grows}
 use Rattle.lex_semantics.proofs.Growth.{turns_grow}
 use Rattle.lex_semantics.proofs.MachineLaws.{machine_laws}
@@ -79,7 +80,7 @@ no_earlier p q (inr same) = omega (arith, same.0)
 module _ (M : Machine) (laws : MachineLaws M) (x : List ℕ) (text : IsText x) (known known' : Option (List ℕ)) (ends ends' ends'' : ℕ) (list list' : List Token) (old new : State)
     (h : Listed M x known ends ends' list list' old) (going : old.ended ≡ None) (before : ends' ≡ ends + end_step false old.reading.at_end) (after : ends'' ≡ ends + end_step false new.reading.at_end) where
   reached : Turns (rules_of_machine M) x h.turns (state_of h.out h.invariant.start old)
-  reached = (h.invariant.scanned x (text, goes x h.given known ends ends' old.reading.at_end before h.gives)).turns
+  reached = (turns_of _ _ _ _ _ (h.invariant.scanned x (text, goes x h.given known ends ends' old.reading.at_end before h.gives)))
 
   -- one turn more
   pub listed_more : (turn : Turn) (got wrote : List ℕ) → Gives known known' ends' ends'' got → TurnPreserves M old new got wrote (Ok turn) → Listed M x known' ends ends'' list (list' ++ tokens_by (match_in new) old.place.condition) new
@@ -114,7 +115,7 @@ module _ (M : Machine) (laws : MachineLaws M) (x : List ℕ) (text : IsText x) (
       grows : new.ended ≡ None → Grows (state_of h.out h.invariant.start old).place (state_of (h.out ++ wrote) invariant.start new).place
       grows goes =
           turns_grow (rules_of_machine M) (machine_laws M laws) laws.legal (λ c line_start y. machine_candidates_exist M laws c line_start y) x h.turns
-          (state_of h.out h.invariant.start old) (state_of (h.out ++ wrote) invariant.start new) reached (invariant.scanned x consistent).turns (ap ending_of goes)
+          (state_of h.out h.invariant.start old) (state_of (h.out ++ wrote) invariant.start new) reached (turns_of (rules_of_machine M) x (suc h.turns) (state_of (h.out ++ wrote) invariant.start new) (answers (h.given ++ got) new.reading.at_end) (invariant.scanned x consistent)) (ap ending_of goes)
 
       appends : (m : Option Match) → TellsMatch (rules_of_machine M) (h.given ++ got) new.reading.at_end (state_of h.out h.invariant.start old).place m (text_of m new) →
           Appends (rules_of_machine M) x (state_of h.out h.invariant.start old).place h.tokens (h.tokens ++ tokens_by m old.place.condition)
@@ -188,7 +189,7 @@ module _ (M : Machine) (laws : MachineLaws M) (x : List ℕ) (text : IsText x) (
             reached = reached;
             going = ap ending_of going;
             tokens = h.tokens_are;
-            why = inr (refl, last, subst (λ n. Turns (rules_of_machine M) x n last) (f.at_once refl) (ran.scanned x (text, goes_on)).turns, refl);
+            why = inr (refl, last, subst (λ n. Turns (rules_of_machine M) x n last) (f.at_once refl) (turns_of _ _ _ _ _ (ran.scanned x (text, goes_on))), refl);
           }
 
 -- at the end
@@ -197,7 +198,7 @@ pub listed_all : (M : Machine) (x : List ℕ) (known : Option (List ℕ)) (ends 
 listed_all M x known ends ends' status list list' s text after over h = record {
   turns = h.turns;
   last = state_of h.out h.invariant.start s;
-  reached = (h.invariant.scanned x (text, goes x h.given known ends ends' s.reading.at_end after h.gives)).turns;
+  reached = (turns_of _ _ _ _ _ (h.invariant.scanned x (text, goes x h.given known ends ends' s.reading.at_end after h.gives)));
   ends = ap ending_of over;
   tokens = h.tokens_are;
 }

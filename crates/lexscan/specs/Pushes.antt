@@ -5,21 +5,19 @@ use Rattle.std.proofs.Props.{props}
 use Rattle.lex_semantics.specs.Text.{IsText, BeginsWith}
 use Rattle.lex_semantics.specs.Rules.{Rules}
 use Rattle.lex_semantics.specs.Acting.{Ending, Status, StackFault}
-use Rattle.lex_semantics.specs.Run as Scan
 use Rattle.lex_semantics.specs.Run.{Run}
-use Rattle.lex_semantics.specs.Scanned.{AfterTurns}
 use Rattle.lex_semantics.specs.Machine.{Machine, walk, rules_of_machine}
 use Rattle.lexscan_window.specs.declared.state.State.{State}
 use Rattle.lexscan_window.specs.declared.state.TextPlace.{TextPlace}
 use Rattle.lexscan.specs.declared.turn.Turn.{Turn}
 use Rattle.lexscan_window.specs.declared.error.RunError.{RunError}
 use Rattle.lexscan_window.specs.declared.error.RunError.TheVariants.{OutOfMemory, Stack, TooManyReads}
-use Rattle.lexscan.specs.TurnInvariants.{TurnInvariant, AfterRefusal, TurnPreserves, NoneAfterEnd}
+use Rattle.lexscan.specs.TurnInvariants.{AskAtLeast, TurnInvariant, AfterRefusal, TurnPreserves, NoneAfterEnd}
 use Rattle.lexscan.specs.Ties.{HandedOn}
 
 -- Over these bytes the turn after n asks for the end: they do not decide it.
 abbrev pub AsksForMore : Rules → ℕ → List ℕ → Type 0
-AsksForMore R n x = (t : Scan.State) (far : ℕ) (asked : Bool) → AfterTurns R x (suc n) t far asked → asked ≡ true
+AsksForMore R n x = AskAtLeast R x (suc n) (suc (length x))
 
 -- The next turn asks for more than these bytes, which are all that may be read; and the invariant holds as before it.
 abbrev pub StaysBefore : Machine → State → State → List ℕ → Type 0

@@ -1,5 +1,5 @@
 -- What a whole run leaves.
-use Rattle.std.specs.Prelude.{◌≡◌, ℕ, ◌+◌, ◌-◌, ◌^◌, ◌<◌, ◌≤◌, Bool, false, List, ◌++◌, length, Result, Ok, Err, IsErrOf}
+use Rattle.std.specs.Prelude.{◌≡◌, ℕ, ◌+◌, ◌-◌, ◌^◌, ◌<◌, ◌≤◌, Bool, false, List, length, Result, Ok, Err, IsErrOf}
 use Rattle.lex_semantics.specs.Rules.{Rules}
 use Rattle.lex_semantics.specs.Acting.{Status, StackFault}
 use Rattle.lex_semantics.specs.Machine.{Machine}
@@ -23,10 +23,8 @@ pub record Running {S K : Type 0} (M : Machine) (gave : S → List ℕ → S →
 -- where the stack was at fault, it is all of it, and the run ends so.
 pub record RunStopped (R : Rules) (given out : List ℕ) (at_end : Bool) (max_reads : ℕ) (e : RunError) : Type 0 where
   pub turns : ℕ
-  pub had : List ℕ
-  pub got : List ℕ
-  pub all : given ≡ had ++ got
-  pub refused_turn : RefusedTurn R turns had got out at_end e
+  pub had : ℕ
+  pub refused_turn : RefusedTurn R given at_end turns had out e
   pub too_many : e ≡ TooManyReads → (length given ≡ max_reads) × (at_end ≡ false)
   pub fault : e ≡ Stack → RunCompleted R given out at_end StackFault
 

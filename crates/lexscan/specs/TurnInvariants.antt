@@ -1,11 +1,11 @@
 -- What holds of a scanner between turns, and of a run that was completed or stopped.
-use Rattle.std.specs.Prelude.{◌≡◌, ◌≢◌, ℕ, suc, ◌+◌, ◌≤◌, ◌⊎◌, Bool, true, false, List, [], ◌++◌, length, drop, Some, None, Result, Ok, Err}
+use Rattle.std.specs.Prelude.{◌≡◌, ◌≢◌, ℕ, suc, ◌+◌, ◌≤◌, Bool, true, false, List, [], ◌++◌, length, drop, Some, None, Result, Ok, Err}
 use Rattle.lex_semantics.specs.Text.{IsText, BeginsWith, at_line_start}
 use Rattle.lex_semantics.specs.Rules.{Rules}
 use Rattle.lex_semantics.specs.Acting.{Ending, StackFault}
 use Rattle.lex_semantics.specs.Run as Scan
 use Rattle.lex_semantics.specs.Run.{Run}
-use Rattle.lex_semantics.specs.Demand.{Consistent}
+use Rattle.lex_semantics.specs.Demand.{OfEach, answers}
 use Rattle.lex_semantics.specs.Scanned.{AfterTurns, Scanned}
 use Rattle.lex_semantics.specs.Machine.{Machine, rules_of_machine}
 use Rattle.lexscan_window.specs.declared.state.State.{State}
@@ -26,8 +26,8 @@ state_of out start s = record {
 }
 
 -- The invariant between turns, after n of them, none refused: over every input that is consistent with the bytes given
--- they have written these bytes and led to this place, and they ask for just what the source has told. The bytes held
--- are those from the text's start on.
+-- they have written these bytes and led to this place, and they ask for just what the source has answered. The bytes
+-- held are those from the text's start on.
 pub record TurnInvariant (M : Machine) (n : ℕ) (given out : List ℕ) (s : State) : Type 0 where
   pub works : s.failed ≡ false
   pub start : ℕ
@@ -38,40 +38,44 @@ pub record TurnInvariant (M : Machine) (n : ℕ) (given out : List ℕ) (s : Sta
   pub line : s.place.line_start ≡ at_line_start given (start + s.place.at)
   pub taken : s.reading.taken ≡ length given
 
--- The turn after n was refused. Those before it have not ended the scan, and ask for just the bytes that were given
--- before. What was written begins with what they wrote, and is a front of what the run writes. The bytes taken are no
--- more than the turns ask for with this one. They ask for the end, if the bytes given are all, where the source has
--- answered it, and where no more reads were allowed; then the turns before do not. Where the turn was refused before
--- its action, what was written is what the turns before wrote.
-pub record RefusedTurn (R : Rules) (n : ℕ) (given got out : List ℕ) (at_end : Bool) (e : RunError) : Type 0 where
-  pub text : IsText (given ++ got)
+-- n turns over x ask for this many answers, or more
+abbrev pub AskAtLeast : Rules → List ℕ → (n : ℕ) → ℕ → Type 0
+AskAtLeast R x n count = (s : Scan.State) (asked : ℕ) → AfterTurns R x n s asked → count ≤ asked
+
+-- The turn after n was refused, when these bytes were given, and the end or not. Those before it have not ended the
+-- scan, and ask for the first `had` answers. What was written begins with what they wrote, and is a front of what the
+-- run writes. With this turn they ask for all that was answered, and for more where no more reads were allowed. Where
+-- it was refused before its action, what was written is what the turns before wrote.
+pub record RefusedTurn (R : Rules) (given : List ℕ) (at_end : Bool) (n had : ℕ) (out : List ℕ) (e : RunError)
+    : Type 0 where
+  pub text : IsText given
   pub before : Scan.State
-  pub end_before : Bool
-  pub after : (x : List ℕ) → Consistent (given ++ got) at_end x → AfterTurns R x n before (length given) end_before
   pub going : before.ended ≡ None
-  pub front : (x : List ℕ) → Consistent (given ++ got) at_end x → (w : List ℕ) (d : Ending) → Run R x w d
-      → BeginsWith w out
-  pub within : (x : List ℕ) → Consistent (given ++ got) at_end x → (t : Scan.State) (far : ℕ) (asked : Bool)
-      → AfterTurns R x (suc n) t far asked → length (given ++ got) ≤ far
-  pub not_before : e ≡ TooManyReads → end_before ≡ false
-  pub asks_end : (e ≡ TooManyReads) ⊎ (at_end ≡ true) → (t : Scan.State) (far : ℕ) (asked : Bool)
-      → AfterTurns R (given ++ got) (suc n) t far asked → asked ≡ true
+  pub after : OfEach given at_end (λ x. AfterTurns R x n before had)
+  pub few : had ≤ answers given at_end
   pub kept : BeginsWith out before.written
   pub whole : e ≢ Write → e ≢ Stack → before.written ≡ out
+  pub front : OfEach given at_end (λ x. (w : List ℕ) (d : Ending) → Run R x w d → BeginsWith w out)
+  pub within : OfEach given at_end (λ x. AskAtLeast R x (suc n) (answers given at_end))
+  pub more : e ≡ TooManyReads → AskAtLeast R given (suc n) (suc (answers given at_end))
 
 -- The run was completed: the bytes given are a text, and the turns over every consistent input write this and end so.
--- They ask for just what the source has told.
+-- They ask for just what the source has answered.
 pub record RunCompleted (R : Rules) (given out : List ℕ) (at_end : Bool) (ending : Ending) : Type 0 where
   pub text : IsText given
   pub turns : ℕ
   pub place : Scan.Place
-  pub scanned : Scanned R given at_end turns (record { written = out; place = place; ended = Some ending })
+  pub scanned : OfEach given at_end (λ x. AfterTurns R x turns
+      (record { written = out; place = place; ended = Some ending }) (answers given at_end))
 
--- A scanner after a refused turn. The bytes held are those from the text's start on, as that turn found it. The stack
--- was at fault where the run ends so in this turn, with what was written.
+-- A scanner after a refused turn, before which these bytes were given, and the end or not. The bytes held are those
+-- from the text's start on, as that turn found it. The stack was at fault where the run ends so in this turn, with what
+-- was written.
 pub record AfterRefusal (M : Machine) (n : ℕ) (given got out : List ℕ) (s : State) (e : RunError) : Type 0 where
   pub failed : s.failed ≡ true
-  pub refused_turn : RefusedTurn (rules_of_machine M) n given got out s.reading.at_end e
+  pub end_before : Bool
+  pub refused_turn : RefusedTurn (rules_of_machine M) (given ++ got) s.reading.at_end n (answers given end_before) out
+      e
   pub held : s.reading.window.bytes ≡ drop refused_turn.before.place.start (given ++ got)
   pub taken : s.reading.taken ≡ length (given ++ got)
   pub fault : e ≡ Stack → RunCompleted (rules_of_machine M) (given ++ got) out s.reading.at_end StackFault

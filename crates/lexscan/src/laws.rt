@@ -5,7 +5,7 @@ ghost use Rattle.lex_semantics.specs.Rules.{rules_of};
 ghost use Rattle.lex_semantics.specs.Sound.{IsSound};
 ghost use Rattle.lex_semantics.specs.Spec.{Spec};
 ghost use Rattle.lex_semantics.specs.TableFor.{TableFor};
-ghost use Rattle.lexscan.specs.AskingExamples.{Asking, AskingEnd, Given, Known, Order};
+ghost use Rattle.lexscan.specs.AskingExamples.{Asking, AskingTogether, Given, Known, Order};
 ghost use Rattle.lexscan.specs.SeriesExamples.{DrawnOut};
 ghost use Rattle.lexscan.specs.Tokens.{SameTokens};
 
@@ -15,11 +15,12 @@ pub fn table_tokens()
         → SameTokens (rules_of_machine M) (rules_of S) }
 {}
 
-/// Worked examples of what turns ask for, and of what is known of a scan: the bytes of a match, the end, the inputs that
-/// a source may still have, and the scan before its first turn. And of the order of matches.
+/// Worked examples of what turns ask for, and of what is known of a scan: the answers that a match asks for, those of
+/// several turns, the inputs that a source may still have, and the scan before its first turn. And of the order of
+/// matches.
 pub fn examples_of_asking()
     ensures asking { Asking }
-    ensures asking_end { AskingEnd }
+    ensures together { AskingTogether }
     ensures given { Given }
     ensures known { Known }
     ensures order { Order }

@@ -152,7 +152,7 @@ fits n s [] low left h = record {
   stacks = λ e. refl;
 }
 fits n s (Echo ∷ ss) low left h =
-    let r = fits n (seen_after s Echo) ss low (omega (arith, left)) h.1 in
+    let r = fits n (seen_after s Echo) ss (omega (arith, low)) (omega (arith, left)) h.1 in
     record {
       ranges = r.ranges;
       last = last_more Echo ss (λ e. absurd cc) r.last;
@@ -188,7 +188,7 @@ fits n s (Print b ∷ ss) low left h =
       stacks = r.stacks;
     }
 fits n s (Begin c ∷ ss) low left h =
-    let r = fits n (seen_after s (Begin c)) ss low (omega (arith, left)) h.1 in
+    let r = fits n (seen_after s (Begin c)) ss (omega (arith, low)) (omega (arith, left)) h.1 in
     record {
       ranges = is_and (nat_lt c n) (all_in_range n ss) (is_lt c n h.0) r.ranges;
       last = last_more (Begin c) ss (λ e. absurd cc) r.last;
@@ -205,7 +205,7 @@ fits n s (Begin c ∷ ss) low left h =
       stacks = r.stacks;
     }
 fits n s (More ∷ ss) low left h =
-    let r = fits n (seen_after s More) ss low (omega (arith, left)) h.1 in
+    let r = fits n (seen_after s More) ss (omega (arith, low)) (omega (arith, left)) h.1 in
     let m = r.more refl in
     record {
       ranges = r.ranges;
@@ -223,7 +223,7 @@ fits n s (More ∷ ss) low left h =
       stacks = r.stacks;
     }
 fits n s (Less k ∷ ss) low left h =
-    let r = fits n (seen_after s (Less k)) ss low (omega (arith, left)) h.1 in
+    let r = fits n (seen_after s (Less k)) ss (omega (arith, low)) (omega (arith, left)) h.1 in
     let l = r.less refl in
     let least = h.0.1.1.0 in
     let most : k ≤ 65535 = let lt = h.0.1.1.1 in omega arith in
@@ -243,7 +243,7 @@ fits n s (Less k ∷ ss) low left h =
       stacks = r.stacks;
     }
 fits n s (Reject ∷ ss) low left h =
-    let r = fits n (seen_after s Reject) ss low (omega (arith, left)) h.1 in
+    let r = fits n (seen_after s Reject) ss (omega (arith, low)) (omega (arith, left)) h.1 in
     let none = nil_from_length ss (omega (arith, left, h.0.1)) in
     record {
       ranges = r.ranges;
@@ -261,7 +261,7 @@ fits n s (Reject ∷ ss) low left h =
       stacks = r.stacks;
     }
 fits n s (End k ∷ ss) low left h =
-    let r = fits n (seen_after s (End k)) ss low (omega (arith, left)) h.1 in
+    let r = fits n (seen_after s (End k)) ss (omega (arith, low)) (omega (arith, left)) h.1 in
     let none = nil_from_length ss (omega (arith, left, h.0.0)) in
     let most : k ≤ 63 = let lt = h.0.1 in omega arith in
     record {
@@ -280,7 +280,7 @@ fits n s (End k ∷ ss) low left h =
       stacks = r.stacks;
     }
 fits n s (Push c ∷ ss) low left h =
-    let r = fits n (seen_after s (Push c)) ss low (omega (arith, left)) h.1 in
+    let r = fits n (seen_after s (Push c)) ss (omega (arith, low)) (omega (arith, left)) h.1 in
     record {
       ranges = is_and (nat_lt c n) (all_in_range n ss) (is_lt c n h.0.1) r.ranges;
       last = last_more (Push c) ss (λ e. absurd cc) r.last;
@@ -297,7 +297,7 @@ fits n s (Push c ∷ ss) low left h =
       stacks = λ e. clash s.stack e h.0.0;
     }
 fits n s (Pop ∷ ss) low left h =
-    let r = fits n (seen_after s Pop) ss low (omega (arith, left)) h.1 in
+    let r = fits n (seen_after s Pop) ss (omega (arith, low)) (omega (arith, left)) h.1 in
     record {
       ranges = r.ranges;
       last = last_more Pop ss (λ e. absurd cc) r.last;

@@ -1,8 +1,10 @@
 -- What stood before a statement in its action, and whether it may stand there. (A device of the reader.)
-use Rattle.std.specs.Prelude.{◌≡◌, ℕ, ◌+◌, ◌-◌, ◌<◌, ◌≤◌, Bool, true, false, List, [], ◌∷◌, length, ⊤}
+use Rattle.std.specs.Prelude.{◌≡◌, ℕ, ◌+◌, ◌-◌, ◌<◌, ◌≤◌, Bool, true, false, ◌||◌, List, [], ◌∷◌, length, ⊤}
 use Rattle.lex_semantics.specs.Text.{IsText}
 use Rattle.lex_semantics.specs.Spec.{Statement, Echo, Print, Begin, More, Less, Reject, End, Push, Pop}
+use Rattle.lex_semantics.specs.Legal.{is_literal, is_yyless, is_yymore}
 use Rattle.lex_semantics.specs.Limits.{max_literal_bytes, max_kept}
+use Rattle.lex_semantics.specs.Literals.{literal_of}
 
 -- each of the list meets P at the state that those before it left
 abbrev pub EachFrom : {A S : Type 0} → (S → A → Type 0) → (S → A → S) → S → List A → Type 0
@@ -29,15 +31,15 @@ abbrev pub unseen : Bool → ℕ → Seen
 unseen stack n = record { literal = 0; printed = false; more = false; less = false; left = n; stack = stack }
 
 abbrev pub seen_after : Seen → Statement → Seen
-seen_after s Echo = record s { printed = false; left = s.left - 1 }
-seen_after s (Print bytes) = record s { printed = true; literal = s.literal + length bytes; left = s.left - 1 }
-seen_after s (Begin c) = record s { printed = false; left = s.left - 1 }
-seen_after s More = record s { printed = false; more = true; left = s.left - 1 }
-seen_after s (Less n) = record s { printed = false; less = true; left = s.left - 1 }
-seen_after s Reject = record s { printed = false; left = s.left - 1 }
-seen_after s (End status) = record s { printed = false; left = s.left - 1 }
-seen_after s (Push c) = record s { printed = false; left = s.left - 1 }
-seen_after s Pop = record s { printed = false; left = s.left - 1 }
+seen_after s statement =
+    record {
+      literal = s.literal + length (literal_of statement);
+      printed = is_literal statement;
+      more = is_yymore statement || s.more;
+      less = is_yyless statement || s.less;
+      left = s.left - 1;
+      stack = s.stack;
+    }
 
 -- the statement may stand there, where there are so many conditions
 abbrev pub MayStand : ℕ → Seen → Statement → Type 0

@@ -8,6 +8,7 @@ use Rattle.lex_semantics.specs.Rules.{Rules}
 use Rattle.lex_semantics.specs.Acting.{Status}
 use Rattle.lex_semantics.specs.Run.{Run}
 use Rattle.lex_semantics.specs.Demand.{ExtendsGiven}
+use Rattle.lex_semantics.proofs.After.{turns_of}
 use Rattle.lex_io.specs.Source.{Gives}
 use Rattle.lexscan.specs.TurnInvariants.{RunCompleted}
 
@@ -22,4 +23,4 @@ goes x given known ends ends' false e h = front x given known h.taken
 pub runs : (R : Rules) (given out : List ℕ) (status : ℕ) (known known' : Option (List ℕ)) (ends ends' : ℕ) → Gives known known' ends ends' given
     → RunCompleted R given out (nat_lt ends ends') (Status status) → IfSome known (λ x. IsText x → Run R x out (Status status))
 runs R given out status None known' ends ends' g h = tt
-runs R given out status (Some x) known' ends ends' g h = λ text. (h.turns, h.place, (h.scanned x (text, goes x given known' ends ends' (nat_lt ends ends') refl g)).turns)
+runs R given out status (Some x) known' ends ends' g h = λ text. (h.turns, h.place, (turns_of _ _ _ _ _ (h.scanned x (text, goes x given known' ends ends' (nat_lt ends ends') refl g))))

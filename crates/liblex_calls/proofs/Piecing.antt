@@ -1,13 +1,13 @@
 -- What the steps of a scan by pieces leave.
-use Rattle.std.proofs.Common.{◌≡◌, ℕ, zero, suc, ◌+◌, ◌-◌, ◌^◌, ◌≤◌, inl, inr, Bool, true, false, List, [], ◌∷◌, ◌++◌, length, Result, Ok, Err, None, refl, sym, ap, subst, ◌∙◌, append_assoc, append-nil, arith}
+use Rattle.std.proofs.Common.{◌≡◌, ℕ, zero, suc, ◌+◌, ◌-◌, ◌^◌, ◌≤◌, ◌<◌, inl, Bool, true, false, List, [], ◌∷◌, ◌++◌, length, Result, Ok, Err, Option, Some, None, refl, sym, ap, subst, ◌∙◌, append_assoc, append-nil, arith}
 use Rattle.std.specs.Prelude.{IsErrOf}
 use Rattle.std.proofs.lemmas.List.{length-append}
 use Rattle.lex_semantics.specs.Text.{IsText}
 use Rattle.lex_semantics.specs.Rules.{Rules}
-use Rattle.lex_semantics.specs.Acting.{Status, StackFault}
+use Rattle.lex_semantics.specs.Acting.{Ending, Status, StackFault}
 use Rattle.lex_semantics.specs.Run as Scan
 use Rattle.lex_semantics.specs.Run.{first_state}
-use Rattle.lex_semantics.specs.Demand.{Consistent, EndAsked}
+use Rattle.lex_semantics.specs.Demand.{AsksFrom, Consistent}
 use Rattle.lex_semantics.specs.Machine.{Machine, rules_of_machine}
 use Rattle.liblex_calls.specs.Rules.{rules_machine}
 use Rattle.lexscan_window.specs.declared.state.State.{State}
@@ -31,13 +31,19 @@ fed_text : (told : Bool) (fed piece : List ℕ) → IsText fed → IsText piece 
 fed_text true fed piece h k = h
 fed_text false fed piece h k = append_text fed piece h k
 
--- a turn over nothing asks for the end
-end_asked : (R : Rules) (n : ℕ) → EndAsked R [] (suc n)
-end_asked R zero = inr (first_state, refl, refl, inl refl)
-end_asked R (suc n) = inl (end_asked R n)
-
+-- turns over nothing ask for the end
 pub asks_first : (R : Rules) (n : ℕ) → AsksForMore R n []
-asks_first R n t far asked h = h.end.1 (end_asked R n)
+asks_first R zero t asked (b, before, h, next, asks) =
+    let (r, answers, is) = subst (λ (s : Scan.State). AsksFrom R [] s.place s.ended before asked) h.0 asks in
+    let some : 0 < r = (answers 0).1 (omega arith, inl refl) in
+    omega (arith, some, is)
+asks_first R (suc n) t asked (b, before, h, next, asks) =
+    let more : 0 < before = asks_first R n b before h in
+    no_less b.ended asks more
+  where
+    no_less : (e : Option Ending) → AsksFrom R [] b.place e before asked → 0 < before → 0 < asked
+    no_less (Some e) same more = omega (arith, same, more)
+    no_less None (r, answers, is) more = omega (arith, is, more)
 
 -- an input that may still be with a piece more may be without it
 pub fewer : (told : Bool) (fed piece x : List ℕ) → Consistent (fed_with told fed piece) told x → Consistent fed told x

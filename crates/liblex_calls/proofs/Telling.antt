@@ -9,6 +9,7 @@ use Rattle.lex_semantics.specs.Acting.{Ending, Status, StackFault}
 use Rattle.lex_semantics.specs.Run.{Run}
 use Rattle.lex_semantics.specs.Demand.{ExtendsGiven}
 use Rattle.lex_semantics.specs.Machine.{rules_of_machine}
+use Rattle.lex_semantics.proofs.After.{turns_of}
 use Rattle.lexspec.specs.Files.{SpellsSpec}
 use Rattle.lextab_packed.specs.Table.{Table}
 use Rattle.lextab_file.specs.File.{IsFileOf}
@@ -51,7 +52,7 @@ goes x given rest ends ends' false e h = (rest, h.taken)
 
 -- a scan to the end over a slice is the run over all of it
 pub whole_run : (R : Rules) (x given out rest : List ℕ) (ends ends' : ℕ) (ending : Ending) → IsText x → Gives (Some x) (Some rest) ends ends' given → RunCompleted R given out (nat_lt ends ends') ending → Run R x out ending
-whole_run R x given out rest ends ends' ending text gave ran = (ran.turns, ran.place, (ran.scanned x (text, goes x given rest ends ends' (nat_lt ends ends') refl gave)).turns)
+whole_run R x given out rest ends ends' ending text gave ran = (ran.turns, ran.place, (turns_of _ _ _ _ _ (ran.scanned x (text, goes x given rest ends ends' (nat_lt ends ends') refl gave))))
 
 abbrev gave_by : SliceSource → List ℕ → SliceSource → Type 0
 gave_by s xs t = Gives (Some (slice_rest s)) (Some (slice_rest t)) (slice_ends s) (slice_ends t) xs

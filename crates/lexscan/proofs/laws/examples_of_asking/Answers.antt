@@ -4,8 +4,8 @@ use Rattle.lexscan.proofs.laws.examples_of_asking.Goals as goal
 pub returns-clause-asking : goal.returns-clause-asking
 returns-clause-asking c = Computed.asking
 
-pub returns-clause-asking_end : goal.returns-clause-asking_end
-returns-clause-asking_end c = Computed.asking_end
+pub returns-clause-together : goal.returns-clause-together
+returns-clause-together c = Computed.together
 
 pub returns-clause-given : goal.returns-clause-given
 returns-clause-given c = Computed.given
