@@ -1,5 +1,5 @@
 //! Copies of texts, most of them short.
-ghost use Rattle.std.specs.Prelude.{◌≡◌, ◌+◌, ◌≤◌, length, take};
+ghost use Rattle.std.specs.Prelude.{◌≡◌, ◌+◌, ◌<◌, ◌≤◌, length, take};
 
 use std::simd::Simd;
 
@@ -10,17 +10,30 @@ pub fn copy_to(place: &mut [u8], bytes: &[u8])
     ensures { place.new ≡ bytes.now }
 {
     let len = bytes.len();
-    if len > 32 {
-        copy_many(place, bytes);
-    } else if len >= 16 {
-        copy_ends::<16>(place, bytes);
-    } else if len >= 8 {
-        copy_ends::<8>(place, bytes);
-    } else if len >= 4 {
+    // The shortest come first: most texts are such.
+    if len < 4 {
+        copy_least(place, bytes);
+    } else if len < 8 {
         copy_ends::<4>(place, bytes);
-    } else if len >= 2 {
+    } else if len < 16 {
+        copy_ends::<8>(place, bytes);
+    } else if len <= 32 {
+        copy_ends::<16>(place, bytes);
+    } else {
+        copy_many(place, bytes);
+    }
+}
+
+/// The same for fewer than four bytes.
+#[inline(always)]
+fn copy_least(place: &mut [u8], bytes: &[u8])
+    requires len { length place.old ≡ length bytes.now }
+    requires few { length bytes.now < 4 }
+    ensures { place.new ≡ bytes.now }
+{
+    if 2 <= bytes.len() {
         copy_ends::<2>(place, bytes);
-    } else if len == 1 {
+    } else if bytes.len() == 1 {
         place[0] = bytes[0];
     }
 }

@@ -226,8 +226,7 @@ module _ (M : Machine) (laws : MachineLaws M) (text : List ℕ) (bytes : IsText 
             } in
             Fall.refusal M laws Nothing wrote tt tt t u n given before old v Write refl h m bad (λ e. absurd (not_many e)) short.out
             (Fall.match_front M laws Nothing wrote tt tt t u n given before old v Write refl h m (path_of M p v.reading.window.bytes way.count) looked short)
-            (Fall.match_within M laws Nothing wrote tt tt t u n given before old v Write refl h m (path_of M p v.reading.window.bytes way.count) looked)
-            (Fall.match_end M laws Nothing wrote tt tt t u n given before old v Write refl h m (path_of M p v.reading.window.bytes way.count) looked) (λ e. absurd (not_stack e)) (λ early. absurd (early.0 refl))
+            (Fall.match_within M laws Nothing wrote tt tt t u n given before old v Write refl h m (path_of M p v.reading.window.bytes way.count) looked) (λ e. absurd (not_stack e)) (λ early. absurd (early.0 refl))
           where
             not_stack : Write ≡ Stack → ⊥
             not_stack e = cc
