@@ -4,7 +4,6 @@ ghost use Rattle.lexkit.specs.Failures.{out_of_memory};
 ghost use Rattle.lexkit.specs.declared.failure.Failure.{Failure};
 
 use lexkit::{Failure, MAX_FILE_BYTES, MAX_TABLE_BYTES, SPEC_READ_BYTES, read_more};
-use std::fs;
 
 /// The text that the files are together. No file, and `-`, is standard input. Of a longer one than a specification
 /// may be it is one byte more, and what follows is not read.
@@ -32,10 +31,6 @@ pub fn read_table_file(rt: &HostRuntime, name: String) -> Result<Vec<u8>, Failur
     ensures { IfErr result (λ failure. (failure ≡ out_of_memory) ⊎ (failure ≡ Failure.File name)) }
 {
     let mut bytes = Vec::new(rt.alloc());
-    // The file mostly tells its length, so that memory is taken once. Where it does not, reading takes what it needs.
-    if let Ok(told) = fs::metadata(rt, name.as_str()) {
-        let _ = bytes.reserve_exact(told.len().min(MAX_TABLE_BYTES) as usize + 1);
-    }
     match read_more(rt, name.as_str(), MAX_TABLE_BYTES + 1, &mut bytes) {
         Ok(()) if bytes.len() as u64 > MAX_TABLE_BYTES => Err(Failure::File(name)),
         Ok(()) => Ok(bytes),
