@@ -1,5 +1,5 @@
 -- What the writer with a buffer holds.
-use Rattle.std.specs.Prelude.{◌≡◌, ℕ, ◌-◌, List, ◌++◌, take, Option, vec_len}
+use Rattle.std.specs.Prelude.{◌≡◌, ℕ, ◌-◌, List, ◌++◌, take, Option}
 use Rattle.std.specs.Io.KnownBytes.{append_known}
 use Rattle.lex_io.specs.declared.byte_writer.ByteWriter.{ByteWriter}
 
@@ -18,7 +18,7 @@ bytes_written written w = append_known (written w.writer) (bytes_held w)
 
 -- how many more bytes it holds before it pours
 abbrev pub room_in : {W : Type 0} → ByteWriter W → ℕ
-room_in w = vec_len w.held.buffer - w.held.end
+room_in w = w.held.capacity - w.held.end
 
 -- these bytes joined those held, and the writer behind was not touched
 abbrev pub Holds : {W : Type 0} → ByteWriter W → ByteWriter W → List ℕ → Type 0

@@ -22,11 +22,13 @@ enum Refill {
 ///
 /// The reader behind it is asked where no byte is ahead, and once in a call: so an error and an end are reported where
 /// they are met, after the bytes before them. The bytes ahead are the last of the buffer, so that one comparison finds
-/// whether there is one.
+/// whether there is one. A buffer that a read filled is made larger before the next one, up to `CAPACITY`.
 #[derive(Drop)]
 pub struct ByteReader<R> {
     buffer: Vec<u8>,
     start: usize,
+    /// Whether the last read filled the buffer.
+    filled: bool,
     error: Option<io::Error>,
     reader: R,
     ghost in_bounds: { start ≤ vec_len buffer },
@@ -36,14 +38,15 @@ pub struct ByteReader<R> {
 impl<R: Read> ByteReader<R> {
     ghost use Rattle.lex_io.specs.ByteReaders.{reader_behind, bytes_ahead, bytes_left};
 
-    /// Over this reader, with nothing read yet. All its memory is taken here.
+    /// Over this reader, with nothing read yet. More memory is taken where reads are long; where it is refused, they stay
+    /// short.
     pub fn new(alloc: Global, reader: R) -> Result<ByteReader<R>, AllocError>
     where
         R: Drop,
         ensures reader { IfOk result (λ made. reader_behind made ≡ reader) }
         ensures empty { IfOk result (λ made. bytes_ahead made ≡ []) }
     {
-        ByteReader::with_capacity(alloc, buffer::CAPACITY, reader)
+        ByteReader::with_capacity(alloc, buffer::FIRST, reader)
     }
 
     /// The same with a buffer of this many bytes.
@@ -58,9 +61,24 @@ impl<R: Read> ByteReader<R> {
         Ok(ByteReader {
             buffer,
             start: capacity,
+            filled: false,
             error: None,
             reader,
         })
+    }
+
+    /// Makes the buffer twice as large where the last read filled it, and no byte is ahead. Where memory for that is
+    /// refused, it stays as it is.
+    fn grow(&mut self)
+        requires { self.old.start ≡ vec_len self.old.buffer }
+        ensures reader { self.new.reader ≡ self.old.reader }
+        ensures none { self.new.start ≡ vec_len self.new.buffer }
+    {
+        let len = self.buffer.len();
+        let larger = len.saturating_mul(2).min(buffer::CAPACITY);
+        if self.filled && len < larger && self.buffer.resize(larger, 0).is_ok() {
+            self.start = larger;
+        }
     }
 
     /// Asks the reader behind it once, where no byte is ahead.
@@ -74,9 +92,11 @@ impl<R: Read> ByteReader<R> {
         ensures end { result ≡ Refill.End → IsAtEnd (R.remaining self.new.reader) }
         ensures fault { result ≡ Refill.Fault → IsSome self.new.error }
     {
+        self.grow();
         match read_over(&mut self.reader, &mut self.buffer) {
             Ok(0) => Refill::End,
             Ok(count) => {
+                self.filled = count == self.buffer.len();
                 self.start = self.buffer.len() - count;
                 move_to_end(self.buffer.as_mut_slice(), count);
                 Refill::Bytes

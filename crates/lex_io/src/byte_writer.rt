@@ -1,6 +1,6 @@
 //! A writer with a buffer, made for short writes.
 ghost use Rattle.std.specs.Prelude.{◌≡◌, ◌+◌, ◌-◌, ◌≤◌, [], ◌++◌, length, take, drop, IfOk, true, false, nat_le};
-ghost use Rattle.std.specs.Prelude.{OnOk, OnErr, IfSome, IfNone, IsSome, MatchOption, vec_len};
+ghost use Rattle.std.specs.Prelude.{OnOk, OnErr, IfSome, IfNone, IsSome, MatchOption, vec_len, vec_capacity};
 ghost use Rattle.std.specs.Io.{WritesAtMost};
 ghost use Rattle.std.specs.Io.KnownBytes.{Appends, Keeps, WriteAppends};
 
@@ -10,21 +10,68 @@ use std::alloc::{AllocError, Global};
 use std::io;
 use std::io::Write;
 
-/// The bytes that wait: those of the buffer up to `end`.
+/// The bytes that wait: those of the buffer up to `end`. The buffer is made longer as they need it, in memory that was
+/// taken at the start: what is never written to is never touched.
 #[derive(Drop)]
 struct Held {
     buffer: Vec<u8>,
     end: usize,
+    /// How long the buffer may become.
+    capacity: usize,
     ghost in_bounds: { end ≤ vec_len buffer },
+    ghost within: { vec_len buffer ≤ capacity },
+    ghost taken: { capacity ≤ vec_capacity buffer },
 }
 
 impl Held {
+    /// Nothing, with room for this many bytes. All its memory is taken here.
+    fn with_capacity(alloc: Global, capacity: usize) -> Result<Held, AllocError>
+        ensures empty { IfOk result (λ held. held.end ≡ 0) }
+        ensures room { IfOk result (λ held. held.capacity ≡ capacity) }
+    {
+        let buffer = Vec::with_capacity(alloc, capacity)?;
+        Ok(Held {
+            buffer,
+            end: 0,
+            capacity,
+        })
+    }
+
     /// How many more bytes there is room for.
     #[inline(always)]
     fn room(&self) -> usize
+        ensures { result ≡ self.now.capacity - self.now.end }
+    {
+        self.capacity - self.end
+    }
+
+    /// How many more bytes the buffer has room for as it is.
+    #[inline(always)]
+    fn ready(&self) -> usize
         ensures { result ≡ vec_len self.now.buffer - self.now.end }
     {
         self.buffer.len() - self.end
+    }
+
+    /// Makes the buffer longer, so that this many bytes more find room in it.
+    fn grow(&mut self, count: usize)
+        requires { count ≤ self.old.capacity - self.old.end }
+        ensures bytes { take self.new.end self.new.buffer.items ≡ take self.old.end self.old.buffer.items }
+        ensures end { self.new.end ≡ self.old.end }
+        ensures capacity { self.new.capacity ≡ self.old.capacity }
+        ensures ready { self.new.end + count ≤ vec_len self.new.buffer }
+    {
+        let needed = self.end + count;
+        let len = self.buffer.len();
+        let longer = needed
+            .max(len.saturating_mul(2))
+            .max(buffer::FIRST)
+            .min(self.capacity);
+        if len < longer {
+            let Ok(()) = self.buffer.resize(longer, 0) else {
+                unreachable!()
+            };
+        }
     }
 
     /// The bytes that wait.
@@ -38,7 +85,8 @@ impl Held {
     #[inline(always)]
     fn push(&mut self, bytes: &[u8])
         requires { self.old.end + length bytes.now ≤ vec_len self.old.buffer }
-        ensures { take self.new.end self.new.buffer.items ≡ take self.old.end self.old.buffer.items ++ bytes.now }
+        ensures bytes { take self.new.end self.new.buffer.items ≡ take self.old.end self.old.buffer.items ++ bytes.now }
+        ensures capacity { self.new.capacity ≡ self.old.capacity }
     {
         let begin = self.end;
         let end = begin + bytes.len();
@@ -51,7 +99,7 @@ impl Held {
         requires { count ≤ self.old.end }
         ensures bytes { take self.new.end self.new.buffer.items ≡ drop count (take self.old.end self.old.buffer.items) }
         ensures end { self.new.end ≡ self.old.end - count }
-        ensures room { vec_len self.new.buffer ≡ vec_len self.old.buffer }
+        ensures capacity { self.new.capacity ≡ self.old.capacity }
     {
         self.buffer.copy_within(count..self.end, 0);
         self.end -= count;
@@ -87,8 +135,7 @@ impl<W: Write + Drop> ByteWriter<W> {
         ensures empty { IfOk result (λ made. bytes_held made ≡ []) }
         ensures room { IfOk result (λ made. room_in made ≡ capacity) }
     {
-        let buffer = buffer::make(alloc, capacity)?;
-        let held = Held { buffer, end: 0 };
+        let held = Held::with_capacity(alloc, capacity)?;
         Ok(ByteWriter {
             held,
             error: None,
@@ -101,7 +148,7 @@ impl<W: Write + Drop> ByteWriter<W> {
         ensures bytes { Keeps (bytes_written W.contents self.old) (bytes_written W.contents self.new) }
         ensures poured { OnOk result (self.new.held.end ≡ 0) }
         ensures rest { EndsWith (bytes_held self.old) (bytes_held self.new) }
-        ensures room { vec_len self.new.held.buffer ≡ vec_len self.old.held.buffer }
+        ensures room { self.new.held.capacity ≡ self.old.held.capacity }
     {
         let (written, result) = write_out(self.held.as_slice(), &mut self.writer);
         self.held.drop_front(written);
@@ -123,11 +170,27 @@ impl<W: Write + Drop> ByteWriter<W> {
         ensures held { result ≡ true → Holds self.old self.new bytes.now }
         ensures full { result ≡ false → self.new ≡ self.old }
     {
-        if bytes.len() <= self.held.room() {
+        if bytes.len() <= self.held.ready() {
             self.held.push(bytes);
             return true;
         }
-        false
+        self.grow_and_hold(bytes)
+    }
+
+    /// The same where the buffer has no room as it is.
+    #[cold]
+    #[inline(never)]
+    fn grow_and_hold(&mut self, bytes: &[u8]) -> bool
+        ensures fits { result ≡ nat_le (length bytes.now) (room_in self.old) }
+        ensures held { result ≡ true → Holds self.old self.new bytes.now }
+        ensures full { result ≡ false → self.new ≡ self.old }
+    {
+        if bytes.len() > self.held.room() {
+            return false;
+        }
+        self.held.grow(bytes.len());
+        self.held.push(bytes);
+        true
     }
 
     /// Pours, and then holds the bytes, or hands them on where there are more than may be held. Where it answers

@@ -1,6 +1,7 @@
 pub mod Table
 pub mod Checks
 pub mod Steps
+pub mod Alike
 pub mod Invariant
 pub mod Views
 pub mod Machines

@@ -5,6 +5,7 @@
 //! - `parts`: the lists of which a table is made, as a file has them.
 //! - `tables`: a table that keeps to all that a table file is checked for.
 //! - `steps`: the state after one byte more, and the marks of targets.
+//! - `alike`: the bytes of each class, as chains.
 //! - `rows`: a row of 256 targets for each state.
 //! - `inverse`: the inverse transitions of a table, as chains.
 //! - `live`: which states are live: some text that is not empty leads from them to one that accepts.
@@ -37,6 +38,7 @@
 //!   place of its row.
 #![tactic(auto)]
 
+mod alike;
 mod flat;
 mod inverse;
 mod kinds;

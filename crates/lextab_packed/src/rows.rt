@@ -1,45 +1,37 @@
 //! Rows of 256 targets, one for each state, laid out from the slots. Each target may have a mark in its place.
 ghost use Rattle.std.specs.Prelude.{◌≡◌, ℕ, ◌+◌, ◌*◌, ◌<◌, ◌≤◌, length, slice_index, IfOk};
 ghost use Rattle.lex_semantics.specs.Limits.{max_states};
+ghost use Rattle.lextab_packed.specs.Alike.{AreAlike, IsSpread};
 ghost use Rattle.lextab_packed.specs.Checks.{IsTable};
 ghost use Rattle.lextab_packed.specs.Steps.{step_of};
 ghost use Rattle.lextab_packed.specs.Views.{table_of};
 
+use crate::alike::{Alike, Spread, alike_of};
 use crate::parts::TableParts;
 use std::alloc::{AllocError, Global};
 
-/// The mark of the state after a byte of each class, by the number of the class.
-fn targets_by_class(parts: &TableParts, marks: &[u32], state: u32) -> [u32; 256]
+/// Turns a row of marks to that of a state. Rows of neighbours are much alike, so only what differs is put.
+fn turn_to(parts: &TableParts, alike: &Alike, marks: &[u32], state: u32, row: &mut Spread)
     requires table { IsTable (table_of parts.now) }
+    requires alike { AreAlike parts.now.class_of.items alike.now.first alike.now.after 0 }
     requires marks { length marks.now ≡ length parts.now.rows.items }
     requires state { state < length parts.now.rows.items }
-    ensures { (b : ℕ) → b < 256 → slice_index result (slice_index parts.now.class_of.items b)
-        ≡ slice_index marks.now (step_of (table_of parts.now) state b) }
+    requires spread { IsSpread parts.now.class_of.items row.old.by_class row.old.by_byte }
+    ensures spread { IsSpread parts.now.class_of.items row.new.by_class row.new.by_byte }
+    ensures each { (b : ℕ) → b < 256
+        → slice_index row.new.by_byte b ≡ slice_index marks.now (step_of (table_of parts.now) state b) }
 {
-    let row = &parts.rows[state as usize];
-    let base = row.base as usize;
-    let mut targets = [marks[row.default_target as usize]; 256];
+    let packed = &parts.rows[state as usize];
+    let base = packed.base as usize;
+    let default = marks[packed.default_target as usize];
     for class in 0..parts.classes as usize {
-        if parts.checks[base + class] == state {
-            targets[class] = marks[parts.nexts[base + class] as usize];
-        }
+        let mark = if parts.checks[base + class] == state {
+            marks[parts.nexts[base + class] as usize]
+        } else {
+            default
+        };
+        row.set(&parts.class_of, alike, class, mark);
     }
-    targets
-}
-
-/// The mark of the state after each byte.
-fn targets_by_byte(parts: &TableParts, marks: &[u32], state: u32) -> [u32; 256]
-    requires table { IsTable (table_of parts.now) }
-    requires marks { length marks.now ≡ length parts.now.rows.items }
-    requires state { state < length parts.now.rows.items }
-    ensures { (b : ℕ) → b < 256 → slice_index result b ≡ slice_index marks.now (step_of (table_of parts.now) state b) }
-{
-    let by_class = targets_by_class(parts, marks, state);
-    let mut targets = [0; 256];
-    for byte in 0..256 {
-        targets[byte] = by_class[usize::from(parts.class_of[byte])];
-    }
-    targets
 }
 
 /// The marks of the states after each byte, 256 to a state: the row of state 0, then that of state 1, and so on.
@@ -54,9 +46,12 @@ pub(crate) fn marked_rows(
     ensures each { IfOk result (λ v. (s b : ℕ) → s < length parts.now.rows.items → b < 256
         → slice_index v.items (256 * s + b) ≡ slice_index marks.now (step_of (table_of parts.now) s b)) }
 {
+    let alike = alike_of(&parts.class_of);
+    let mut row = Spread::new();
     let mut rows = Vec::with_capacity(alloc, 256 * parts.rows.len())?;
     for state in 0..parts.rows.len() {
-        rows.extend_from_slice(&targets_by_byte(parts, marks, state as u32))?;
+        turn_to(parts, &alike, marks, state as u32, &mut row);
+        rows.extend_from_slice(&row.by_byte)?;
     }
     Ok(rows)
 }

@@ -1,6 +1,6 @@
 //! Tests over the reader with a buffer.
 use crate::counted::Asked;
-use crate::long::{CAPACITY, dots, followed};
+use crate::long::{FIRST, dots, followed};
 use crate::script::{Reply, Script};
 use lex_io::{ByteReader, FromRead};
 use std::alloc::{AllocError, Global};
@@ -76,7 +76,7 @@ const ROOMS: &[(usize, &[u8])] = &[(1, b"a"), (4, b"bc"), (0, b""), (2, b"de"), 
 
 /// Whether these bytes are given behind the dots.
 fn gives<R: Read>(reader: &mut ByteReader<R>, rooms: &[(usize, &[u8])]) -> bool {
-    let mut so = drops(reader, 65_533);
+    let mut so = drops(reader, 4_093);
     for &(room, want) in rooms {
         so = reads(reader, room, Ok(want)) && so;
     }
@@ -85,11 +85,11 @@ fn gives<R: Read>(reader: &mut ByteReader<R>, rooms: &[(usize, &[u8])]) -> bool 
 
 /// The text of the test: so many dots, and behind them what is given.
 fn text_behind_dots(alloc: Global) -> Result<Vec<u8>, AllocError> {
-    let dots = dots(alloc, CAPACITY - 3)?;
+    let dots = dots(alloc, FIRST - 3)?;
     followed(alloc, &dots, b"abcde")
 }
 
-/// The buffer ends after three bytes behind the dots.
+/// The first buffer ends after three bytes behind the dots.
 #[test]
 fn gives_what_there_is_room_for(rt: HostRuntime) -> Result<(), Fail> {
     let text = text_behind_dots(rt.alloc())?;

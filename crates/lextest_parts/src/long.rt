@@ -1,8 +1,11 @@
 //! Texts that fill a buffer.
 use std::alloc::{AllocError, Global};
 
-/// How many bytes a buffer has.
+/// How many bytes a buffer has at most.
 pub(crate) const CAPACITY: usize = 65_536;
+
+/// How many bytes a reader's buffer has at first.
+pub(crate) const FIRST: usize = 4_096;
 
 /// This many dots.
 pub(crate) fn dots(alloc: Global, count: usize) -> Result<Vec<u8>, AllocError> {

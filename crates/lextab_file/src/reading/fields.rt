@@ -1,5 +1,5 @@
 //! Reads fields: each function gives the value at the front of the bytes, and the bytes after it.
-ghost use Rattle.std.specs.Prelude.{◌≡◌, ◌≤◌, ◌<◌, IfOk, length};
+ghost use Rattle.std.specs.Prelude.{◌≡◌, ◌+◌, ◌≤◌, ◌<◌, IfOk, length};
 ghost use Rattle.std.specs.Int.{w16, w32};
 ghost use Rattle.lextab_file.specs.Reading.{only_if, below, read_byte, read_number, read_bytes, read_long, read_positive};
 ghost use Rattle.lextab_file.specs.Views.{Gives};
@@ -54,6 +54,7 @@ pub fn positive(bytes: &[u8]) -> Result<(u16, &[u8]), ReadError>
 /// A number of four bytes.
 pub fn long(bytes: &[u8]) -> Result<(u32, &[u8]), ReadError>
     ensures gives { Gives (λ x. (x.0, x.1.now)) result (read_number w32 bytes.now) }
+    ensures rest { IfOk result (λ x. length x.1.now + 4 ≡ length bytes.now) }
 {
     if bytes.len() < 4 {
         return Err(ReadError::Truncated);

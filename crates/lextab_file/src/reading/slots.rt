@@ -1,5 +1,5 @@
 //! Reads the slots.
-ghost use Rattle.std.specs.Prelude.{◌≡◌, ◌<◌, ◌&&◌, nat_lt, map, length, slice_index};
+ghost use Rattle.std.specs.Prelude.{◌≡◌, ◌+◌, ◌<◌, ◌&&◌, nat_lt, map, length, slice_index, IfOk};
 ghost use Rattle.std.specs.Int.{w32};
 ghost use Rattle.lextab_packed.specs.Checks.{bases_of, none_at_0};
 ghost use Rattle.lextab_packed.specs.Views.{row_of, slots_of};
@@ -30,8 +30,9 @@ fn check_of<'a>(
     place: u32,
 ) -> Result<(u32, &'a [u8]), ReadError>
     requires { length rows.now ≡ counts.states }
-    ensures { Gives (λ x. (x.0, x.1.now)) result
+    ensures gives { Gives (λ x. (x.0, x.1.now)) result
         (only_if (good_check (sizes_in counts) (bases_of (map row_of rows.now)) place) (read_number w32) bytes.now) }
+    ensures rest { IfOk result (λ x. length x.1.now + 4 ≡ length bytes.now) }
 {
     let (check, rest) = long(bytes)?;
     if check == 0 {
@@ -49,8 +50,9 @@ fn check_of<'a>(
 
 /// The target in a slot for this state.
 fn next_of(bytes: &[u8], states: u32, check: u32) -> Result<(u32, &[u8]), ReadError>
-    ensures { Gives (λ x. (x.0, x.1.now)) result
+    ensures gives { Gives (λ x. (x.0, x.1.now)) result
         (only_if (λ n. nat_lt n states && none_at_0 check n) (read_number w32) bytes.now) }
+    ensures rest { IfOk result (λ x. length x.1.now + 4 ≡ length bytes.now) }
 {
     let (next, rest) = long(bytes)?;
     if !may_lead(check, next, states) {
@@ -70,6 +72,7 @@ fn slot<'a>(
     requires { length rows.now ≡ counts.states }
     ensures gives { Gives (λ x. (slot_from (x.0.0, x.0.1), x.1.now)) result
         (read_slot (sizes_in counts) (bases_of (map row_of rows.now)) place bytes.now) }
+    ensures rest { IfOk result (λ x. length x.1.now + 8 ≡ length bytes.now) }
 {
     let (check, rest) = check_of(bytes, counts, rows, place)?;
     let (next, rest) = next_of(rest, counts.states, check)?;
@@ -87,14 +90,15 @@ pub fn slots<'a>(
     ensures { Gives (λ x. (slots_of x.0.0.items x.0.1.items, x.1.now)) result
         (many (read_slot (sizes_in counts) (bases_of (map row_of rows.now))) following counts.slots 0 bytes.now) }
 {
+    // A slot is read where its bytes are there, so the columns have room for it.
     let most = (counts.slots as usize).min(bytes.len() / 8);
     let mut checks = Vec::with_capacity(alloc, most)?;
     let mut nexts = Vec::with_capacity(alloc, most)?;
     let mut rest = bytes;
     for i in 0..counts.slots {
         let ((check, next), after) = slot(rest, counts, rows, i)?;
-        checks.push(check)?;
-        nexts.push(next)?;
+        checks.push_reserved(check);
+        nexts.push_reserved(next);
         rest = after;
     }
     Ok(((checks, nexts), rest))

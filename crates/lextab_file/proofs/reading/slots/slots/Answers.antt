@@ -1,4 +1,5 @@
-use Rattle.std.proofs.Common.{map, rules}
+use Rattle.std.proofs.Common.{[], ◌∷◌, length, map, ap, arith}
+use Rattle.std.proofs.lemmas.List.{length-append}
 use Rattle.lextab_packed.specs.Checks.{bases_of}
 use Rattle.lextab_packed.specs.Views.{row_of, slots_of}
 use Rattle.lextab_file.specs.Views.{sizes_in}
@@ -16,10 +17,16 @@ returns-in_err-check c =
 
 pub loop-i-preserved : goal.loop-i-preserved
 loop-i-preserved c =
+    let one = c.push_reserved.ensures.items in
+    let two = c.push_reserved-in-loop-i.ensures.items in
     let e = one_slot_more c.loop-i.checks.items c.loop-i.nexts.items c.in_ok-check.check c.in_ok-check.next c.loop-i.invariant.same_length in
     record {
-      same_length = search rules;
-      read = rw (c.in_ok-push.ensures.items, c.in_ok-push-2.ensures.items, e) (goes_on (read_slot (sizes_in c.args.counts) (bases_of (map row_of c.args.rows.now))) following (slots_of c.loop-i.checks.items c.loop-i.nexts.items) c.args.counts.slots c.loop-i.i c.loop-i.i c.loop-i.rest.now (slot_from (c.in_ok-check.check, c.in_ok-check.next)) c.in_ok-check.after.now (many (read_slot (sizes_in c.args.counts) (bases_of (map row_of c.args.rows.now))) following c.args.counts.slots 0 c.args.bytes.now) c.loop-i-test.true c.in_ok-check.ensures.gives c.loop-i.invariant.read);
+      count = omega (arith, ap length one, length-append c.loop-i.checks.items (c.in_ok-check.check ∷ []), c.loop-i.invariant.count);
+      rest = omega (arith, c.in_ok-check.ensures.rest, c.loop-i.invariant.rest);
+      checks_room = omega (arith, c.push_reserved.ensures.capacity, c.loop-i.invariant.checks_room);
+      nexts_room = omega (arith, c.push_reserved-in-loop-i.ensures.capacity, c.loop-i.invariant.nexts_room);
+      same_length = omega (arith, ap length one, ap length two, length-append c.loop-i.checks.items (c.in_ok-check.check ∷ []), length-append c.loop-i.nexts.items (c.in_ok-check.next ∷ []), c.loop-i.invariant.same_length);
+      read = rw (one, two, e) (goes_on (read_slot (sizes_in c.args.counts) (bases_of (map row_of c.args.rows.now))) following (slots_of c.loop-i.checks.items c.loop-i.nexts.items) c.args.counts.slots c.loop-i.i c.loop-i.i c.loop-i.rest.now (slot_from (c.in_ok-check.check, c.in_ok-check.next)) c.in_ok-check.after.now (many (read_slot (sizes_in c.args.counts) (bases_of (map row_of c.args.rows.now))) following c.args.counts.slots 0 c.args.bytes.now) c.loop-i-test.true c.in_ok-check.ensures.gives c.loop-i.invariant.read);
     }
 
 pub returns : goal.returns
