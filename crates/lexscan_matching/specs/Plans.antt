@@ -1,5 +1,5 @@
--- What a match does that is told neither by one rule that keeps all of it nor by simple statements alone: trailing context,
--- yymore beside other statements, and a first match that is rejected.
+-- What a match does that is told neither by one rule that keeps all of it nor by simple statements alone: trailing
+-- context, yymore beside other statements, and a first match that is rejected.
 use Rattle.std.specs.Prelude.{◌≡◌, ℕ, ◌+◌, ◌-◌, ◌≤◌, ◌<◌, Bool, true, false, List, [], ◌∷◌, ◌++◌, length, take, map, filter_map, Option, Some, IfSome, ◌⊎◌, ⊤}
 use Rattle.lex_semantics.specs.Spec as S
 use Rattle.lex_semantics.specs.Candidates.{Candidate}
