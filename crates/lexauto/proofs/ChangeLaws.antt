@@ -1,8 +1,8 @@
 -- The bytes at which what a position reads changes.
 use Rattle.std.proofs.Common.{◌≡◌, ◌≢◌, ℕ, zero, suc, ◌++◌, ◌+◌, ◌⊎◌, inl, inr, refl, ◌<◌, Bool, true, false, ◌&&◌, ◌||◌, List, [], ◌∷◌, length, sym, ap, ◌∙◌, arith}
-use Rattle.std.specs.Prelude.{◌==◌, nat_le, slice_index_or}
-use Rattle.std.proofs.lemmas.Bool.{eq-eqb, eqb-true, leb-true, or_parts}
-use Rattle.lex_semantics.specs.ByteSets.{ByteSet, has, empty_set, range_set, single, union, within}
+use Rattle.std.specs.Prelude.{◌==◌, slice_index_or}
+use Rattle.std.proofs.lemmas.Bool.{eq-eqb, eqb-true, ne_eqb, or_parts}
+use Rattle.lex_semantics.specs.ByteSets.{ByteSet, has, empty_set, single, union}
 use Rattle.lex_semantics.specs.Text.{flag}
 use Rattle.lexre_bytes.proofs.SetLaws.{has-set_of}
 use Rattle.lexauto_positions.specs.Letters.{reads_at}
@@ -20,18 +20,15 @@ pub not_single : (n b : ℕ) → b < 256 → has (single n) b ≡ false → b �
 unfolding single
 not_single n b lt e is = let h : true ≡ false = sym (eq-eqb b n is) ∙ sym (has-set_of (λ c. c == n) b lt) ∙ e in cc
 
--- a byte after another is not among those up to it
-pub not_up_to : (b c : ℕ) → b < c → c < 256 → has (range_set 0 b) c ≡ false
-unfolding range_set
-not_up_to b c after lt = has-set_of (within 0 b) c lt ∙ above (nat_le c b) (λ e. omega (arith, after, leb-true c b e))
+-- a byte after another is not in a set with that one, if it was not in it before
+pub not_with : (s : ByteSet) (n b : ℕ) → n < b → b < 256 → has s b ≡ false → has (union s (single n)) b ≡ false
+unfolding union single
+not_with s n b after lt e = has-set_of (λ c. has s c || has (single n) c) b lt ∙ neither (has s b) (has (single n) b) e (has-set_of (λ c. c == n) b lt ∙ ne_eqb b n (λ is. omega (arith, is, after)))
   where
-    above : (t : Bool) → (t ≡ true → ⊥) → (nat_le 0 c && t) ≡ false
-    above true h = absurd (h (let e : true ≡ true = cc in e))
-    above false h = neither (nat_le 0 c)
-      where
-        neither : (t : Bool) → (t && false) ≡ false
-        neither true = cc
-        neither false = cc
+    neither : (x y : Bool) → x ≡ false → y ≡ false → (x || y) ≡ false
+    neither false false p q = refl
+    neither false true p q = cc
+    neither true y p q = cc
 
 -- where a set adds nothing to another, it has no byte that the other lacks
 pub adds_nothing : (s t : ByteSet) (b : ℕ) → b < 256 → union s t ≡ t → has t b ≡ false → has s b ≡ false

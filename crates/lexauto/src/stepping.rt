@@ -8,11 +8,12 @@ ghost use Rattle.lexspec.specs.Views.{spec_of, rules_in};
 ghost use Rattle.lex_semantics.specs.Text.{flag};
 ghost use Rattle.lexauto.specs.Facts.{accepted_by};
 ghost use Rattle.lexauto_positions.specs.Laid.{shape_of, HaveSized, HaveSized-prop};
+ghost use Rattle.lexauto_positions.specs.Letters.{reads_at};
 ghost use Rattle.lexauto_positions.specs.Owners.{AreOwners};
 ghost use Rattle.lexauto_positions.specs.RuleFlow.{rules_enter, rules_left, rules_read};
 ghost use Rattle.lexauto.specs.Moving.{AreChanges, AreMasks, AreTwins, masks_in, mask_at, followers_in, reading_in};
 
-use crate::changing::{changes_of, repeats_of};
+use crate::changing::{changes_of, repeats_of, united};
 use crate::explore::Moves;
 use crate::following::walk;
 use crate::key_packing::pack_marked;
@@ -68,14 +69,42 @@ fn marks_or_none(alloc: Global, marks: Vec<bool>) -> Vec<bool>
     Vec::new(alloc)
 }
 
-/// For each byte the positions that read it, by the bytes that each one reads.
-fn masks_of(alloc: Global, letters: &[ByteSet]) -> Result<Vec<Vec<bool>>, AllocError>
+/// The positions that read a byte, after those of the bytes before. Where none of them changes there, they are the same
+/// again.
+fn next_mask(
+    alloc: Global,
+    letters: &[ByteSet],
+    masks: &[Vec<bool>],
+    changing: &ByteSet,
+) -> Result<Vec<bool>, AllocError>
+    requires few { length masks.now < 256 }
+    requires masks { (b q : ℕ) → b < length masks.now → flag (mask_at (masks_in masks.now) b) q ≡ reads_at letters.now b q 0 }
+    requires changing { (b q : ℕ) → 1 ≤ b → b < 256 → has changing.now b ≡ false
+        → reads_at letters.now (b - 1) q 0 ≡ reads_at letters.now b q 0 }
+    ensures { IfOk result (λ v. (q : ℕ) → flag v.items q ≡ reads_at letters.now (length masks.now) q 0) }
+{
+    let byte = masks.len();
+    if byte > 0 && !changing.contains(byte as u8) {
+        return Vec::from_slice(alloc, &masks[byte - 1]);
+    }
+    let mask = mask_of(alloc, letters, byte as u8)?;
+    Ok(marks_or_none(alloc, mask))
+}
+
+/// For each byte the positions that read it, by the bytes that each one reads, and where that changes.
+fn masks_of(
+    alloc: Global,
+    letters: &[ByteSet],
+    changes: &[ByteSet],
+) -> Result<Vec<Vec<bool>>, AllocError>
+    requires { AreChanges (λ b q. reads_at letters.now b q 0) changes.now }
     ensures { IfOk result (λ v. AreMasks letters.now (masks_in v.items)) }
 {
-    let mut masks = Vec::new(alloc);
+    let changing = united(changes);
+    let mut masks = Vec::with_capacity(alloc, 256)?;
     for byte in 0..256usize {
-        let mask = mask_of(alloc, letters, byte as u8)?;
-        masks.push(marks_or_none(alloc, mask))?;
+        let mask = next_mask(alloc, letters, &masks, &changing)?;
+        masks.push(mask)?;
     }
     Ok(masks)
 }
@@ -140,9 +169,9 @@ impl<'a> RuleMoves<'a> {
         let rules = lay_rules(alloc, spec.rules())?;
         let owners = owners_of(alloc, &rules)?;
         let letters = letters_of(alloc, &rules)?;
-        let masks = masks_of(alloc, &letters)?;
-        let twins = twins_of(alloc, &masks)?;
         let changes = changes_of(alloc, &letters)?;
+        let masks = masks_of(alloc, &letters, &changes)?;
+        let twins = twins_of(alloc, &masks)?;
         let repeats = repeats_of(alloc, &changes)?;
         Ok(RuleMoves {
             spec,

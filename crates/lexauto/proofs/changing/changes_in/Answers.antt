@@ -2,21 +2,22 @@ use Rattle.std.proofs.Common.{rules, ◌≡◌, ◌+◌, ◌-◌, ◌<◌, false
 use Rattle.std.proofs.lemmas.Bool.{cases_eq}
 use Rattle.lex_semantics.specs.ByteSets.{has, union, single}
 use Rattle.lexauto.proofs.ChangeLaws.{in_neither, not_single}
-use Rattle.lexauto.proofs.changing.changes_in.Goals.{then-contains, else-contains}
+use Rattle.lexauto.proofs.changing.changes_in.Goals.{then-was_in-is_in, else-was_in-is_in}
 use Rattle.lexauto.proofs.changing.changes_in.Goals as goal
 
 pub loop-before-preserved : goal.loop-before-preserved
 loop-before-preserved c = record {
+  was = search rules;
   told = λ b some low not.
       let n = c.loop-before.before + 1 in
       let byte : b < 256 = omega (arith, low, c.loop-before-test.true) in
-      elim c.if-contains.branch [
-        | then-contains w ↦
+      elim c.if-was_in-is_in.branch [
+        | then-was_in-is_in w ↦
             (let e : has (union c.loop-before.changes (single n)) b ≡ false = search (rules, not) in
             let apart = in_neither c.loop-before.changes (single n) b byte e in
             let other = not_single n b byte apart.1 in
             c.loop-before.invariant.told b some (omega (arith, low, other)) apart.0)
-        | else-contains w ↦
+        | else-was_in-is_in w ↦
             (let old : has c.loop-before.changes b ≡ false = search (rules, not) in
             elim (cases_eq b n) [
               | inl is ↦ (let same : has c.args.set.now c.loop-before.before ≡ has c.args.set.now n = search rules in

@@ -1,5 +1,5 @@
-use Rattle.std.proofs.Common.{◌≡◌, ℕ, ◌-◌, ◌<◌, ◌^◌, List, length, map, sym, ap, subst, ◌∙◌, arith}
-use Rattle.lex_semantics.specs.ByteSets.{ByteSet, empty_set}
+use Rattle.std.proofs.Common.{◌≡◌, ℕ, false, ◌-◌, ◌<◌, ◌^◌, List, length, map, sym, ap, subst, ◌∙◌, arith}
+use Rattle.lex_semantics.specs.ByteSets.{ByteSet, has, empty_set}
 use Rattle.std.specs.Prelude.{slice_index_or}
 use Rattle.lex_semantics.specs.Subsets.{all_positions}
 use Rattle.lexauto_positions.specs.Letters.{reads_at}
@@ -21,6 +21,12 @@ owners_of-requires-clause-rules c =
     let number = ap (λ (rs : List LaidRule). length rs) c.deref.ensures.value ∙ sym (length_map shape_of c.in_ok-rules.rules.items) ∙ c.in_ok-rules.ensures.alike.number ∙ ap length c.rules.ensures.rules in
     let few : length (spec_of c.args.spec.now).rules < 2 ^ 32 = few_rules (spec_of c.args.spec.now) c.rules.ensures.sound in
     omega (arith, number, few)
+
+pub masks_of-requires : goal.masks_of-requires
+masks_of-requires c = λ q b some low not.
+    let same : c.deref-3.result.now ≡ c.deref-4.result.now = c.deref-3.ensures.value ∙ sym c.deref-4.ensures.value in
+    let told = subst (λ (sets : List ByteSet). has (slice_index_or sets q empty_set) b ≡ false) c.deref-5.ensures.value not in
+    subst (λ (ls : List ByteSet). reads_at ls (b - 1) q 0 ≡ reads_at ls b q 0) same (c.in_ok-changes.ensures q b some low told)
 
 pub invariant_of-result-clause-owned : goal.invariant_of-result-clause-owned
 invariant_of-result-clause-owned c =
@@ -47,15 +53,15 @@ invariant_of-result-clause-left c = λ last. ap (λ (f : LeftAll). f last 0 0) (
 pub invariant_of-result-clause-each : goal.invariant_of-result-clause-each
 invariant_of-result-clause-each c = λ b q low.
     c.in_ok-masks.ensures.each b q low
-    ∙ ap (λ (ls : List ByteSet). reads_at ls b q 0) c.deref-3.ensures.value
+    ∙ ap (λ (ls : List ByteSet). reads_at ls b q 0) c.deref-4.ensures.value
     ∙ c.in_ok-letters.ensures b q
     ∙ ap (λ (rs : List LaidRule). rules_read (map shape_of rs) b q 0) c.deref-2.ensures.value
     ∙ ap (λ (f : Letters). f b q 0) (c.in_ok-rules.ensures.alike.letters ∙ ap rules_read c.rules.ensures.rules)
 
 pub invariant_of-result-clause-changing : goal.invariant_of-result-clause-changing
 invariant_of-result-clause-changing c = λ q b some low not.
-    let told : (k : ℕ) → reads_at c.deref-5.result.now k q 0 ≡ rules_read (spec_of c.args.spec.now).rules k q 0 = λ k.
-    ap (λ (ls : List ByteSet). reads_at ls k q 0) c.deref-5.ensures.value
+    let told : (k : ℕ) → reads_at c.deref-3.result.now k q 0 ≡ rules_read (spec_of c.args.spec.now).rules k q 0 = λ k.
+    ap (λ (ls : List ByteSet). reads_at ls k q 0) c.deref-3.ensures.value
     ∙ c.in_ok-letters.ensures k q
     ∙ ap (λ (rs : List LaidRule). rules_read (map shape_of rs) k q 0) c.deref-2.ensures.value
     ∙ ap (λ (f : Letters). f k q 0) (c.in_ok-rules.ensures.alike.letters ∙ ap rules_read c.rules.ensures.rules) in
@@ -64,4 +70,4 @@ invariant_of-result-clause-changing c = λ q b some low not.
 pub invariant_of-result-clause-repeating : goal.invariant_of-result-clause-repeating
 invariant_of-result-clause-repeating c = λ q t.
     let r = c.in_ok-repeats.ensures q t in
-    (r.0, subst (λ (sets : List ByteSet). slice_index_or sets q empty_set ≡ slice_index_or sets (q - 1) empty_set) c.deref-6.ensures.value r.1)
+    (r.0, subst (λ (sets : List ByteSet). slice_index_or sets q empty_set ≡ slice_index_or sets (q - 1) empty_set) c.deref-7.ensures.value r.1)
