@@ -4,7 +4,7 @@ use Rattle.std.specs.Prelude.{slice_index}
 use Rattle.std.proofs.Common.{replicate, slice_set}
 use Rattle.std.proofs.lemmas.List.{get_or-set_same, get_or-set_other, get_or-replicate, get_or_append_left, get_or-append-add}
 use Rattle.std.proofs.lemmas.Bool.{cases_eq}
-use Rattle.lextab_packed.specs.Alike.{IsNext, AreAlike, IsSpread}
+use Rattle.lextab_packed.specs.Alike.{IsNext, AreAlike}
 
 -- a list of zeros has zero at each place, and past its end
 pub zero_at : (n k : ℕ) → slice_index (replicate n 0) k ≡ 0

@@ -2,7 +2,7 @@ use Rattle.std.proofs.Common.{◌≡◌, length, inl, inr, ap, sym, ◌∙◌, a
 use Rattle.std.specs.Prelude.{slice_index_or}
 use Rattle.std.proofs.lemmas.Bool.{cases_lt}
 use Rattle.std.proofs.lemmas.List.{get_or_default, get_or_past}
-use Rattle.lex_semantics.specs.ByteSets.{ByteSet, has, empty_set}
+use Rattle.lex_semantics.specs.ByteSets.{has, empty_set}
 use Rattle.lexauto.proofs.ChangeLaws.{has_nothing, in_neither}
 use Rattle.lexauto.proofs.changing.united.Goals as goal
 
