@@ -11,7 +11,7 @@ use lexscan_matching::{do_plan, plan_of};
 use lexscan_window::{Outlet, TextPlace};
 
 /// One turn over a text, where the walk of its match ends there and it is planned what that does. Otherwise none.
-#[inline(never)]
+#[inline(always)]
 pub fn turn_apart<M: Machine, K: Sink>(
     machine: &M,
     outlet: &mut Outlet<'_, K>,

@@ -10,7 +10,8 @@
 //! - `burst`: many turns in one loop over bytes in memory, where each rule at most writes or sets the condition.
 //! - `singles`: a run of one-byte matches is passed at once, for bursts.
 //! - `starts`: where the matches of a condition start, for bursts and series.
-//! - `texts`: bursts where yymore keeps bytes of the text before a match.
+//! - `texts`: bursts where yymore keeps bytes of the text before a match, and between planned turns.
+//! - `apart`: one turn in a burst whose rule is not told at a glance, but planned: with trailing context, yymore or REJECT.
 //! - `glance`: one turn over bytes in memory, whose rule at most writes or sets the condition.
 //! - `series`: many such turns in one loop, which lists their tokens.
 //! - `further`: lets a burst go over the bytes that the source has ready.

@@ -1,5 +1,4 @@
--- What a match does that is told neither by one rule that keeps all of it nor by simple statements alone: trailing
--- context, yymore beside other statements, and a first match that is rejected.
+-- What a match does where its rule has trailing context, does yymore after simple statements, or rejects it after them.
 use Rattle.std.specs.Prelude.{◌≡◌, ℕ, ◌+◌, ◌-◌, ◌≤◌, ◌<◌, Bool, true, false, List, [], ◌∷◌, ◌++◌, length, take, map, filter_map, Option, Some, IfSome, ◌⊎◌, ⊤}
 use Rattle.lex_semantics.specs.Spec as S
 use Rattle.lex_semantics.specs.Candidates.{Candidate}
