@@ -1,7 +1,8 @@
 #!/usr/bin/env bash
 # Tells the seconds of the processor that a scan takes over texts on which each match goes far and comes back, as inputs.py writes them,
-# at SIZE bytes (1 MiB without it, or less, as said for each family), and at 2, 4, 8 and 16 times as many. Each time is the least of
-# three runs, or that of one where it takes more than 5 seconds; after one of more than 20 no longer text is tried. Behind
+# at SIZE bytes (1 MiB without it, or less, as said for each family), and at 2, 4, 8 and 16 times as many. Each of nine rounds goes over
+# all texts of all families, so that some run of each meets the machine when it is not slower for a while; each time is the least.
+# A family that has taken 60 seconds is in no further round, and no longer text is tried after a run of more than 20. Behind
 # each time stands how many times the one before it is. Beside it is what flex's scanner takes for 10^4 and 10^5
 # bytes, 20 seconds by the clock at most; what it writes is compared.
 #
@@ -28,41 +29,46 @@ above() {
     awk -v one="$1" -v other="$2" 'BEGIN { exit !(one > other) }'
 }
 
-# The seconds of one run of the command over the input of the family, whatever its status.
+# The seconds of one run of the command over the text $1, whatever its status.
 run() {
-    local TIMEFORMAT=%U+%S
+    local TIMEFORMAT=%U+%S text=$1
+    shift
     echo 0 > "$folder/status"
-    { time "$@" < "$folder/$name.input" > "$folder/output" 2> /dev/null || echo $? > "$folder/status"; } 2>&1 | awk -F+ '{ printf "%.3f", $1 + $2 }'
+    { time "$@" < "$text" > "$folder/output" 2> /dev/null || echo $? > "$folder/status"; } 2>&1 | awk -F+ '{ printf "%.3f", $1 + $2 }'
 }
 
-# The least of three runs of lex over SIZE bytes of the family, or one that takes more than 5 seconds.
-least() {
-    local best took
-    "$here/inputs.py" "$folder" "$name" "$1"
-    best=$(run "$lex" --scan-table "$folder/lex.tab")
-    for _ in 2 3; do
-        if above "$best" 5; then
-            break
+# The table file of the family $1, and five texts, each twice as long as the one before, from $2 bytes on.
+write_texts() {
+    local index
+    "$here/inputs.py" "$folder" "$1" 1000
+    "$lex" -w -o "$folder/$1.tab" "$folder/$1.l"
+    for index in 0 1 2 3 4; do
+        "$here/inputs.py" "$folder" "$1" $(($2 << index))
+        mv "$folder/$1.input" "$folder/$1.$index"
+    done
+}
+
+# Takes a run of lex over each text of the family $1 into `least`, up to one that takes more than 20 seconds.
+round() {
+    local index took
+    for index in 0 1 2 3 4; do
+        took=$(run "$folder/$1.$index" "$lex" --scan-table "$folder/$1.tab")
+        if [[ -z ${least[$1.$index]-} ]] || above "${least[$1.$index]}" "$took"; then
+            least[$1.$index]=$took
         fi
-        took=$(run "$lex" --scan-table "$folder/lex.tab")
-        if above "$best" "$took"; then
-            best=$took
+        if above "$took" 20; then
+            return
         fi
     done
-    echo "$best"
 }
 
-# The cells of the family for five texts, each twice as long as the one before, from $1 bytes on. Ratios are judged where $2 is `judged`.
+# The cells of the family $1. Ratios are judged where $2 is `judged`.
 doublings() {
-    local bytes=$1 before='' took ratio index
+    local before='' took ratio index
     for index in 0 1 2 3 4; do
-        if [[ -n $before ]] && above "$before" 20; then
-            row+=" |"
-            continue
-        fi
-        took=$(least $((bytes << index)))
+        took=${least[$1.$index]-}
         row+=" $took"
-        if [[ -n $before ]] && above "$before" 0.05; then
+        if [[ -n $before && -n $took ]] && above "$before" 0.05; then
             ratio=$(awk -v one="$took" -v other="$before" 'BEGIN { printf "%.2f", one / other }')
             row+=" ($ratio)"
             if [[ $2 == judged ]] && above "$ratio" 2.3; then
@@ -79,8 +85,8 @@ beside() {
     local bytes took
     for bytes in 10000 100000; do
         "$here/inputs.py" "$folder" "$name" "$bytes"
-        "$lex" --scan-table "$folder/lex.tab" < "$folder/$name.input" > "$folder/expected"
-        took=$(run timeout 20 "$folder/flex")
+        "$lex" --scan-table "$folder/$name.tab" < "$folder/$name.input" > "$folder/expected"
+        took=$(run "$folder/$name.input" timeout 20 "$folder/flex")
         case $(cat "$folder/status") in
             0) cmp "$folder/expected" "$folder/output" >&2 && row+=" $took |" ;;
             124) row+=" stopped after $took |" ;;
@@ -89,21 +95,58 @@ beside() {
     done
 }
 
-# A row for the family $1, from $2 bytes on, where it is asked for.
-family() {
-    name=$1
-    if [[ $wanted != all && " $wanted " != *" $name "* ]]; then
-        return
-    fi
-    "$here/inputs.py" "$folder" "$name" 1000
-    "$lex" -w -o "$folder/lex.tab" "$folder/$name.l"
+# Nine rounds over the families in $@, each behind its number of bytes, that are asked for. None is made of a family that has
+# taken 60 seconds.
+measure() {
+    local count name began
+    local -A bytes=() spent=()
+    while (($# > 0)); do
+        if [[ $wanted == all || " $wanted " == *" $2 "* ]]; then
+            bytes[$2]=$1
+            families+=("$2")
+            write_texts "$2" "$1"
+        fi
+        shift 2
+    done
+    for ((count = 0; count < 9; count++)); do
+        for name in "${families[@]}"; do
+            began=$SECONDS
+            if ((${spent[$name]-0} < 60)); then
+                round "$name"
+            fi
+            spent[$name]=$((${spent[$name]-0} + SECONDS - began))
+        done
+    done
+    for name in "${families[@]}"; do
+        rows+=("| $name | ${bytes[$name]} |")
+    done
+}
+
+# The table of these families. Ratios are judged where $1 is `judged`.
+table() {
+    local row index
+    least=() families=() rows=()
+    local how=$1
+    shift
+    measure "$@"
+    echo "| Family | n | n bytes | 2 n | 4 n | 8 n | 16 n | flex, 10^4 | flex, 10^5 |"
+    echo "|---|---|---|---|---|---|---|---|---|"
+    for index in "${!families[@]}"; do
+        name=${families[index]}
+        row=${rows[index]}
+        doublings "$name" "$how"
+        make_flex
+        beside
+        echo "$row"
+        rm "$folder/$name".[0-4]
+    done
+}
+
+# Makes flex's scanner of the family.
+make_flex() {
     flex --noyywrap -o "$folder/scan.c" "$folder/$name.l" 2> /dev/null
     echo 'int main(void) { return yylex(); }' >> "$folder/scan.c"
     cc -O2 -w -o "$folder/flex" "$folder/scan.c"
-    row="| $name | $2 |"
-    doublings "$2" "$3"
-    beside
-    echo "$row"
 }
 
 # The most kibibytes that are resident in a scan of one string without an end, of $1 bytes.
@@ -112,22 +155,19 @@ resident() {
     /usr/bin/time -f %M "$lex" --scan-table "$folder/lex.tab" < "$folder/string.input" 2>&1 > /dev/null
 }
 
-heading() {
-    echo "| Family | n | n bytes | 2 n | 4 n | 8 n | 16 n | flex, 10^4 | flex, 10^5 |"
-    echo "|---|---|---|---|---|---|---|---|---|"
-}
-
-heading
+declare -A least=()
+declare -a families=() rows=()
+pairs=()
 for name in letters line comments statements string context less more every2 context_found context_every2 less_found reject; do
-    family "$name" "$size" judged
+    pairs+=("$size" "$name")
 done
-family every7 $((size / 4)) judged
-family every64 $((size / 16)) judged
-family every2to6 $((size / 16)) judged
-family every2to8 $((size / 16)) judged
+pairs+=($((size / 4)) every7)
+for name in every64 every2to6 every2to8; do
+    pairs+=($((size / 16)) "$name")
+done
+table judged "${pairs[@]}"
 echo
-heading
-family reject_set 4096 shown
+table shown 4096 reject_set
 echo
 "$here/inputs.py" "$folder" string 1000
 "$lex" -w -o "$folder/lex.tab" "$folder/string.l"
