@@ -66,7 +66,13 @@ module _ (labels : List ℕ) (l : ℕ) where
     one = λ x y h k e. cut.no_finer x y (omega (arith, h, n)) (omega (arith, k, n)) (a.one x y (omega (arith, h, n)) (omega (arith, k, n)) e) (label_same x y e);
     rest = λ x y h k p q. cut.no_finer x y (omega (arith, h, n)) (omega (arith, k, n)) (a.rest x y (omega (arith, h, n)) (omega (arith, k, n)) (omega (arith, p)) (omega (arith, q)))
         (none_same x y (omega (arith, p)) (omega (arith, q)));
-    wait = λ x h. cut.waits x (omega (arith, h, n)) (a.wait x (omega (arith, h, n)));
+    wait = λ x y h k d. elim (same_or_not (block_of old x) (block_of old y)) [
+      | inl e ↦ cut.one_waits x y (omega (arith, h, n)) (omega (arith, k, n)) e d
+      | inr o ↦ elim (a.wait x y (omega (arith, h, n)) (omega (arith, k, n)) o) [
+        | inl w ↦ inl (cut.waits x (omega (arith, h, n)) w)
+        | inr w ↦ inr (cut.waits y (omega (arith, k, n)) w)
+      ]
+    ];
   }
     where
       cut : Cuts (states old) (block_of old) (block_of new) is_l (Has before) (Has after)
@@ -83,7 +89,7 @@ ready letters labels b waiting fit row n a = (
         | inr s ↦ absurd (let l = row x h in let p = s.0 in omega (arith, l, p))
       ])
       (λ x y h k e. a.one x y (omega (arith, h, n)) (omega (arith, k, n)) (heads (slice_index labels x) (slice_index labels y) e))
-      (λ x h. a.wait x (omega (arith, h, n))),
+      (λ x y h k d. a.wait x y (omega (arith, h, n)) (omega (arith, k, n)) d),
 )
   where
     heads : (p q : ℕ) → ◌≡◌ {A = List ℕ} (p ∷ []) (q ∷ []) → p ≡ q

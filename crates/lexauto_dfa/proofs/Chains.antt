@@ -1,6 +1,5 @@
 -- Chains of the states that go to one state.
-use Rattle.std.proofs.Common.{◌≡◌, ◌≢◌, ℕ, suc, ◌+◌, ◌<◌, ◌≤◌, ◌⊎◌, List, [], ◌∷◌, ◌++◌, length, set, ap, sym, ◌∙◌, inl, inr, arith, get_or-set_other, get_or-set_same, length-set, length-append}
-use Rattle.std.proofs.lemmas.List.{get_or_append_left, get_or_push}
+use Rattle.std.proofs.Common.{◌≡◌, ◌≢◌, ℕ, suc, ◌+◌, ◌<◌, ◌≤◌, ◌⊎◌, List, length, set, ap, sym, ◌∙◌, inl, inr, arith, get_or-set_other, get_or-set_same, length-set}
 use Rattle.std.specs.Prelude.{slice_index}
 use Rattle.lexauto_dfa.specs.declared.least.blocks.Blocks.{Blocks}
 use Rattle.lexauto_dfa.specs.Marked.{Marks}
@@ -9,26 +8,26 @@ use Rattle.lexauto_dfa.proofs.Noting.{marks_then}
 use Rattle.lexauto_dfa.proofs.Swapped.{same_or_not}
 
 -- the state i is put before the chain of its target y
-module _ (row last before : List ℕ) (i y : ℕ) (c : AreChains row last before i) (low : y < length row) (is : slice_index row i ≡ y) where
+module _ (row last before : List ℕ) (i y : ℕ) (c : AreChains row last before i) (low : y < length row) (is : slice_index row i ≡ y) (inside : i < length row) where
   at_y : slice_index (set last y (i + 1)) y ≡ i + 1
   at_y = get_or-set_same last y (i + 1) 0 (let l = c.lasts in omega (arith, l, low))
 
   at_other : (t : ℕ) → t ≢ y → slice_index (set last y (i + 1)) t ≡ slice_index last t
   at_other t n = get_or-set_other last y t (i + 1) 0 n
 
-  at_i : slice_index (before ++ slice_index last y ∷ []) i ≡ slice_index last y
-  at_i = get_or_push before (slice_index last y) 0 i c.befores
+  at_i : slice_index (set before i (slice_index last y)) i ≡ slice_index last y
+  at_i = get_or-set_same before i (slice_index last y) 0 (let l = c.befores in omega (arith, l, inside))
 
-  at_before : (x : ℕ) → x < i → slice_index (before ++ slice_index last y ∷ []) x ≡ slice_index before x
-  at_before x h = get_or_append_left before (slice_index last y ∷ []) 0 x (let l = c.befores in omega (arith, l, h))
+  at_before : (x : ℕ) → x < i → slice_index (set before i (slice_index last y)) x ≡ slice_index before x
+  at_before x h = get_or-set_other before i x (slice_index last y) 0 (λ e. omega (arith, e, h))
 
   last_of : (x : ℕ) → slice_index row x ≡ y → slice_index last (slice_index row x) ≡ slice_index last y
   last_of x e = ap (λ (t : ℕ). slice_index last t) e
 
-  pub one_more_chained : AreChains row (set last y (i + 1)) (before ++ slice_index last y ∷ []) (i + 1)
+  pub one_more_chained : AreChains row (set last y (i + 1)) (set before i (slice_index last y)) (i + 1)
   one_more_chained = record {
     lasts = length-set last y (i + 1) ∙ c.lasts;
-    befores = (let l = length-append before (slice_index last y ∷ []) in let b = c.befores in omega (arith, l, b));
+    befores = length-set before i (slice_index last y) ∙ c.befores;
     last_low = λ t h. elim (same_or_not t y) [
       | inl q ↦ rw q (let e = at_y in omega (arith, e))
       | inr n ↦ (let e = at_other t n in let o = c.last_low t h in omega (arith, e, o))
@@ -46,13 +45,13 @@ module _ (row last before : List ℕ) (i y : ℕ) (c : AreChains row last before
       | inr n ↦ (let e = at_before x (omega (arith, h, n)) in let o = c.before_low x (omega (arith, h, n)) in omega (arith, e, o))
     ];
     before_is = λ x z h e. elim (same_or_not x i) [
-      | inl q ↦ (let s : slice_index (before ++ slice_index last y ∷ []) i ≡ suc z = rw q at e in c.last_is y z low (sym at_i ∙ s) ∙ sym is ∙ ap (λ (j : ℕ). slice_index row j) (sym q))
+      | inl q ↦ (let s : slice_index (set before i (slice_index last y)) i ≡ suc z = rw q at e in c.last_is y z low (sym at_i ∙ s) ∙ sym is ∙ ap (λ (j : ℕ). slice_index row j) (sym q))
       | inr n ↦ c.before_is x z (omega (arith, h, n)) (sym (at_before x (omega (arith, h, n))) ∙ e)
     ];
     before_all = λ x z h less e. elim (same_or_not x i) [
       | inl q ↦ (let same : slice_index row z ≡ y = e ∙ ap (λ (j : ℕ). slice_index row j) q ∙ is in
           let o = c.last_all z (omega (arith, less, q)) in let l = last_of z same in
-          let b : slice_index (before ++ slice_index last y ∷ []) x ≡ slice_index last y = ap (λ (j : ℕ). slice_index (before ++ slice_index last y ∷ []) j) q ∙ at_i in
+          let b : slice_index (set before i (slice_index last y)) x ≡ slice_index last y = ap (λ (j : ℕ). slice_index (set before i (slice_index last y)) j) q ∙ at_i in
           omega (arith, o, l, b))
       | inr n ↦ (let b = at_before x (omega (arith, h, n)) in let o = c.before_all x z (omega (arith, h, n)) less e in omega (arith, b, o))
     ];

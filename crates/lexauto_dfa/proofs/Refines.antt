@@ -18,18 +18,18 @@ differ_sym : (m : Machine) (x y : ℕ) → Differ m x y → Differ m y x
 differ_sym m x y d = (d.0, d.1, λ e. d.2 (sym e))
 
 module _ (m : Machine) (inner : IsClosed m) where
-  -- at first states that accept alike are together, and every block waits
+  -- at first states that accept alike are together, and every block but one waits
   pub first_blocks : (block : ℕ → ℕ) (waiting : ℕ → Type 0)
       → ((x y : ℕ) → x < m.states → y < m.states → block x ≡ block y → m.accepts x ≡ m.accepts y)
       → ((x y : ℕ) → x < m.states → y < m.states → m.accepts x ≡ m.accepts y → block x ≡ block y)
-      → ((x : ℕ) → x < m.states → waiting (block x))
+      → ((x y : ℕ) → x < m.states → y < m.states → block x ≢ block y → waiting (block x) ⊎ waiting (block y))
       → Refining m block waiting (λ x. 0)
   first_blocks block waiting to back wait = record {
     alike = to;
     apart = λ x y h k n. ([], tt, λ e. n (back x y h k e));
     nested = λ x y h k e. refl;
     stable = λ x y a h k g e. refl;
-    all_but_one = λ x y h k e n. inl (wait x h);
+    all_but_one = λ x y h k e n. wait x y h k n;
   }
 
   module _ (block : ℕ → ℕ) (waiting : ℕ → Type 0) (coarse : ℕ → ℕ) where

@@ -1,5 +1,5 @@
 -- The first blocks: states with one label.
-use Rattle.std.specs.Prelude.{◌≡◌, ◌⊎◌, ℕ, ◌<◌, ◌≤◌, List, slice_index}
+use Rattle.std.specs.Prelude.{◌≡◌, ◌≢◌, ◌⊎◌, ℕ, ◌<◌, ◌≤◌, List, slice_index}
 use Rattle.lexauto_dfa.specs.declared.least.blocks.Blocks.{Blocks}
 use Rattle.lexauto_dfa.specs.Arranged.{Arranged, states, count, block_of, IsTouched}
 use Rattle.lexauto_dfa.specs.Sources.{Has}
@@ -11,7 +11,7 @@ pub record IsOneBlock (n : ℕ) (b : Blocks) : Type 0 where
   pub one : count b ≡ 1
   pub untouched : (c : ℕ) → c < count b → IsTouched b c → ⊥
 
--- states of one block have one label, or both have a label from l on
+-- States of one block have one label, or both have a label from l on. All blocks but one wait.
 pub record AreAlike (labels : List ℕ) (l : ℕ) (b : Blocks) (waiting : List ℕ) : Type 0 where
   pub same : (x y : ℕ) → x < states b → y < states b → block_of b x ≡ block_of b y
       → (slice_index labels x ≡ slice_index labels y) ⊎ ((l ≤ slice_index labels x) × (l ≤ slice_index labels y))
@@ -19,4 +19,5 @@ pub record AreAlike (labels : List ℕ) (l : ℕ) (b : Blocks) (waiting : List �
       → block_of b x ≡ block_of b y
   pub rest : (x y : ℕ) → x < states b → y < states b → l ≤ slice_index labels x → l ≤ slice_index labels y
       → block_of b x ≡ block_of b y
-  pub wait : (x : ℕ) → x < states b → Has waiting (block_of b x)
+  pub wait : (x y : ℕ) → x < states b → y < states b → block_of b x ≢ block_of b y
+      → Has waiting (block_of b x) ⊎ Has waiting (block_of b y)

@@ -14,9 +14,9 @@ fn column(alloc: Global, next: &[u32], states: usize, byte: usize) -> Result<Vec
     ensures each { IfOk result (λ v. (x : ℕ) → x < states
         → slice_index v.items x ≡ slice_index next.now (x * 256 + byte)) }
 {
-    let mut column = Vec::with_capacity(alloc, states)?;
+    let mut column = vec![in alloc; 0; states]?;
     for state in 0..states {
-        column.push(next[state * 256 + byte])?;
+        column[state] = next[state * 256 + byte];
     }
     Ok(column)
 }

@@ -1,5 +1,5 @@
 //! Marking the states that go to a splitter.
-ghost use Rattle.std.specs.Prelude.{◌≡◌, ℕ, ◌+◌, ◌<◌, true, length, slice_index, OnOk};
+ghost use Rattle.std.specs.Prelude.{◌≡◌, ℕ, ◌+◌, ◌<◌, true, false, length, slice_index, OnOk};
 ghost use Rattle.lexauto_dfa.specs.Arranged.{Arranged, block_of, states};
 ghost use Rattle.lexauto_dfa.specs.Marked.{Marks, Notes};
 ghost use Rattle.lexauto_dfa.specs.Sources.{Has};
@@ -79,6 +79,21 @@ fn mark_sources(
         next = letter.chains.before[state as usize];
     }
     Ok(())
+}
+
+/// Whether some state goes to one of the targets by a letter.
+#[inline(always)]
+pub(crate) fn reaches(letter: &Letter, targets: &[u32]) -> bool
+    requires { (i : ℕ) → i < length targets.now → slice_index targets.now i < length letter.now.row.items }
+    ensures { result ≡ false → (x : ℕ) → x < length letter.now.row.items
+        → Has targets.now (slice_index letter.now.row.items x) → ⊥ }
+{
+    for target in targets {
+        if letter.chains.last[*target as usize] > 0 {
+            return true;
+        }
+    }
+    false
 }
 
 /// Marks the states that go to one of some targets by a letter.

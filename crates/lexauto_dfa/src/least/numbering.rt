@@ -51,6 +51,36 @@ pub(crate) fn number(numbers: &mut Numbers, classes: &[u32], state: u32) -> Resu
     Ok(numbers.of_class[class])
 }
 
+/// A state with the number of its class.
+#[derive(Clone, Copy)]
+pub(crate) struct Known {
+    pub state: u32,
+    pub number: u32,
+}
+
+/// The number of a state's class, as `number` has it. It often is the state whose number was found before.
+#[inline(always)]
+fn number_after(
+    numbers: &mut Numbers,
+    classes: &[u32],
+    before: Known,
+    state: u32,
+) -> Result<u32, AllocError>
+    requires state { state < length classes.now }
+    requires few { length classes.now < 2 ^ 32 }
+    requires classes { IsRow classes.now }
+    requires numbers { AreNumbers classes.now numbers.old }
+    requires before { IsNumberOf classes.now numbers.old.members.items before.number before.state }
+    ensures numbers { OnOk result (AreNumbers classes.now numbers.new) }
+    ensures number { IfOk result (λ k. IsNumberOf classes.now numbers.new.members.items k state) }
+    ensures grown { IfOk result (λ k. Grown numbers.old.members.items state k numbers.new.members.items) }
+{
+    if state == before.state {
+        return Ok(before.number);
+    }
+    number(numbers, classes, state)
+}
+
 /// The numbers of the starts.
 pub(crate) fn number_starts(
     alloc: Global,
@@ -87,15 +117,30 @@ fn number_row(
     requires rows { AreRows classes.now table.now numbers.old.members.items rows.old.items }
     ensures { OnOk result (RowAdded classes.now table.now numbers.old numbers.new rows.old.items rows.new.items) }
 {
-    let member = numbers.members[rows.len() / 256] as usize;
-    for target in &table[member * 256..member * 256 + 256] {
-        rows.push(number(numbers, classes, *target)?)?;
+    let row = rows.len() / 256;
+    let state = numbers.members[row];
+    let mut before = Known {
+        state,
+        number: row as u32,
+    };
+    let from = state as usize * 256;
+    let mut called = [0u32; 256];
+    for byte in 0..256usize {
+        let target = table[from + byte];
+        let number = number_after(numbers, classes, before, target)?;
+        called[byte] = number;
+        before = Known {
+            state: target,
+            number,
+        };
     }
+    rows.extend_from_slice(&called)?;
     Ok(())
 }
 
 /// The rows of the numbers, each with the numbers of where its class goes by each byte. Classes that are called here
 /// get numbers, and rows.
+#[inline(never)]
 pub(crate) fn number_rows(
     alloc: Global,
     numbers: &mut Numbers,

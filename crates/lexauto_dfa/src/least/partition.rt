@@ -83,7 +83,7 @@ pub(crate) fn refine(
 {
     let labels = chain(alloc, labels)?;
     let mut blocks = one_block(alloc, labels.row.len() as u32)?;
-    let mut waiting = vec![in alloc; 0; 1]?;
+    let mut waiting = Vec::new(alloc);
     split_by_labels(alloc, &mut blocks, &labels, &mut waiting)?;
     split_by_waiting(alloc, &mut blocks, letters, &mut waiting)?;
     Ok(blocks)

@@ -9,21 +9,22 @@ ghost use Rattle.lexauto_dfa.specs.Splits.{Cuts, Refining, Using};
 ghost use Rattle.lexauto_dfa.specs.Futures.{IsCoarsest};
 
 use crate::least::blocks::Blocks;
-use crate::least::marking::mark_all;
+use crate::least::marking::{mark_all, reaches};
 use crate::least::predecessors::{Predecessors, is_settled, predecessors_of};
 use crate::least::sources::Letter;
 use crate::least::splitting::split_touched;
 use std::alloc::{AllocError, Global};
 
 /// Cuts each block into the states that go to one of the targets by a letter, and the others. The list of touched
-/// blocks is used anew each time.
+/// blocks is used anew each time. Whether some state goes to a target.
+#[inline(always)]
 pub(crate) fn split(
     blocks: &mut Blocks,
     letter: &Letter,
     targets: &[u32],
     touched: &mut Vec<u32>,
     waiting: &mut Vec<u32>,
-) -> Result<(), AllocError>
+) -> Result<bool, AllocError>
     requires targets { (i : ℕ) → i < length targets.now → slice_index targets.now i < states blocks.old }
     requires row { length letter.now.row.items ≡ states blocks.old }
     requires ready { AreReady blocks.old waiting.old.items }
@@ -34,10 +35,13 @@ pub(crate) fn split(
         → Cuts (states blocks.old) (block_of blocks.old) (block_of blocks.new) m (Has waiting.old.items)
         (Has waiting.new.items)) }
 {
+    if !reaches(letter, targets) {
+        return Ok(false);
+    }
     touched.clear();
     mark_all(blocks, letter, targets, touched)?;
     split_touched(blocks, touched, waiting)?;
-    Ok(())
+    Ok(true)
 }
 
 /// Cuts each block by what its states go to by each letter: to one of the targets or not. It ends where nothing is left
@@ -62,11 +66,12 @@ fn split_by_all(
         → Using (machine letters.now labels) (block_of blocks.new) (Has waiting.new.items) coarse inside
         (length letters.now)) }
 {
+    let mut changed = true;
     for index in 0..letters.len() {
-        if is_settled(blocks, known, targets) {
+        if changed && is_settled(blocks, known, targets) {
             return Ok(());
         }
-        split(blocks, &letters[index], targets, touched, waiting)?;
+        changed = split(blocks, &letters[index], targets, touched, waiting)?;
     }
     Ok(())
 }

@@ -29,10 +29,10 @@ fn chains_of(alloc: Global, row: &[u32]) -> Result<Chains, AllocError>
     ensures { IfOk result (λ s. AreChains row.now s.last.items s.before.items (length row.now)) }
 {
     let mut last: Vec<u32> = vec![in alloc; 0; row.len()]?;
-    let mut before: Vec<u32> = Vec::with_capacity(alloc, row.len())?;
+    let mut before: Vec<u32> = vec![in alloc; 0; row.len()]?;
     for x in 0..row.len() {
         let target = row[x] as usize;
-        before.push(last[target])?;
+        before[x] = last[target];
         last[target] = x as u32 + 1;
     }
     Ok(Chains { last, before })

@@ -29,14 +29,14 @@ returns-then-is_settled-clause-used c =
 pub loop-index-preserved : goal.loop-index-preserved
 loop-index-preserved c =
     let v = c.loop-index.invariant in
-    let n = c.in_ok-split.ensures.counts in
+    let n = c.in_ok-changed.ensures.counts in
     let old = c.args.blocks.now in
     let k = c.loop-index.index in
     let low : k < length c.args.letters.now = search rules in
     let row = row_is c.args.letters.now k c.index-letters-index.result low c.index-letters-index.is in
     record {
-      arranged = c.in_ok-split.ensures.ready.arranged;
-      untouched = c.in_ok-split.ensures.ready.untouched;
+      arranged = c.in_ok-changed.ensures.ready.arranged;
+      untouched = c.in_ok-changed.ensures.ready.untouched;
       counts = record {
         same_states = n.same_states ∙ v.counts.same_states;
         grown = omega (arith, n.grown, v.counts.grown);
@@ -47,6 +47,6 @@ loop-index-preserved c =
           letter_step c.args.letters.now labels (states old) len c.requires.rows coarse inside (block_of c.loop-index.blocks) (block_of c.split.new.blocks)
           (Has c.loop-index.waiting.items) (Has c.split.new.waiting.items) c.args.targets.now k low tells
           (λ m f. subst (λ (i : ℕ). Cuts i (block_of c.loop-index.blocks) (block_of c.split.new.blocks) m (Has c.loop-index.waiting.items) (Has c.split.new.waiting.items)) v.counts.same_states
-          (c.in_ok-split.ensures.cuts m (λ x h. subst (λ (xs : List ℕ). (m x ≡ true) ↔ Has c.args.targets.now (slice_index xs x)) row (f x (omega (arith, v.counts.same_states, h))))))
+          (c.in_ok-changed.ensures.cuts m (λ x h. subst (λ (xs : List ℕ). (m x ≡ true) ↔ Has c.args.targets.now (slice_index xs x)) row (f x (omega (arith, v.counts.same_states, h))))))
           (v.used labels coarse inside len tells u);
     }

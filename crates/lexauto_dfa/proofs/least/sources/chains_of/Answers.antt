@@ -1,4 +1,4 @@
-use Rattle.std.proofs.Common.{rules, ◌≡◌, ℕ, ◌+◌, ◌<◌, ◌++◌, ◌∷◌, [], List, length, slice_index, slice_set, arith, refl, sym, subst, ap, ◌∙◌}
+use Rattle.std.proofs.Common.{rules, ℕ, ◌+◌, ◌<◌, length, slice_index, slice_set, arith, refl, sym, subst}
 use Rattle.std.proofs.lemmas.List.{get_or_read}
 use Rattle.lexauto_dfa.specs.Sources.{AreChains}
 use Rattle.lexauto_dfa.proofs.Chains.{one_more_chained}
@@ -14,6 +14,5 @@ loop-x-preserved c =
     let within : x < length row = search rules in
     let low = c.requires.row x within in
     let read = get_or_read last _ _ (let l = chains.lasts in omega (arith, l, low)) c.index.ensures 0 in
-    let items : c.push.new.self.items ≡ before ++ slice_index last (slice_index row x) ∷ [] = c.in_ok-push.ensures.items ∙ ap (λ (n : ℕ). before ++ n ∷ []) read in
-    subst (λ (xs : List ℕ). AreChains row (slice_set last (slice_index row x) (x + 1)) xs (x + 1)) (sym items)
-    (one_more_chained row last before x (slice_index row x) chains low refl)
+    subst (λ (n : ℕ). AreChains row (slice_set last (slice_index row x) (x + 1)) (slice_set before x n) (x + 1)) (sym read)
+    (one_more_chained row last before x (slice_index row x) chains low refl within)
