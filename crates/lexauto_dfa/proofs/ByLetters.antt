@@ -33,11 +33,11 @@ pub record CutBy (letters : List Letter) (targets : List ℕ) (old : Blocks) (wa
       → Using (machine letters labels) (block_of old) (Has waited) coarse inside 0
       → Using (machine letters labels) (block_of blocks) (Has waiting) coarse inside k
 
--- where each state that goes to a target is alone in its block, the letters that are left cut nothing
-module _ (letters : List Letter) (targets : List ℕ) (old : Blocks) (waited : List ℕ) (blocks : Blocks) (waiting : List ℕ) (rows : AreLetters letters (states old))
-    (alone : (a x : ℕ) → a < length letters → x < states old → Has targets (slice_index (row_of letters a) x) → IsAlone blocks x) where
-  passed_over : (k : ℕ) → k < length letters → CutBy letters targets old waited blocks waiting k → CutBy letters targets old waited blocks waiting (k + 1)
-  passed_over k low so =
+module _ (letters : List Letter) (targets : List ℕ) (old : Blocks) (waited : List ℕ) (blocks : Blocks) (waiting : List ℕ) (rows : AreLetters letters (states old)) where
+  -- where each state that goes to a target by a letter is alone in its block, the letter cuts nothing
+  pub passed_over : (k : ℕ) → k < length letters → ((x : ℕ) → x < states old → Has targets (slice_index (row_of letters k) x) → IsAlone blocks x)
+      → CutBy letters targets old waited blocks waiting k → CutBy letters targets old waited blocks waiting (k + 1)
+  passed_over k low alone so =
       let same = so.counts.same_states in
       record {
         arranged = so.arranged;
@@ -46,10 +46,12 @@ module _ (letters : List Letter) (targets : List ℕ) (old : Blocks) (waited : L
         used = λ labels coarse inside len tells u.
             letter_step letters labels (states old) len rows coarse inside (block_of blocks) (block_of blocks) (Has waiting) (Has waiting) targets k low tells
             (λ m is. subst (λ (n : ℕ). Cuts n (block_of blocks) (block_of blocks) m (Has waiting) (Has waiting)) same
-            (nothing_cut blocks (Has waiting) m (λ x h marked. (let less : x < states old = omega (arith, same, h) in alone k x low less ((is x less).0 marked)))))
+            (nothing_cut blocks (Has waiting) m (λ x h marked. (let less : x < states old = omega (arith, same, h) in alone x less ((is x less).0 marked)))))
             (so.used labels coarse inside len tells u);
       }
 
-  pub all_passed : (left k : ℕ) → k + left ≡ length letters → CutBy letters targets old waited blocks waiting k → CutBy letters targets old waited blocks waiting (length letters)
-  all_passed zero k all so = subst (λ (n : ℕ). CutBy letters targets old waited blocks waiting n) (let e : k ≡ length letters = omega (arith, all) in e) so
-  all_passed (suc left) k all so = all_passed left (k + 1) (omega (arith, all)) (passed_over k (omega (arith, all)) so)
+  -- so it is of all letters that are left
+  pub all_passed : ((a x : ℕ) → a < length letters → x < states old → Has targets (slice_index (row_of letters a) x) → IsAlone blocks x)
+      → (left k : ℕ) → k + left ≡ length letters → CutBy letters targets old waited blocks waiting k → CutBy letters targets old waited blocks waiting (length letters)
+  all_passed alone zero k all so = subst (λ (n : ℕ). CutBy letters targets old waited blocks waiting n) (let e : k ≡ length letters = omega (arith, all) in e) so
+  all_passed alone (suc left) k all so = all_passed alone left (k + 1) (omega (arith, all)) (passed_over k (omega (arith, all)) (λ x h has. alone k x (omega (arith, all)) h has) so)

@@ -20,17 +20,21 @@ pub(crate) enum Predecessors {
 }
 
 impl Predecessors {
-    /// With one more, which may be among them already.
+    /// Adds one more, which may be among them already.
     #[inline(always)]
-    fn and(self, state: u32) -> Predecessors
-        ensures allows { Allows result state }
-        ensures keeps { (x : ℕ) → Allows self x → Allows result x }
-        ensures one { (x : ℕ) → result ≡ variants.One x → x ≡ state }
+    fn add(&mut self, state: u32)
+        ensures allows { Allows self.new state }
+        ensures keeps { (x : ℕ) → Allows self.old x → Allows self.new x }
+        ensures one { (x : ℕ) → self.new ≡ variants.One x → x ≡ state }
     {
-        match self {
-            Predecessors::None => Predecessors::One(state),
-            Predecessors::One(one) if one == state => self,
-            _ => Predecessors::Many,
+        match *self {
+            Predecessors::None => *self = Predecessors::One(state),
+            Predecessors::One(one) => {
+                if one != state {
+                    *self = Predecessors::Many;
+                }
+            }
+            Predecessors::Many => {}
         }
     }
 }
@@ -48,7 +52,7 @@ fn add_row(known: &mut [Predecessors], row: &[u32])
 {
     for state in 0..row.len() {
         let target = row[state] as usize;
-        known[target] = known[target].and(state as u32);
+        known[target].add(state as u32);
     }
 }
 

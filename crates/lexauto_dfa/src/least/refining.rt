@@ -16,7 +16,7 @@ use crate::least::splitting::split_touched;
 use std::alloc::{AllocError, Global};
 
 /// Cuts each block into the states that go to one of the targets by a letter, and the others. The list of touched
-/// blocks is used anew each time. Whether some state goes to a target.
+/// blocks is used anew each time.
 #[inline(always)]
 pub(crate) fn split(
     blocks: &mut Blocks,
@@ -24,7 +24,7 @@ pub(crate) fn split(
     targets: &[u32],
     touched: &mut Vec<u32>,
     waiting: &mut Vec<u32>,
-) -> Result<bool, AllocError>
+) -> Result<(), AllocError>
     requires targets { (i : ℕ) → i < length targets.now → slice_index targets.now i < states blocks.old }
     requires row { length letter.now.row.items ≡ states blocks.old }
     requires ready { AreReady blocks.old waiting.old.items }
@@ -35,13 +35,10 @@ pub(crate) fn split(
         → Cuts (states blocks.old) (block_of blocks.old) (block_of blocks.new) m (Has waiting.old.items)
         (Has waiting.new.items)) }
 {
-    if !reaches(letter, targets) {
-        return Ok(false);
-    }
     touched.clear();
     mark_all(blocks, letter, targets, touched)?;
     split_touched(blocks, touched, waiting)?;
-    Ok(true)
+    Ok(())
 }
 
 /// Cuts each block by what its states go to by each letter: to one of the targets or not. It ends where nothing is left
@@ -66,12 +63,15 @@ fn split_by_all(
         → Using (machine letters.now labels) (block_of blocks.new) (Has waiting.new.items) coarse inside
         (length letters.now)) }
 {
-    let mut changed = true;
     for index in 0..letters.len() {
-        if changed && is_settled(blocks, known, targets) {
+        let letter = &letters[index];
+        if !reaches(letter, targets) {
+            continue;
+        }
+        if is_settled(blocks, known, targets) {
             return Ok(());
         }
-        changed = split(blocks, &letters[index], targets, touched, waiting)?;
+        split(blocks, letter, targets, touched, waiting)?;
     }
     Ok(())
 }

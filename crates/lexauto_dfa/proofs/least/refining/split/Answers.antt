@@ -1,7 +1,6 @@
-use Rattle.std.proofs.Common.{ℕ, length, slice_index, subst, arith, Vec, Global}
+use Rattle.std.proofs.Common.{ℕ, length, slice_index, subst, Vec, Global}
 use Rattle.lexauto_dfa.specs.Sources.{Has}
 use Rattle.lexauto_dfa.specs.Splits.{Cuts}
-use Rattle.lexauto_dfa.proofs.ByLetters.{nothing_cut}
 use Rattle.lexauto_dfa.proofs.GoesOn.{cuts_by, mark_is, mark_of}
 use Rattle.lexauto_dfa.proofs.least.refining.split.Goals as goal
 
@@ -16,8 +15,3 @@ returns-clause-cuts c = λ m tells.
     cuts_by old mid (λ x. Has c.args.targets.now (slice_index c.args.letter.now.row.items x)) c.requires.ready.arranged c.requires.ready.untouched marks m tells block before after
     (subst (λ (v : Vec ℕ Global). Cuts (length v.items) (λ x. slice_index v.items x) block (mark_of mid) before after) marks.block
     (c.in_ok-split_touched.ensures.cuts (mark_of mid) (λ x h. mark_is mid x)))
-
-pub returns-then-not-reaches-clause-cuts : goal.returns-then-not-reaches-clause-cuts
-returns-then-not-reaches-clause-cuts c = λ m tells.
-    nothing_cut c.args.blocks.now (Has c.args.waiting.now.items) m
-    (λ x h marked. absurd (c.reaches.ensures c.if-not-reaches.true x (omega (arith, c.requires.row, h)) ((tells x h).0 marked)))
