@@ -24,6 +24,9 @@
 //!   is marked or alone. The cut by the marks is the cut by the states that were to be marked.
 //! - Where each state that goes to a splitter is alone in its block, the letters that are left cut nothing, so that
 //!   round ends. Where more than one go to a state no list of them is kept, and the letters are tried.
+//! - A letter by which no state goes to a splitter is passed over.
+//! - At first every block waits but the one that is left of the block of all states. Once the others have cut, it would
+//!   cut nothing.
 //! - The letters are only the bytes that are the first by which all states go alike. A byte separates two states just
 //!   where each byte that goes alike does, so the classes are the same.
 //! - Accepting alike is asked of every condition number. One that does not exist starts in the dead state, and a word
