@@ -13,3 +13,4 @@ pub mod Surveying
 pub mod Built
 pub mod ChangeLaws
 pub mod PositionBits
+pub mod Alphabets

@@ -19,7 +19,7 @@ use Rattle.lexauto_positions.proofs.Mapped.{length_map}
 use Rattle.lex_semantics.specs.Text.{Ascending, flag, listed}
 use Rattle.lexauto_positions.proofs.Numbers.{listed_ascends}
 use Rattle.lexauto_positions.specs.RuleFlow.{rules_enter, rules_read}
-use Rattle.lexauto.specs.Sets.{marked, tagged, starts_in, lasts_in}
+use Rattle.lexauto.specs.Sets.{marked, marked_by, tagged, starts_in, lasts_in}
 use Rattle.lexauto.specs.Moving.{masks_in, mask_at, followers_in, reading_in}
 
 rules_sound : (rules : List Rule) (n : ℕ) → ((i : ℕ) (r : Rule) → slice_get rules i ≡ Some r → IsSoundRule n r) → HaveSoundSides rules
@@ -35,16 +35,16 @@ mask_from (x ∷ vs) zero v h e = ap (λ (u : Vec Bool Global). u.items) (sym e)
 mask_from (x ∷ vs) (suc i) v h e = mask_from vs i v (omega arith) e
 
 -- the mask of a byte that stands in a list of them
-pub mask_tells : (vs : List (Vec Bool Global)) (rules : List Rule) → length (masks_in vs) ≡ 256
-    → ((b q : ℕ) → b < 256 → flag (mask_at (masks_in vs) b) q ≡ rules_read rules b q 0)
-    → (b : ℕ) → b < 256 → (v : Vec Bool Global) → v ≡ get_or vs b v → (q : ℕ) → flag v.items q ≡ rules_read rules b q 0
-mask_tells vs rules all each b small v here q =
+pub mask_tells : (vs : List (Vec Bool Global)) (places : List ℕ) (rules : List Rule) → length (masks_in vs) ≡ 256
+    → ((b q : ℕ) → b < 256 → marked_by places (mask_at (masks_in vs) b) q ≡ rules_read rules b q 0)
+    → (b : ℕ) → b < 256 → (v : Vec Bool Global) → v ≡ get_or vs b v → (q : ℕ) → marked_by places v.items q ≡ rules_read rules b q 0
+mask_tells vs places rules all each b small v here q =
     let low : b < length vs = omega (arith, length_map (λ (m : Vec Bool Global). m.items) vs, all, small) in
-    ap (λ (m : List Bool). flag m q) (sym (mask_from vs b v low here)) ∙ each b q small
+    ap (λ (m : List Bool). marked_by places m q) (sym (mask_from vs b v low here)) ∙ each b q small
 
-pub reading_is : (rules : List Rule) (followers : List ℕ) (b : ℕ) (mask : List Bool) → ((q : ℕ) → flag mask q ≡ rules_read rules b q 0) → tagged 1 (filter (flag mask) followers) ≡ reading_in rules followers b
+pub reading_is : (rules : List Rule) (followers : List ℕ) (b : ℕ) (reads : ℕ → Bool) → ((q : ℕ) → reads q ≡ rules_read rules b q 0) → tagged 1 (filter reads followers) ≡ reading_in rules followers b
 unfolding reading_in
-reading_is rules followers b mask h = ap (λ (f : ℕ → Bool). tagged 1 (filter f followers)) (fun_ext h)
+reading_is rules followers b reads h = ap (λ (f : ℕ → Bool). tagged 1 (filter f followers)) (fun_ext h)
 
 beq_decides : (a b : Bool) → Decides (beq a b) (a ≡ b)
 beq_decides true true = (λ h. refl, λ h. refl)
@@ -99,10 +99,10 @@ flag_none (suc n) zero = refl
 flag_none (suc n) (suc q) = flag_none n q
 
 -- where nothing is marked no key is read
-pub none_marked : (marks : List Bool) → length marks ≡ 0 → (l : List ℕ) → tagged 1 (filter (flag marks) l) ≡ []
-none_marked [] h l = ap (tagged 1) (none l)
+pub none_marked : (places : List ℕ) (marks : List Bool) → length marks ≡ 0 → (l : List ℕ) → tagged 1 (filter (marked_by places marks) l) ≡ []
+none_marked places [] h l = ap (tagged 1) (none l)
   where
-    none : (l : List ℕ) → filter (flag []) l ≡ []
+    none : (l : List ℕ) → filter (marked_by places []) l ≡ []
     none [] = refl
     none (x ∷ l) = none l
-none_marked (b ∷ marks) h l = absurd (omega (arith, h))
+none_marked places (b ∷ marks) h l = absurd (omega (arith, h))

@@ -1,13 +1,12 @@
 -- The steps of a work list.
-use Rattle.std.proofs.Common.{◌≡◌, ◌==◌, not, false, ℕ, zero, suc, ◌+◌, ◌-◌, ◌*◌, ◌/◌, ◌%◌, ◌<◌, ◌≤◌, ◌⊎◌, List, [], ◌∷◌, ◌++◌, length, Option, refl, ap, sym, subst, ◌∙◌, inl, inr, arith, get_or, length-append}
+use Rattle.std.proofs.Common.{◌≡◌, ◌==◌, not, ℕ, zero, suc, ◌+◌, ◌-◌, ◌*◌, ◌/◌, ◌%◌, ◌<◌, ◌≤◌, ◌⊎◌, List, [], ◌∷◌, ◌++◌, length, Option, refl, ap, sym, subst, ◌∙◌, inl, inr, arith, get_or, length-append}
 use Rattle.std.proofs.lemmas.Bool.{cases_lt, ne_eqb}
 use Rattle.std.specs.Prelude.{slice_index}
 use Rattle.std.proofs.lemmas.Option.{slice_get_within, slice_get-get_or, get_or_from_slice_get}
 use Rattle.std.proofs.lemmas.List.{get_or_push, get_or_append_left}
 use Rattle.lexauto.specs.Keys.{Key, At, Absent, Apart, Finds, Found}
-use Rattle.lex_semantics.specs.ByteSets.{has}
 use Rattle.lex_semantics.specs.Text.{IsText}
-use Rattle.lexauto.specs.Explored.{Changes, run, Reached, IsExplored, MoreThan, key_at, Exploring, Held, AreImages, TellsSoFar}
+use Rattle.lexauto.specs.Explored.{run, Reached, IsExplored, MoreThan, key_at, Exploring, Held, AreImages, TellsSoFar}
 use Rattle.lex_semantics.specs.Reading.{is_empty}
 use Rattle.lexauto.proofs.Places.{at_longer, at_shorter}
 
@@ -22,14 +21,14 @@ pub record Fills (next : List ℕ) (target : ℕ) (filled : List ℕ) : Type 0 w
   pub before : (j : ℕ) → j < length next → slice_index filled j ≡ slice_index next j
   pub added : (j : ℕ) → length next ≤ j → j < length filled → slice_index filled j ≡ target
 
--- bytes without a change between them are read alike
-pub unchanged : (read : Key → ℕ → Key) (followers : Key) (changes b e : ℕ) → Changes read followers changes → ((c : ℕ) → b < c → c < e → has changes c ≡ false) → e ≤ 256
+-- bytes that are read as the byte before are read alike
+pub unchanged : (read : Key → ℕ → Key) (followers : Key) (b e : ℕ) → ((c : ℕ) → b < c → c < e → read followers (c - 1) ≡ read followers c)
     → (d : ℕ) → b + d < e → read followers (b + d) ≡ read followers b
-unchanged read followers changes b e is none within zero h = ap (read followers) (omega arith)
-unchanged read followers changes b e is none within (suc d) h =
+unchanged read followers b e same zero h = ap (read followers) (omega arith)
+unchanged read followers b e same (suc d) h =
     let at : b + suc d - 1 ≡ b + d = omega arith in
-    sym (is (b + suc d) (omega arith) (omega (arith, h, within)) (none (b + suc d) (omega arith) h))
-    ∙ ap (read followers) at ∙ unchanged read followers changes b e is none within d (omega (arith, h))
+    sym (same (b + suc d) (omega arith) h)
+    ∙ ap (read followers) at ∙ unchanged read followers b e same d (omega (arith, h))
 
 pub some_is : (l : List ℕ) → not (length l == 0) ≡ not (is_empty l)
 some_is [] = refl

@@ -35,6 +35,29 @@ abbrev pub AreChanges : (ℕ → ℕ → Bool) → List ByteSet → Type 0
 AreChanges reads changes =
     (q b : ℕ) → 1 ≤ b → b < 256 → has (slice_index_or changes q empty_set) b ≡ false → reads (b - 1) q ≡ reads b q
 
+-- each position's letter stands among these, at the position's place
+pub record AreLetters (all letters : List ByteSet) (places : List ℕ) : Type 0 where
+  pub len : length places ≡ length all
+  pub low : (q : ℕ) → q < length all → slice_index places q < length letters
+  pub same : (q : ℕ) → q < length all → slice_index_or letters (slice_index places q) empty_set ≡ slice_index_or all q empty_set
+
+-- the place of a position's letter, and the end of n letters for another number
+abbrev pub place_at : List ℕ → ℕ → ℕ → ℕ
+place_at places n q = slice_index_or places q n
+
+-- the same of the letters at the positions' places
+abbrev pub AreChangesBy : (ℕ → ℕ → Bool) → List ℕ → List ByteSet → Type 0
+AreChangesBy reads places changes =
+    (q b : ℕ) → 1 ≤ b → b < 256 → has (slice_index_or changes (place_at places (length changes) q) empty_set) b ≡ false
+    → reads (b - 1) q ≡ reads b q
+
+-- for each byte a later one, at most 256; no byte between them is in one of the sets
+pub record AreLater (sets : List ByteSet) (later : List ℕ) : Type 0 where
+  pub len : length later ≡ 256
+  pub after : (b : ℕ) → b < 256 → b < slice_index later b
+  pub within : (b : ℕ) → b < 256 → slice_index later b ≤ 256
+  pub none : (b c k : ℕ) → b < 256 → b < c → c < slice_index later b → has (slice_index_or sets k empty_set) c ≡ false
+
 -- for each byte, a set without the bytes after it
 abbrev pub HaveNoneAfter : List ByteSet → Type 0
 HaveNoneAfter sets = (b c : ℕ) → b < c → c < 256 → has (slice_index_or sets b empty_set) c ≡ false

@@ -1,9 +1,8 @@
 //! The bytes at which what a position reads changes.
-ghost use Rattle.std.specs.Prelude.{◌≡◌, ℕ, ◌-◌, ◌<◌, ◌≤◌, false, true, length, slice_index_or, IfOk, IfSome};
+ghost use Rattle.std.specs.Prelude.{◌≡◌, ℕ, ◌-◌, ◌<◌, ◌≤◌, false, length, slice_index_or, IfOk};
 ghost use Rattle.lex_semantics.specs.ByteSets.{has, empty_set};
-ghost use Rattle.lex_semantics.specs.Text.{flag};
 ghost use Rattle.lexauto_positions.specs.Letters.{reads_at};
-ghost use Rattle.lexauto.specs.Moving.{AreChanges, HaveNoneAfter};
+ghost use Rattle.lexauto.specs.Moving.{AreChanges, AreLater, HaveNoneAfter};
 
 use lexre_bytes::ByteSet;
 use std::alloc::{AllocError, Global};
@@ -38,36 +37,6 @@ pub(crate) fn bytes_up_to(alloc: Global) -> Result<Vec<ByteSet>, AllocError>
     Ok(sets)
 }
 
-/// How many of the sets before are looked at for the same one.
-const NEAR: usize = 128;
-
-/// A place before this one, and not far from it, where the same set stands.
-fn same_before(sets: &[ByteSet], place: usize, set: &ByteSet) -> Option<usize>
-    requires { place ≤ length sets.now }
-    ensures { IfSome result (λ k. (k < place) × (slice_index_or sets.now k empty_set ≡ set.now)) }
-{
-    for near in place.saturating_sub(NEAR)..place {
-        if sets[near] == *set {
-            return Some(near);
-        }
-    }
-    None
-}
-
-/// The same for the set at a place, where they are known for those before it.
-fn changes_at(sets: &[ByteSet], known: &[ByteSet], set: &ByteSet) -> ByteSet
-    requires few { length known.now ≤ length sets.now }
-    requires known { (q b : ℕ) → q < length known.now → 1 ≤ b → b < 256
-        → has (slice_index_or known.now q empty_set) b ≡ false
-        → has (slice_index_or sets.now q empty_set) (b - 1) ≡ has (slice_index_or sets.now q empty_set) b }
-    ensures { (b : ℕ) → 1 ≤ b → b < 256 → has result b ≡ false → has set.now (b - 1) ≡ has set.now b }
-{
-    match same_before(sets, known.len(), set) {
-        Some(place) => known[place],
-        None => changes_in(set),
-    }
-}
-
 /// All of the sets, united.
 pub(crate) fn united(sets: &[ByteSet]) -> ByteSet
     ensures { (q b : ℕ) → b < 256 → has result b ≡ false → has (slice_index_or sets.now q empty_set) b ≡ false }
@@ -81,38 +50,27 @@ pub(crate) fn united(sets: &[ByteSet]) -> ByteSet
 
 /// For each of the sets the bytes from 1 on of which it has just one, that or the byte before.
 pub(crate) fn changes_of(alloc: Global, letters: &[ByteSet]) -> Result<Vec<ByteSet>, AllocError>
-    ensures { IfOk result (λ v. AreChanges (λ b q. reads_at letters.now b q 0) v.items) }
+    ensures len { IfOk result (λ v. length v.items ≡ length letters.now) }
+    ensures changes { IfOk result (λ v. AreChanges (λ b q. reads_at letters.now b q 0) v.items) }
 {
     let mut all = Vec::with_capacity(alloc, letters.len())?;
-    let mut last = ByteSet::empty();
-    let mut changes = ByteSet::empty();
     for set in letters {
-        if *set != last {
-            last = *set;
-            changes = changes_at(letters, &all, set);
-        }
-        all.push(changes)?;
+        all.push(changes_in(set))?;
     }
     Ok(all)
 }
 
-/// Whether the set at this place is the one before it.
-fn is_same(place: usize, set: &ByteSet, before: &ByteSet) -> bool
-    ensures { result ≡ true → (0 < place) × (set.now ≡ before.now) }
+/// For each byte the next one that is in one of the sets, or 256.
+pub(crate) fn later_of(alloc: Global, changes: &[ByteSet]) -> Result<Vec<usize>, AllocError>
+    ensures { IfOk result (λ v. AreLater changes.now v.items) }
 {
-    place > 0 && *set == *before
-}
-
-/// For each of the sets whether it is the one before it.
-pub(crate) fn repeats_of(alloc: Global, sets: &[ByteSet]) -> Result<Vec<bool>, AllocError>
-    ensures { IfOk result (λ v. (q : ℕ) → flag v.items q ≡ true → (0 < q)
-        × (slice_index_or sets.now q empty_set ≡ slice_index_or sets.now (q - 1) empty_set)) }
-{
-    let mut repeats = Vec::with_capacity(alloc, sets.len())?;
-    let mut last = ByteSet::empty();
-    for (i, set) in sets.iter().enumerate() {
-        repeats.push(is_same(i, set, &last))?;
-        last = *set;
+    let changing = united(changes);
+    let mut later = Vec::with_capacity(alloc, 256)?;
+    for byte in 1..256usize {
+        if changing.contains(byte as u8) {
+            later.resize(byte, byte)?;
+        }
     }
-    Ok(repeats)
+    later.resize(256, 256usize)?;
+    Ok(later)
 }

@@ -1,7 +1,6 @@
 //! A work list over keys: all that are reached from some roots, each once, with their moves.
-ghost use Rattle.std.specs.Prelude.{◌≡◌, ℕ, ◌<◌, ◌≤◌, false, true, List, [], ◌∷◌, ◌++◌, length, slice_index, IfOk};
+ghost use Rattle.std.specs.Prelude.{◌≡◌, ℕ, ◌-◌, ◌<◌, ◌≤◌, true, List, [], ◌∷◌, ◌++◌, length, slice_index, IfOk};
 ghost use Rattle.std.specs.Prelude.{OnOk, IsErrOf};
-ghost use Rattle.lex_semantics.specs.ByteSets.{has};
 ghost use Rattle.lex_semantics.specs.Text.{Ascending};
 ghost use Rattle.lexauto_positions.specs.Cursors.{Increases};
 ghost use Rattle.lexauto.specs.Sets.{lasts_in};
@@ -124,6 +123,18 @@ pub(crate) trait Moves {
     fn changes(&self, followers: &[u32]) -> ByteSet
         ensures { Changes (read self.now) followers.now result };
 
+    /// Whether a key that is kept so is the one that a byte makes of what follows. It may be told not though it is.
+    fn is_reading(&self, kept: &[u32], followers: &[u32], byte: u8) -> bool
+        ensures { result ≡ true → unpacked kept.now ≡ read self.now followers.now byte };
+
+    /// A later byte, at most 256. Each byte before it, and after this one, is read as the byte before that one is,
+    /// whatever follows.
+    fn later(&self, byte: u8) -> usize
+        ensures after { byte < result }
+        ensures within { result ≤ 256 }
+        ensures same { (followers : List ℕ) (b : ℕ) → byte < b → b < result
+            → read self.now followers (b - 1) ≡ read self.now followers b };
+
     /// An earlier byte that is read as this one is, whatever follows; else the byte itself.
     fn twin(&self, byte: u8) -> u8
         ensures first { result ≤ byte }
@@ -162,14 +173,31 @@ fn read_target<M: Moves>(
     intern_kept(alloc, table, kept, limit)
 }
 
+/// Whether the key at this place is the one that a byte makes of what follows. It may be told not though it is.
+fn is_target<M: Moves>(
+    moves: &M,
+    keys: &[Vec<u32>],
+    followers: &[u32],
+    byte: u8,
+    place: u32,
+) -> bool
+    ensures { result ≡ true → At (kept_in keys.now) place (M.read moves.now followers.now byte) }
+{
+    match keys.get(place as usize) {
+        Some(kept) => moves.is_reading(kept, followers, byte),
+        None => false,
+    }
+}
+
 /// The place of the key that a byte makes of what follows; of a byte that is read as an earlier one, from the row so
-/// far.
+/// far. A guess is tried first.
 fn target<M: Moves>(
     alloc: Global,
     moves: &M,
     table: &mut Interner,
     followers: &[u32],
     row: &[u32],
+    guess: u32,
     byte: u8,
     limit: u32,
 ) -> Result<u32, ExploreError>
@@ -191,37 +219,51 @@ fn target<M: Moves>(
     if twin < byte {
         return Ok(row[twin as usize]);
     }
+    if is_target(moves, &table.keys, followers, byte, guess) {
+        return Ok(guess);
+    }
     read_target(alloc, moves, table, followers, byte, limit)
 }
 
-/// The first byte after this one that is among the changes.
-fn first_after(changes: &ByteSet, byte: u8) -> usize
+/// The first byte after this one that is among the changes, or a later one up to which nothing is read otherwise.
+fn first_after<M: Moves>(moves: &M, following: &Following, byte: u8) -> usize
+    requires { Changes (M.read moves.now) following.now.list.items following.now.changes }
     ensures after { byte < result }
     ensures within { result ≤ 256 }
-    ensures none { (b : ℕ) → byte < b → b < result → has changes.now b ≡ false }
+    ensures same { (b : ℕ) → byte < b → b < result
+        → M.read moves.now following.now.list.items (b - 1) ≡ M.read moves.now following.now.list.items b }
 {
-    for next in byte as usize + 1..256 {
-        if changes.contains(next as u8) {
-            return next;
-        }
+    let mut next = moves.later(byte);
+    while next < 256 && !following.changes.contains(next as u8) {
+        next = moves.later(next as u8);
     }
-    256
+    next
 }
 
 /// The next byte that may be read otherwise than the one before, or 256. `up_to` has for each byte the set of those
 /// up to it.
-fn next_change(changes: &ByteSet, up_to: &[ByteSet], byte: u8) -> usize
+fn next_change<M: Moves>(moves: &M, following: &Following, up_to: &[ByteSet], byte: u8) -> usize
     requires len { length up_to.now ≡ 256 }
     requires up_to { HaveNoneAfter up_to.now }
+    requires changes { Changes (M.read moves.now) following.now.list.items following.now.changes }
     ensures after { byte < result }
     ensures within { result ≤ 256 }
-    ensures none { (b : ℕ) → byte < b → b < result → has changes.now b ≡ false }
+    ensures same { (b : ℕ) → byte < b → b < result
+        → M.read moves.now following.now.list.items (b - 1) ≡ M.read moves.now following.now.list.items b }
 {
     let before = &up_to[byte as usize];
-    if changes.union(before) == *before {
+    if following.changes.union(before) == *before {
         return 256;
     }
-    first_after(changes, byte)
+    first_after(moves, following, byte)
+}
+
+/// The target of the next byte in the row before, or the dead state where there is none.
+fn target_above(next: &[u32]) -> u32 {
+    if next.len() < 256 {
+        return 0;
+    }
+    next[next.len() - 256]
 }
 
 /// What keys tell, in their order: the rules that each accepts, and whether something follows it.
@@ -305,8 +347,18 @@ pub(crate) fn explore<M: Moves>(
             following = told.add(alloc, moves, &table.keys[at])?;
         }
         let row = &next[at * 256..];
-        let place = target(alloc, moves, &mut table, &following.list, row, byte, limit)?;
-        let end = next_change(&following.changes, &up_to, byte);
+        let guess = target_above(&next);
+        let place = target(
+            alloc,
+            moves,
+            &mut table,
+            &following.list,
+            row,
+            guess,
+            byte,
+            limit,
+        )?;
+        let end = next_change(moves, &following, &up_to, byte);
         next.resize(at * 256 + end, place)?;
     }
     Ok(Explored {

@@ -4,12 +4,12 @@ ghost use Rattle.std.specs.Prelude.{IfOk, OnOk};
 ghost use Rattle.std.proofs.Common.{replicate};
 ghost use Rattle.std.specs.List.{filter};
 ghost use Rattle.lexauto_positions.specs.Cursors.{Increases};
-ghost use Rattle.lexauto.specs.Sets.{lasts_in, tagged};
-ghost use Rattle.lex_semantics.specs.Text.{Ascending, flag, listed};
+ghost use Rattle.lexauto.specs.Sets.{lasts_in, marked_by, tagged};
+ghost use Rattle.lex_semantics.specs.Text.{Ascending, listed};
 ghost use Rattle.lexauto.specs.KeyPacking.{bit_at, word_bits, with_bit, with_bits, bit_count, unpacked, word_count};
 ghost use Rattle.lexauto.specs.KeyPacking.{packed};
 
-use crate::sets::{KeyKind, is_marked, last_key, lasts_in};
+use crate::sets::{KeyKind, is_last_key, is_marked_by, last_key, lasts_in};
 use std::alloc::{AllocError, Global};
 
 /// What stands before the bits of positions.
@@ -146,19 +146,20 @@ fn marked_in(
     alloc: Global,
     count: usize,
     positions: &[u32],
+    places: &[usize],
     marks: &[bool],
 ) -> Result<Marked, AllocError>
     ensures words { IfOk result (λ m. m.words.items
-        ≡ with_bits (replicate count 0) (filter (flag marks.now) positions.now)) }
-    ensures number { IfOk result (λ m. m.number ≡ length (filter (flag marks.now) positions.now)) }
+        ≡ with_bits (replicate count 0) (filter (marked_by places.now marks.now) positions.now)) }
+    ensures number { IfOk result (λ m. m.number ≡ length (filter (marked_by places.now marks.now) positions.now)) }
     ensures last { IfOk result (λ m. m.last
-        ≡ slice_index (1 ∷ filter (flag marks.now) positions.now) (length (filter (flag marks.now) positions.now))) }
+        ≡ slice_index (1 ∷ filter (marked_by places.now marks.now) positions.now) (length (filter (marked_by places.now marks.now) positions.now))) }
 {
     let mut words = vec![in alloc; 0u32; count]?;
     let mut number = 0;
     let mut last = 1;
     for position in positions {
-        if is_marked(marks, *position as usize) {
+        if is_marked_by(places, marks, *position as usize) {
             set_bit(&mut words, *position);
             number += 1;
             last = *position;
@@ -176,17 +177,18 @@ fn marked_in(
 pub(crate) fn pack_marked(
     alloc: Global,
     positions: &[u32],
+    places: &[usize],
     marks: &[bool],
 ) -> Result<Vec<u32>, AllocError>
     requires { Ascending positions.now }
-    ensures { IfOk result (λ v. v.items ≡ packed (tagged 1 (filter (flag marks.now) positions.now))) }
+    ensures { IfOk result (λ v. v.items ≡ packed (tagged 1 (filter (marked_by places.now marks.now) positions.now))) }
 {
     let count = word_count(positions);
     if marks.is_empty() || count > positions.len() / 4 || count > MOST_WORDS {
-        let key = last_key(alloc, positions, marks)?;
+        let key = last_key(alloc, positions, places, marks)?;
         return pack_key(alloc, &key);
     }
-    let marked = marked_in(alloc, count, positions, marks)?;
+    let marked = marked_in(alloc, count, positions, places, marks)?;
     if marked.number == 0 {
         return behind(alloc, PLAIN, &[]);
     }
@@ -196,4 +198,19 @@ pub(crate) fn pack_marked(
     }
     let key = key_of_bits(alloc, &marked.words)?;
     behind(alloc, PLAIN, &key)
+}
+
+/// Whether a key is kept as it is, and is that of those last positions of the list that are marked.
+pub(crate) fn keeps_marked(
+    kept: &[u32],
+    positions: &[u32],
+    places: &[usize],
+    marks: &[bool],
+) -> bool
+    ensures { result ≡ true → unpacked kept.now ≡ tagged 1 (filter (marked_by places.now marks.now) positions.now) }
+{
+    match kept.split_first() {
+        Some((form, key)) if *form == PLAIN => is_last_key(key, positions, places, marks),
+        _ => false,
+    }
 }

@@ -29,6 +29,7 @@
 //!   the byte before. A byte that no position reads has no marks, and no key is made for it.
 #![tactic(auto)]
 
+mod alphabet;
 mod changing;
 mod error;
 mod explore;

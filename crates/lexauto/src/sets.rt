@@ -4,7 +4,7 @@ ghost use Rattle.std.specs.List.{filter};
 ghost use Rattle.lex_semantics.specs.Text.{flag, listed};
 ghost use Rattle.lex_semantics.specs.Active.{contains};
 ghost use Rattle.lexauto_positions.specs.Cursors.{Increases};
-ghost use Rattle.lexauto.specs.Sets.{marked, number_of, tagged, starts_in, lasts_in};
+ghost use Rattle.lexauto.specs.Sets.{marked, marked_by, number_of, tagged, starts_in, lasts_in};
 
 use std::alloc::{AllocError, Global};
 
@@ -34,6 +34,16 @@ pub(crate) fn is_marked(marks: &[bool], number: usize) -> bool
     ensures { result ≡ flag marks.now number }
 {
     marks.get(number).copied().unwrap_or(false)
+}
+
+/// Whether what stands for a number at its place is marked.
+pub(crate) fn is_marked_by(places: &[usize], marks: &[bool], number: usize) -> bool
+    ensures { result ≡ marked_by places.now marks.now number }
+{
+    match places.get(number) {
+        Some(place) => is_marked(marks, *place),
+        None => false,
+    }
 }
 
 /// Flags for the numbers below `count`: those of the list are marked.
@@ -121,14 +131,35 @@ pub(crate) fn in_order(
 }
 
 /// The numbers of the list that are marked.
-fn keep_marked(alloc: Global, numbers: &[u32], marks: &[bool]) -> Result<Vec<u32>, AllocError>
-    ensures { IfOk result (λ v. v.items ≡ filter (flag marks.now) numbers.now) }
+fn keep_marked(
+    alloc: Global,
+    numbers: &[u32],
+    places: &[usize],
+    marks: &[bool],
+) -> Result<Vec<u32>, AllocError>
+    ensures { IfOk result (λ v. v.items ≡ filter (marked_by places.now marks.now) numbers.now) }
 {
     numbers
         .iter()
         .copied()
-        .filter(|number| is_marked(marks, *number as usize))
+        .filter(|number| is_marked_by(places, marks, *number as usize))
         .collect(alloc)
+}
+
+/// Whether those numbers of the list that are marked are just these.
+fn are_marked(kept: &[u32], numbers: &[u32], places: &[usize], marks: &[bool]) -> bool
+    ensures { result ≡ true → kept.now ≡ filter (marked_by places.now marks.now) numbers.now }
+{
+    let mut at = 0;
+    for number in numbers {
+        if is_marked_by(places, marks, *number as usize) {
+            if at >= kept.len() || kept[at] != *number {
+                return false;
+            }
+            at += 1;
+        }
+    }
+    at == kept.len()
 }
 
 /// A set as a key of this kind. The empty set is the dead state's.
@@ -147,15 +178,30 @@ pub(crate) fn key_of(alloc: Global, kind: KeyKind, numbers: &[u32]) -> Result<Ve
 pub(crate) fn last_key(
     alloc: Global,
     numbers: &[u32],
+    places: &[usize],
     marks: &[bool],
 ) -> Result<Vec<u32>, AllocError>
-    ensures { IfOk result (λ v. v.items ≡ tagged 1 (filter (flag marks.now) numbers.now)) }
+    ensures { IfOk result (λ v. v.items ≡ tagged 1 (filter (marked_by places.now marks.now) numbers.now)) }
 {
     if marks.is_empty() {
         return Ok(Vec::new(alloc));
     }
-    let numbers = keep_marked(alloc, numbers, marks)?;
+    let numbers = keep_marked(alloc, numbers, places, marks)?;
     key_of(alloc, KeyKind::LastPositions, &numbers)
+}
+
+/// Whether a key is that of those last positions of the list that are marked.
+pub(crate) fn is_last_key(key: &[u32], numbers: &[u32], places: &[usize], marks: &[bool]) -> bool
+    ensures { result ≡ true → key.now ≡ tagged 1 (filter (marked_by places.now marks.now) numbers.now) }
+{
+    match key.split_first() {
+        Some((kind, kept)) => {
+            *kind == KeyKind::LastPositions.number()
+                && !kept.is_empty()
+                && are_marked(kept, numbers, places, marks)
+        }
+        None => are_marked(key, numbers, places, marks),
+    }
 }
 
 /// The active rules in a start state's key; none in another.

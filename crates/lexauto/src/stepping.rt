@@ -1,5 +1,5 @@
 //! How the states of a specification's automaton lead to one another: by the positions of its rules.
-ghost use Rattle.std.specs.Prelude.{◌≡◌, ◌-◌, ◌<◌, ◌≤◌, ◌^◌, ℕ, Bool, List, false, true, length, map, slice_index_or};
+ghost use Rattle.std.specs.Prelude.{◌≡◌, ◌-◌, ◌<◌, ◌≤◌, ◌^◌, ℕ, Bool, List, false, length, map, slice_index_or};
 ghost use Rattle.std.specs.Prelude.{IfOk};
 ghost use Rattle.lex_semantics.specs.ByteSets.{has, empty_set};
 ghost use Rattle.lex_semantics.specs.Spec.{rejects};
@@ -11,19 +11,21 @@ ghost use Rattle.lexauto_positions.specs.Laid.{shape_of, HaveSized, HaveSized-pr
 ghost use Rattle.lexauto_positions.specs.Letters.{reads_at};
 ghost use Rattle.lexauto_positions.specs.Owners.{AreOwners};
 ghost use Rattle.lexauto_positions.specs.RuleFlow.{rules_enter, rules_left, rules_read};
-ghost use Rattle.lexauto.specs.Moving.{AreChanges, AreMasks, AreTwins, masks_in, mask_at, followers_in, reading_in};
+ghost use Rattle.lexauto.specs.Sets.{marked_by};
+ghost use Rattle.lexauto.specs.Moving.{AreChanges, AreChangesBy, AreLater, AreMasks, AreTwins};
+ghost use Rattle.lexauto.specs.Moving.{masks_in, mask_at, place_at, followers_in, reading_in};
 
-use crate::changing::{changes_of, repeats_of, united};
+use crate::alphabet::alphabet_of;
+use crate::changing::{changes_of, later_of, united};
 use crate::explore::Moves;
 use crate::following::walk;
-use crate::key_packing::pack_marked;
-use crate::sets::is_marked;
+use crate::key_packing::{keeps_marked, pack_marked};
 use lexauto_positions::{LaidRule, Owner, Walked, lay_rules, letters_of, mask_of, owners_of};
 use lexre_bytes::ByteSet;
 use lexspec::Spec;
 use std::alloc::{AllocError, Global};
 
-/// A specification, the count of its positions, and for each byte the positions that read it.
+/// A specification, the count of its positions, and which bytes each of them reads.
 #[derive(Drop)]
 pub(crate) struct RuleMoves<'a> {
     pub spec: &'a Spec,
@@ -32,12 +34,15 @@ pub(crate) struct RuleMoves<'a> {
     pub owners: Vec<Owner>,
     /// Whether some rule has REJECT, so that a state accepts all rules that fit.
     pub accepts_all: bool,
+    /// For each position the place of its letter.
+    places: Vec<usize>,
+    /// For each byte the letters that have it.
     masks: Vec<Vec<bool>>,
     twins: Vec<u8>,
-    /// For each position the bytes of which it reads just one, that or the byte before.
+    /// For each letter the bytes of which it has just one, that or the byte before.
     changes: Vec<ByteSet>,
-    /// For each position whether its changes are those of the position before.
-    repeats: Vec<bool>,
+    /// For each byte the next one that is among the changes of some letter, or 256.
+    later: Vec<usize>,
     ghost within: { all_positions (rules_in (spec_of spec.now)) ≡ count },
     ghost sized: { HaveSized rules.items } by { HaveSized-prop rules.items },
     ghost number: { length rules.items ≡ length (rules_in (spec_of spec.now)) },
@@ -51,12 +56,11 @@ pub(crate) struct RuleMoves<'a> {
     ghost owned: { length owners.items ≡ count },
     ghost owners_are: { AreOwners (map shape_of rules.items) owners.items },
     ghost all: { length (masks_in masks.items) ≡ 256 },
-    ghost each: { (b q : ℕ) → b < 256 → flag (mask_at (masks_in masks.items) b) q
+    ghost each: { (b q : ℕ) → b < 256 → marked_by places.items (mask_at (masks_in masks.items) b) q
         ≡ rules_read (rules_in (spec_of spec.now)) b q 0 },
     ghost alike: { AreTwins (masks_in masks.items) twins.items },
-    ghost changing: { AreChanges (λ b q. rules_read (rules_in (spec_of spec.now)) b q 0) changes.items },
-    ghost repeating: { (q : ℕ) → flag repeats.items q ≡ true → (0 < q)
-        × (slice_index_or changes.items q empty_set ≡ slice_index_or changes.items (q - 1) empty_set) },
+    ghost changing: { AreChangesBy (λ b q. rules_read (rules_in (spec_of spec.now)) b q 0) places.items changes.items },
+    ghost ahead: { AreLater changes.items later.items },
 }
 
 /// The marks, or none where nothing is marked.
@@ -168,43 +172,47 @@ impl<'a> RuleMoves<'a> {
     {
         let rules = lay_rules(alloc, spec.rules())?;
         let owners = owners_of(alloc, &rules)?;
-        let letters = letters_of(alloc, &rules)?;
-        let changes = changes_of(alloc, &letters)?;
-        let masks = masks_of(alloc, &letters, &changes)?;
+        let read = letters_of(alloc, &rules)?;
+        let alphabet = alphabet_of(alloc, &read)?;
+        let changes = changes_of(alloc, &alphabet.letters)?;
+        let masks = masks_of(alloc, &alphabet.letters, &changes)?;
         let twins = twins_of(alloc, &masks)?;
-        let repeats = repeats_of(alloc, &changes)?;
+        let later = later_of(alloc, &changes)?;
         Ok(RuleMoves {
             spec,
             count,
             rules,
             owners,
             accepts_all: spec.rejects(),
+            places: alphabet.places,
             masks,
             twins,
             changes,
-            repeats,
+            later,
         })
     }
 }
 
 impl RuleMoves<'_> {
-    /// The set, and with it the changes of a position.
-    fn with_changes(&self, position: usize, changes: ByteSet) -> ByteSet
-        ensures { (b : ℕ) → b < 256 → has result b ≡ false → (has changes b ≡ false)
-            × (has (slice_index_or self.now.changes.items position empty_set) b ≡ false) }
+    /// The place of a position's letter, and the end of the letters for another number.
+    fn place(&self, position: usize) -> usize
+        ensures { result ≡ place_at self.now.places.items (length self.now.changes.items) position }
     {
-        match self.changes.get(position) {
+        self.places
+            .get(position)
+            .copied()
+            .unwrap_or(self.changes.len())
+    }
+
+    /// The set, and with it the changes of the letter at a place.
+    fn with_changes(&self, place: usize, changes: ByteSet) -> ByteSet
+        ensures { (b : ℕ) → b < 256 → has result b ≡ false → (has changes b ≡ false)
+            × (has (slice_index_or self.now.changes.items place empty_set) b ≡ false) }
+    {
+        match self.changes.get(place) {
             Some(bytes) => changes.union(bytes),
             None => changes,
         }
-    }
-
-    /// Whether a position is `next`, and its changes are known to be those of the position before.
-    fn is_repeat(&self, position: usize, next: usize) -> bool
-        ensures { result ≡ true → (0 < next) × (slice_index_or self.now.changes.items position empty_set
-            ≡ slice_index_or self.now.changes.items (next - 1) empty_set) }
-    {
-        position == next && is_marked(&self.repeats, position)
     }
 }
 
@@ -223,21 +231,31 @@ impl Moves for RuleMoves<'_> {
 
     /// The key of those followers that read the byte, as it is kept.
     fn reading(&self, alloc: Global, followers: &[u32], byte: u8) -> Result<Vec<u32>, AllocError> {
-        pack_marked(alloc, followers, &self.masks[byte as usize])
+        pack_marked(alloc, followers, &self.places, &self.masks[byte as usize])
     }
 
     /// The bytes at which what one of the followers reads changes, united.
     fn changes(&self, followers: &[u32]) -> ByteSet {
         let mut changes = ByteSet::empty();
-        let mut next = 0;
+        let mut last = self.changes.len();
         for position in followers {
-            let at = *position as usize;
-            if !self.is_repeat(at, next) {
-                changes = self.with_changes(at, changes);
+            let place = self.place(*position as usize);
+            if place != last {
+                changes = self.with_changes(place, changes);
+                last = place;
             }
-            next = at + 1;
         }
         changes
+    }
+
+    /// Whether a key that is kept as it is has just those of the followers that read the byte.
+    fn is_reading(&self, kept: &[u32], followers: &[u32], byte: u8) -> bool {
+        keeps_marked(kept, followers, &self.places, &self.masks[byte as usize])
+    }
+
+    /// The next byte that some letter has, or lacks, otherwise than the byte before.
+    fn later(&self, byte: u8) -> usize {
+        self.later[byte as usize]
     }
 
     /// The first byte that the same positions read.

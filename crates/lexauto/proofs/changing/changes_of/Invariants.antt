@@ -6,7 +6,6 @@ use Rattle.lexauto.proofs.changing.changes_of.Given as goal
 abbrev pub invariant-loop-set : goal.invariant-loop-set
 invariant-loop-set l = record {
   len : length l.all.items ≡ l.set-index;
-  last : (b : ℕ) → 1 ≤ b → b < 256 → has l.changes b ≡ false → has l.last (b - 1) ≡ has l.last b;
   told : (q b : ℕ) → q < l.set-index → 1 ≤ b → b < 256 → has (slice_index_or l.all.items q empty_set) b ≡ false
       → has (slice_index_or l.letters q empty_set) (b - 1) ≡ has (slice_index_or l.letters q empty_set) b;
 }

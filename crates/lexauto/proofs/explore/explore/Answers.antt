@@ -38,7 +38,7 @@ target-requires-clause-ascending g c =
       | then-byte-eq0+in_ok-following w ↦ subst (λ (f : Following). Ascending f.list.items) (sym w.following-is) w.in_ok-following.ensures.ascending
       | else-byte-eq0 w ↦ subst (λ (f : Following). Ascending f.list.items) (sym w.following-is) c.work.invariant.ascending
     ] in
-    subst Ascending (sym c.deref-in-work-2.ensures.value) held
+    subst Ascending (sym c.deref-in-work-3.ensures.value) held
 
 pub work-preserved : goal.work-preserved
 work-preserved g c =
@@ -60,8 +60,8 @@ work-preserved g c =
           (let some : 0 < n % 256 = (let f = w.if-byte-eq0.false in search (rules, f)) in
           ap (λ (f : Following). f.list.items) w.following-is ∙ c.work.invariant.held some)
     ] in
-    let key : g.M.Moves.read c.args.moves.now c.deref-in-work-2.result.now (c.len-in-work-2.result % 256) ≡ step (key_at keys (n / 256)) (n % 256) =
-    ap (λ (k : Key). g.M.Moves.read c.args.moves.now k (c.len-in-work-2.result % 256)) (c.deref-in-work-2.ensures.value ∙ held)
+    let key : g.M.Moves.read c.args.moves.now c.deref-in-work-3.result.now (c.len-in-work-2.result % 256) ≡ step (key_at keys (n / 256)) (n % 256) =
+    ap (λ (k : Key). g.M.Moves.read c.args.moves.now k (c.len-in-work-2.result % 256)) (c.deref-in-work-3.ensures.value ∙ held)
     ∙ ap (λ (m : ℕ). g.M.Moves.read c.args.moves.now (follow (key_at keys (n / 256))) (m % 256)) byte in
     let goes : ToldAt false (goes_by follow) keys (n / 256) c.if-byte-eq0.told.goes_on.items = elim c.if-byte-eq0.branch [
       | then-byte-eq0+in_ok-following w ↦
@@ -110,8 +110,8 @@ work-preserved g c =
     let alike : (j : ℕ) → n ≤ j → j < length filled → step (key_at keys (n / 256)) (j % 256) ≡ step (key_at keys (n / 256)) (n % 256) = λ j h top.
     let last : n % 256 + (j - n) ≡ j % 256 = omega (arith, size, within, h, top) in
     let read = λ (b : ℕ). g.M.Moves.read c.args.moves.now (follow (key_at keys (n / 256))) b in
-    let one = unchanged (g.M.Moves.read c.args.moves.now) c.if-byte-eq0.following.list.items c.if-byte-eq0.following.changes (c.len-in-work-2.result % 256) c.next_change-end.result changes
-    c.next_change-end.ensures.none within (j - n) (omega (arith, byte, size, h, top)) in
+    let one = unchanged (g.M.Moves.read c.args.moves.now) c.if-byte-eq0.following.list.items (c.len-in-work-2.result % 256) c.next_change-end.result
+    c.next_change-end.ensures.same (j - n) (omega (arith, byte, size, h, top)) in
     sym (ap read last) ∙ subst (λ (k : Key). g.M.Moves.read c.args.moves.now k (n % 256 + (j - n)) ≡ g.M.Moves.read c.args.moves.now k (n % 256)) held
     (subst (λ (m : ℕ). g.M.Moves.read c.args.moves.now c.if-byte-eq0.following.list.items (m % 256 + (j - n)) ≡ g.M.Moves.read c.args.moves.now c.if-byte-eq0.following.list.items (m % 256)) byte one) in
     record {
@@ -149,8 +149,8 @@ returns-in_err-place-clause-too_many g c = λ e.
           (let some : 0 < n % 256 = (let f = w.if-byte-eq0.false in search (rules, f)) in
           ap (λ (f : Following). f.list.items) w.following-is ∙ c.work.invariant.held some)
     ] in
-    let key : g.M.Moves.read c.args.moves.now c.deref-in-work-2.result.now (c.len-in-work-2.result % 256) ≡ step (key_at keys (n / 256)) (n % 256) =
-    ap (λ (k : Key). g.M.Moves.read c.args.moves.now k (c.len-in-work-2.result % 256)) (c.deref-in-work-2.ensures.value ∙ held)
+    let key : g.M.Moves.read c.args.moves.now c.deref-in-work-3.result.now (c.len-in-work-2.result % 256) ≡ step (key_at keys (n / 256)) (n % 256) =
+    ap (λ (k : Key). g.M.Moves.read c.args.moves.now k (c.len-in-work-2.result % 256)) (c.deref-in-work-3.ensures.value ∙ held)
     ∙ ap (λ (m : ℕ). g.M.Moves.read c.args.moves.now (follow (key_at keys (n / 256))) (m % 256)) byte in
     let p = err_from_is_err_and c.from_residual-in_err-place.result c.from_residual-in_err-place.ensures.1 in
     let told = rw (p.1, p.2) at e in
@@ -158,3 +158,11 @@ returns-in_err-place-clause-too_many g c = λ e.
     let full = c.in_err-place.ensures.full (ap Err same) in
     too_many step roots (look_kept c.work.table.places) keys c.work.next.items c.args.limit c.work.invariant.exploring n refl (rw kept_length low)
     (subst (λ (k : Key). Absent keys k) key full.0) (rw kept_length full.1)
+
+pub next_change-end-requires-clause-changes : goal.next_change-end-requires-clause-changes
+next_change-end-requires-clause-changes g c = elim c.if-byte-eq0.branch [
+  | then-byte-eq0+in_ok-following w ↦ subst (λ (f : Following). Changes (g.M.Moves.read c.args.moves.now) f.list.items f.changes) (sym w.following-is) w.in_ok-following.ensures.changes
+  | else-byte-eq0 w ↦
+      (let some : 0 < length c.work.next.items % 256 = (let f = w.if-byte-eq0.false in search (rules, f)) in
+      subst (λ (f : Following). Changes (g.M.Moves.read c.args.moves.now) f.list.items f.changes) (sym w.following-is) (c.work.invariant.changes some))
+]

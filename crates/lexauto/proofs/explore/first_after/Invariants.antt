@@ -1,8 +1,12 @@
-use Rattle.std.proofs.Common.{◌≡◌, ℕ, ◌<◌, false}
-use Rattle.lex_semantics.specs.ByteSets.{has}
+use Rattle.std.proofs.Common.{◌≡◌, ℕ, ◌-◌, ◌<◌, ◌≤◌}
 use Rattle.lexauto.proofs.explore.first_after.Given as goal
 
 abbrev pub invariant-loop-next : goal.invariant-loop-next
-invariant-loop-next l = record {
-  none : (b : ℕ) → l.byte < b → b < l.next → has l.changes b ≡ false;
+invariant-loop-next g l = record {
+  after : l.byte < l.next;
+  within : l.next ≤ 256;
+  same : (b : ℕ) → l.byte < b → b < l.next → g.M.Moves.read l.moves l.following.list.items (b - 1) ≡ g.M.Moves.read l.moves l.following.list.items b;
 }
+
+abbrev pub decreases-loop-next : goal.decreases-loop-next
+decreases-loop-next g l = 256 - l.next

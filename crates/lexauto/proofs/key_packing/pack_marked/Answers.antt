@@ -2,20 +2,21 @@ use Rattle.std.proofs.Common.{◌≡◌, ℕ, ◌+◌, ◌/◌, ◌≤◌, ◌<�
 use Rattle.std.specs.Prelude.{take}
 use Rattle.std.specs.List.{filter}
 use Rattle.std.proofs.lemmas.List.{length-take}
-use Rattle.lex_semantics.specs.Text.{flag, listed}
+use Rattle.lex_semantics.specs.Text.{listed}
+use Rattle.lexauto.specs.Sets.{marked_by}
 use Rattle.lexauto.specs.KeyPacking.{bit_at, bit_count, with_bits, word_count}
 use Rattle.lexauto.proofs.PositionBits.{words_of, none_kept, used_within, bits_kept, plain_kept, length_with_bits, length_zeros}
 use Rattle.lexauto.proofs.key_packing.pack_marked.Goals as goal
 
 pub returns-then-marked-eq0 : goal.returns-then-marked-eq0
 returns-then-marked-eq0 c =
-    let f = flag c.args.marks.now in
+    let f = marked_by c.args.places.now c.args.marks.now in
     let none : length (filter f c.args.positions.now) ≡ 0 = sym c.in_ok-marked.ensures.number ∙ c.if-marked-eq0.true in
     subst (λ (l : List ℕ). IfOk c.behind.result (λ v. v.items ≡ l)) (none_kept f c.args.positions.now c.requires none) c.behind.ensures
 
 pub slice_bounds-behind-end-then-used-marked : goal.slice_bounds-behind-end-then-used-marked
 slice_bounds-behind-end-then-used-marked c =
-    let f = flag c.args.marks.now in
+    let f = marked_by c.args.places.now c.args.marks.now in
     let ps = c.args.positions.now in
     let l = filter f ps in
     let number : c.in_ok-marked.marked.number ≡ length l = c.in_ok-marked.ensures.number in
@@ -28,7 +29,7 @@ slice_bounds-behind-end-then-used-marked c =
 
 pub returns-then-used-marked : goal.returns-then-used-marked
 returns-then-used-marked c =
-    let f = flag c.args.marks.now in
+    let f = marked_by c.args.places.now c.args.marks.now in
     let ps = c.args.positions.now in
     let l = filter f ps in
     let number : c.in_ok-marked.marked.number ≡ length l = c.in_ok-marked.ensures.number in
@@ -45,7 +46,7 @@ returns-then-used-marked c =
 
 pub returns : goal.returns
 returns c =
-    let f = flag c.args.marks.now in
+    let f = marked_by c.args.places.now c.args.marks.now in
     let ps = c.args.positions.now in
     let l = filter f ps in
     let number : c.in_ok-marked.marked.number ≡ length l = c.in_ok-marked.ensures.number in

@@ -5,4 +5,4 @@ use Rattle.lexauto.proofs.sets.last_key.Goals as goal
 pub returns-then-is_empty : goal.returns-then-is_empty
 returns-then-is_empty c =
     let none : length c.args.marks.now ≡ 0 = search rules in
-    c.new.ensures.items ∙ sym (none_marked c.args.marks.now none c.args.numbers.now)
+    c.new.ensures.items ∙ sym (none_marked c.args.places.now c.args.marks.now none c.args.numbers.now)

@@ -10,6 +10,8 @@ use Rattle.lexauto_positions.specs.RuleFlow.{rules_enter, rules_left, rules_read
 use Rattle.lexauto_positions.specs.declared.rules.LaidRule.{LaidRule}
 use Rattle.lexauto_positions.proofs.LaidLaws.{NextAll, LeftAll, Letters}
 use Rattle.lexauto.proofs.StepLemmas.{tested_rules, few_rules}
+use Rattle.lexauto.specs.Moving.{AreChanges, masks_in, mask_at}
+use Rattle.lexauto.proofs.Alphabets.{reads_by_place, changes_by_place}
 use Rattle.lexauto_positions.proofs.Mapped.{length_map}
 use Rattle.lexauto.proofs.stepping.RuleMoves.new.Goals as goal
 
@@ -24,9 +26,9 @@ owners_of-requires-clause-rules c =
 
 pub masks_of-requires : goal.masks_of-requires
 masks_of-requires c = λ q b some low not.
-    let same : c.deref-3.result.now ≡ c.deref-4.result.now = c.deref-3.ensures.value ∙ sym c.deref-4.ensures.value in
-    let told = subst (λ (sets : List ByteSet). has (slice_index_or sets q empty_set) b ≡ false) c.deref-5.ensures.value not in
-    subst (λ (ls : List ByteSet). reads_at ls (b - 1) q 0 ≡ reads_at ls b q 0) same (c.in_ok-changes.ensures q b some low told)
+    let same : c.deref-4.result.now ≡ c.deref-5.result.now = c.deref-4.ensures.value ∙ sym c.deref-5.ensures.value in
+    let told = subst (λ (sets : List ByteSet). has (slice_index_or sets q empty_set) b ≡ false) c.deref-6.ensures.value not in
+    subst (λ (ls : List ByteSet). reads_at ls (b - 1) q 0 ≡ reads_at ls b q 0) same (c.in_ok-changes.ensures.changes q b some low told)
 
 pub invariant_of-result-clause-owned : goal.invariant_of-result-clause-owned
 invariant_of-result-clause-owned c =
@@ -52,22 +54,25 @@ invariant_of-result-clause-left c = λ last. ap (λ (f : LeftAll). f last 0 0) (
 
 pub invariant_of-result-clause-each : goal.invariant_of-result-clause-each
 invariant_of-result-clause-each c = λ b q low.
-    c.in_ok-masks.ensures.each b q low
-    ∙ ap (λ (ls : List ByteSet). reads_at ls b q 0) c.deref-4.ensures.value
-    ∙ c.in_ok-letters.ensures b q
+    let alphabet = c.in_ok-alphabet.alphabet in
+    reads_by_place c.deref-3.result.now alphabet.letters.items alphabet.places.items c.in_ok-alphabet.ensures b (mask_at (masks_in c.in_ok-masks.masks.items) b) low
+    (λ k. c.in_ok-masks.ensures.each b k low ∙ ap (λ (ls : List ByteSet). reads_at ls b k 0) c.deref-5.ensures.value) q
+    ∙ ap (λ (ls : List ByteSet). reads_at ls b q 0) c.deref-3.ensures.value
+    ∙ c.in_ok-read.ensures b q
     ∙ ap (λ (rs : List LaidRule). rules_read (map shape_of rs) b q 0) c.deref-2.ensures.value
     ∙ ap (λ (f : Letters). f b q 0) (c.in_ok-rules.ensures.alike.letters ∙ ap rules_read c.rules.ensures.rules)
 
 pub invariant_of-result-clause-changing : goal.invariant_of-result-clause-changing
 invariant_of-result-clause-changing c = λ q b some low not.
+    let alphabet = c.in_ok-alphabet.alphabet in
+    let changes = c.in_ok-changes.changes.items in
+    let size : length changes ≡ length alphabet.letters.items = c.in_ok-changes.ensures.len ∙ ap (λ (ls : List ByteSet). length ls) c.deref-4.ensures.value in
+    let are = subst (λ (ls : List ByteSet). AreChanges (λ c k. reads_at ls c k 0) changes) c.deref-4.ensures.value c.in_ok-changes.ensures.changes in
     let told : (k : ℕ) → reads_at c.deref-3.result.now k q 0 ≡ rules_read (spec_of c.args.spec.now).rules k q 0 = λ k.
     ap (λ (ls : List ByteSet). reads_at ls k q 0) c.deref-3.ensures.value
-    ∙ c.in_ok-letters.ensures k q
+    ∙ c.in_ok-read.ensures k q
     ∙ ap (λ (rs : List LaidRule). rules_read (map shape_of rs) k q 0) c.deref-2.ensures.value
     ∙ ap (λ (f : Letters). f k q 0) (c.in_ok-rules.ensures.alike.letters ∙ ap rules_read c.rules.ensures.rules) in
-    sym (told (b - 1)) ∙ c.in_ok-changes.ensures q b some low not ∙ told b
-
-pub invariant_of-result-clause-repeating : goal.invariant_of-result-clause-repeating
-invariant_of-result-clause-repeating c = λ q t.
-    let r = c.in_ok-repeats.ensures q t in
-    (r.0, subst (λ (sets : List ByteSet). slice_index_or sets q empty_set ≡ slice_index_or sets (q - 1) empty_set) c.deref-7.ensures.value r.1)
+    sym (told (b - 1))
+    ∙ changes_by_place c.deref-3.result.now alphabet.letters.items alphabet.places.items c.in_ok-alphabet.ensures changes size are q b some low not
+    ∙ told b

@@ -1,7 +1,7 @@
 use Rattle.std.proofs.Common.{◌≡◌, ◌<◌, ◌≤◌, length, map, slice_index, sym, ap, ◌∙◌, arith, List, Bool}
 use Rattle.std.proofs.lemmas.Grind.{get_or_default_zero}
 use Rattle.lexspec.specs.RuleViews.{rule_of}
-use Rattle.lex_semantics.specs.Text.{flag}
+use Rattle.lexauto.specs.Sets.{marked_by}
 use Rattle.lexauto.specs.Moving.{masks_in, mask_at}
 use Rattle.lexauto.proofs.StepLemmas.{reading_alike}
 use Rattle.lexauto.proofs.stepping.RuleMovesMoves.twin.Goals as goal
@@ -20,4 +20,4 @@ returns-clause-same c = λ followers.
     let small : twin < 256 = omega (arith, first, low) in
     let mask : mask_at masks twin ≡ mask_at masks byte = rw is (moves.alike.same byte low) in
     reading_alike (map rule_of moves.spec.now.rules.items) followers twin byte
-    (λ j _. let q = slice_index followers j in sym (moves.each twin q small) ∙ ap (λ (m : List Bool). flag m q) mask ∙ moves.each byte q low)
+    (λ j _. let q = slice_index followers j in sym (moves.each twin q small) ∙ ap (λ (m : List Bool). marked_by moves.places.items m q) mask ∙ moves.each byte q low)
