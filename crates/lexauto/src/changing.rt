@@ -1,5 +1,5 @@
 //! The bytes at which what a position reads changes.
-ghost use Rattle.std.specs.Prelude.{◌≡◌, ℕ, ◌-◌, ◌<◌, ◌≤◌, false, length, slice_index_or, IfOk};
+ghost use Rattle.std.specs.Prelude.{◌≡◌, ℕ, ◌-◌, ◌<◌, ◌≤◌, false, true, length, slice_index_or, IfOk};
 ghost use Rattle.lex_semantics.specs.ByteSets.{has, empty_set};
 ghost use Rattle.lexauto_positions.specs.Letters.{reads_at};
 ghost use Rattle.lexauto.specs.Moving.{AreChanges, AreLater, HaveNoneAfter};
@@ -7,8 +7,30 @@ ghost use Rattle.lexauto.specs.Moving.{AreChanges, AreLater, HaveNoneAfter};
 use lexre_bytes::ByteSet;
 use std::alloc::{AllocError, Global};
 
-/// The bytes from 1 on of which the set has just one, that or the byte before.
-fn changes_in(set: &ByteSet) -> ByteSet
+/// Whether the set has no byte after this one. `up_to` has for each byte the set of those up to it.
+pub(crate) fn has_none_after(set: &ByteSet, up_to: &[ByteSet], byte: u8) -> bool
+    requires len { length up_to.now ≡ 256 }
+    requires up_to { HaveNoneAfter up_to.now }
+    ensures { result ≡ true → (b : ℕ) → byte < b → b < 256 → has set.now b ≡ false }
+{
+    let before = &up_to[byte as usize];
+    set.union(before) == *before
+}
+
+/// Whether a byte is the last one of the set. It may be told not though it is, where the byte after it is told wrong.
+fn is_end(set: &ByteSet, up_to: &[ByteSet], byte: u8, was_in: bool, is_in: bool) -> bool
+    requires len { length up_to.now ≡ 256 }
+    requires up_to { HaveNoneAfter up_to.now }
+    ensures { result ≡ true → (b : ℕ) → byte < b → b < 256 → has set.now b ≡ false }
+{
+    was_in && !is_in && has_none_after(set, up_to, byte)
+}
+
+/// The bytes from 1 on of which the set has just one, that or the byte before. `up_to` has for each byte the set of
+/// those up to it.
+fn changes_in(set: &ByteSet, up_to: &[ByteSet]) -> ByteSet
+    requires len { length up_to.now ≡ 256 }
+    requires up_to { HaveNoneAfter up_to.now }
     ensures { (b : ℕ) → 1 ≤ b → b < 256 → has result b ≡ false → has set.now (b - 1) ≡ has set.now b }
 {
     let mut changes = ByteSet::empty();
@@ -17,6 +39,9 @@ fn changes_in(set: &ByteSet) -> ByteSet
         let is_in = set.contains(before + 1);
         if was_in != is_in {
             changes = changes.union(&ByteSet::of(before + 1));
+        }
+        if is_end(set, up_to, before, was_in, is_in) {
+            return changes;
         }
         was_in = is_in;
     }
@@ -53,9 +78,10 @@ pub(crate) fn changes_of(alloc: Global, letters: &[ByteSet]) -> Result<Vec<ByteS
     ensures len { IfOk result (λ v. length v.items ≡ length letters.now) }
     ensures changes { IfOk result (λ v. AreChanges (λ b q. reads_at letters.now b q 0) v.items) }
 {
+    let up_to = bytes_up_to(alloc)?;
     let mut all = Vec::with_capacity(alloc, letters.len())?;
     for set in letters {
-        all.push(changes_in(set))?;
+        all.push(changes_in(set, &up_to))?;
     }
     Ok(all)
 }

@@ -10,7 +10,7 @@ ghost use Rattle.lexauto.specs.Moving.{HaveNoneAfter};
 ghost use Rattle.lexauto.specs.Keys.{At, Absent, Found, Finds, keys_in};
 ghost use Rattle.lexauto.specs.KeyPacking.{look_kept, kept_in, packed, unpacked};
 
-use crate::changing::bytes_up_to;
+use crate::changing::{bytes_up_to, has_none_after};
 use crate::key_packing::{is_bits, pack_key, unpack_key};
 use lexauto_positions::Walked;
 use lexre_bytes::ByteSet;
@@ -251,8 +251,7 @@ fn next_change<M: Moves>(moves: &M, following: &Following, up_to: &[ByteSet], by
     ensures same { (b : ℕ) → byte < b → b < result
         → M.read moves.now following.now.list.items (b - 1) ≡ M.read moves.now following.now.list.items b }
 {
-    let before = &up_to[byte as usize];
-    if following.changes.union(before) == *before {
+    if has_none_after(&following.changes, up_to, byte) {
         return 256;
     }
     first_after(moves, following, byte)
