@@ -1,9 +1,10 @@
 #!/usr/bin/env bash
 # Tells the seconds of the processor that a scan takes over texts on which each match goes far and comes back, as inputs.py writes them,
 # at SIZE bytes (1 MiB without it, or less, as said for each family), and at 2, 4, 8 and 16 times as many. Each of nine rounds goes over
-# all texts of all families, so that some run of each meets the machine when it is not slower for a while; each time is the least.
-# A family that has taken 60 seconds is in no further round, and no longer text is tried after a run of more than 20. Behind
-# each time stands how many times the one before it is. Beside it is what flex's scanner takes for 10^4 and 10^5
+# all texts of all families; each time is the least. A family that has taken 150 seconds is in no further round, and no longer text is
+# tried after a run of more than 20. Behind each time stands how many times as long the text took as the one before it: the median of
+# the rounds' quotients. In a round the texts of a family are run one after the other, so that both times of a quotient are taken while
+# the machine is as fast as it is then; its speed changes within minutes. Beside it is what flex's scanner takes for 10^4 and 10^5
 # bytes, 20 seconds by the clock at most; what it writes is compared.
 #
 # Then comes a family for which the time is expected to grow with the square of the text, for 2^12 bytes and up, and the memory for one
@@ -29,6 +30,11 @@ above() {
     awk -v one="$1" -v other="$2" 'BEGIN { exit !(one > other) }'
 }
 
+# The median of these numbers, the greater of two.
+median() {
+    printf '%s\n' "$@" | sort -n | sed -n "$(($# / 2 + 1))p"
+}
+
 # The seconds of one run of the command over the text $1, whatever its status.
 run() {
     local TIMEFORMAT=%U+%S text=$1
@@ -48,14 +54,18 @@ write_texts() {
     done
 }
 
-# Takes a run of lex over each text of the family $1 into `least`, up to one that takes more than 20 seconds.
+# Takes a run of lex over each text of the family $1 into `least` and `quotients`, up to one that takes more than 20 seconds.
 round() {
-    local index took
+    local index took before=''
     for index in 0 1 2 3 4; do
         took=$(run "$folder/$1.$index" "$lex" --scan-table "$folder/$1.tab")
         if [[ -z ${least[$1.$index]-} ]] || above "${least[$1.$index]}" "$took"; then
             least[$1.$index]=$took
         fi
+        if [[ -n $before ]] && above "$before" 0.05; then
+            quotients[$1.$index]+=" $(awk -v one="$took" -v other="$before" 'BEGIN { printf "%.2f", one / other }')"
+        fi
+        before=$took
         if above "$took" 20; then
             return
         fi
@@ -64,19 +74,17 @@ round() {
 
 # The cells of the family $1. Ratios are judged where $2 is `judged`.
 doublings() {
-    local before='' took ratio index
+    local ratio index
     for index in 0 1 2 3 4; do
-        took=${least[$1.$index]-}
-        row+=" $took"
-        if [[ -n $before && -n $took ]] && above "$before" 0.05; then
-            ratio=$(awk -v one="$took" -v other="$before" 'BEGIN { printf "%.2f", one / other }')
+        row+=" ${least[$1.$index]-}"
+        if [[ -n ${quotients[$1.$index]-} ]]; then
+            ratio=$(median ${quotients[$1.$index]})
             row+=" ($ratio)"
             if [[ $2 == judged ]] && above "$ratio" 2.3; then
                 faults=$((faults + 1))
             fi
         fi
         row+=" |"
-        before=$took
     done
 }
 
@@ -96,7 +104,7 @@ beside() {
 }
 
 # Nine rounds over the families in $@, each behind its number of bytes, that are asked for. None is made of a family that has
-# taken 60 seconds.
+# taken 150 seconds.
 measure() {
     local count name began
     local -A bytes=() spent=()
@@ -111,7 +119,7 @@ measure() {
     for ((count = 0; count < 9; count++)); do
         for name in "${families[@]}"; do
             began=$SECONDS
-            if ((${spent[$name]-0} < 60)); then
+            if ((${spent[$name]-0} < 150)); then
                 round "$name"
             fi
             spent[$name]=$((${spent[$name]-0} + SECONDS - began))
@@ -125,7 +133,7 @@ measure() {
 # The table of these families. Ratios are judged where $1 is `judged`.
 table() {
     local row index
-    least=() families=() rows=()
+    least=() quotients=() families=() rows=()
     local how=$1
     shift
     measure "$@"
@@ -155,7 +163,7 @@ resident() {
     /usr/bin/time -f %M "$lex" --scan-table "$folder/lex.tab" < "$folder/string.input" 2>&1 > /dev/null
 }
 
-declare -A least=()
+declare -A least=() quotients=()
 declare -a families=() rows=()
 pairs=()
 for name in letters line comments statements string context less more every2 context_found context_every2 less_found reject; do

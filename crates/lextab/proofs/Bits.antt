@@ -3,10 +3,8 @@ use Rattle.std.specs.Prelude.{◌≡◌, ℕ, ◌+◌, ◌-◌, ◌*◌, ◌/◌
 use Rattle.std.proofs.Common.{inl, inr, refl, sym, ◌∙◌, ap, subst, arith, add-zero}
 use Rattle.std.specs.Int.{bit_at}
 use Rattle.std.proofs.lemmas.Nat.{div-add-mod', mod_below, pow_pos}
-use Rattle.std.proofs.lemmas.Nat.Bits.{bit_at-zero, bit_at_or, bit_at-lt, bit_at_above, bit_at_cat_low, bit_at_cat_high, bit_at_ones}
-use Rattle.std.proofs.Math.Nat.{max-zero, zero-max}
-use Rattle.std.proofs.lemmas.List.{get_or_past}
-use Rattle.lextab.specs.Searching.{slot_bit, Hits, Misses, IsFirstFit}
+use Rattle.std.proofs.lemmas.Nat.Bits.{bit_at-zero, bit_at_or, bit_at-lt, bit_at_cat_low, bit_at_cat_high, bit_at_ones}
+use Rattle.lextab.specs.Searching.{slot_bit, Hits, Misses, IsFirstFit, HasRoom}
 use Rattle.lextab.proofs.Orders.{same_or_not, less_or_not}
 
 pub place : (ws : List ℕ) (i q r : ℕ) → i ≡ 64 * q + r → r < 64 → slot_bit ws i ≡ bit_at (slice_index ws q) r
@@ -31,19 +29,29 @@ shl_high n k j h g = low_bits (n * 2 ^ k) j g ∙ ap (λ (m : ℕ). bit_at m j) 
 maxes : (a b x y : ℕ) → a ≡ x → b ≡ y → max a b ≡ max x y
 maxes a b x y e f = rw (e, f) refl
 
+high_part : (n r : ℕ) → r ≤ n → n - r + r ≡ n
+high_part n r h = omega arith
+
 -- the 64 bits from 64 q + r on, of two words
-pub bits_are : (ws : List ℕ) (at q r w0 w1 : ℕ) → at ≡ 64 * q + r → 0 < r → r < 64 → w0 ≡ slice_index ws q → w1 ≡ slice_index ws (q + 1) → w0 < 2 ^ 64
-    → (j : ℕ) → j < 64 → bit_at (bit_or (w0 / 2 ^ r) (w1 * 2 ^ (64 - r) % 2 ^ 64)) j ≡ slot_bit ws (at + j)
-bits_are ws at q r w0 w1 e pos low f0 f1 fits j h = bit_at_or (w0 / 2 ^ r) (w1 * 2 ^ (64 - r) % 2 ^ 64) j ∙ elim (less_or_not (r + j) 64) [
-  | inl lt ↦ (maxes (bit_at (w0 / 2 ^ r) j) (bit_at (w1 * 2 ^ (64 - r) % 2 ^ 64) j) (bit_at w0 (r + j)) 0 (shifted w0 r j) (shl_low w1 (64 - r) j (omega arith) h)
-      ∙ max-zero (bit_at w0 (r + j)) ∙ ap (λ (m : ℕ). bit_at m (r + j)) f0 ∙ sym (place ws (at + j) q (r + j) (omega arith) lt))
-  | inr ge ↦ (maxes (bit_at (w0 / 2 ^ r) j) (bit_at (w1 * 2 ^ (64 - r) % 2 ^ 64) j) 0 (bit_at w1 (j - (64 - r))) (shifted w0 r j ∙ bit_at_above w0 64 (r + j) fits ge) (shl_high w1 (64 - r) j (omega arith) h)
-      ∙ zero-max (bit_at w1 (j - (64 - r))) ∙ ap (λ (m : ℕ). bit_at m (j - (64 - r))) f1 ∙ sym (place ws (at + j) (q + 1) (j - (64 - r)) (omega arith) (omega arith)))
+pub bits_are : (ws : List ℕ) (q r w0 w1 n : ℕ) → r < 64 → w0 ≡ slice_index ws q → w1 ≡ slice_index ws (q + 1) → w0 < 2 ^ 64 → n ≡ w1 * 2 ^ 64 + w0
+    → (j : ℕ) → j < 64 → bit_at (n / 2 ^ r % 2 ^ 64) j ≡ slot_bit ws (64 * q + r + j)
+bits_are ws q r w0 w1 n low f0 f1 fits is j h = low_bits (n / 2 ^ r) j h ∙ shifted n r j ∙ ap (λ (m : ℕ). bit_at m (r + j)) is ∙ elim (less_or_not (r + j) 64) [
+  | inl lt ↦ bit_at_cat_low w1 64 w0 (r + j) lt ∙ ap (λ (m : ℕ). bit_at m (r + j)) f0 ∙ sym (place ws (64 * q + r + j) q (r + j) (omega arith) lt)
+  | inr ge ↦ bit_at_cat_high w1 64 w0 (r + j) fits ge ∙ ap (λ (m : ℕ). bit_at m (r + j - 64)) f1 ∙ sym (place ws (64 * q + r + j) (q + 1) (r + j - 64) (omega arith) (omega arith))
 ]
 
--- a bit past the last word
-pub past : (ws : List ℕ) (i : ℕ) → 64 * length ws ≤ i → slot_bit ws i ≡ 0
-past ws i h = ap (λ (m : ℕ). bit_at m (i % 64)) (get_or_past ws (i / 64) 0 (omega arith)) ∙ bit_at-zero (i % 64)
+-- the bits from a class of a word on
+pub of_class : (ws : List ℕ) (w k bits : ℕ) → ((j : ℕ) → j < 64 → bit_at bits j ≡ slot_bit ws (64 * (w + k / 64) + k % 64 + j))
+    → (j : ℕ) → j < 64 → bit_at bits j ≡ slot_bit ws (64 * w + k + j)
+of_class ws w k bits x j h = (let e : 64 * (w + k / 64) + k % 64 + j ≡ 64 * w + k + j = omega arith in x j h ∙ ap (slot_bit ws) e)
+
+-- entries fit where the last words begin, which are free
+pub fits_at_end : (ws ks : List ℕ) (full w free : ℕ) → HasRoom ws full → free ≡ length ws - 5 → free ≤ w → ((c : ℕ) → c < 64 * w → Hits ws ks c)
+    → IsFirstFit ws ks (64 * free)
+fits_at_end ws ks full w free room is low hits = record {
+  fits = λ j h. room.free (64 * free + slice_index ks j) (omega arith);
+  first = λ c h. hits c (omega arith);
+}
 
 -- one more word that is full
 pub one_more_full : (ws : List ℕ) (w : ℕ) → slice_index ws w ≡ 2 ^ 64 - 1 → ((i : ℕ) → i < 64 * w → slot_bit ws i ≡ 1) → (i : ℕ) → i < 64 * (w + 1) → slot_bit ws i ≡ 1
@@ -67,15 +75,16 @@ more_hits ws ks at bad new n low hits is j h e = elim (one_of (bit_at bad j) (bi
 none_of : (a b : ℕ) → max a b ≡ 0 → (a ≡ 0) × (b ≡ 0)
 none_of a b e = (omega arith, omega arith)
 
-pub more_misses : (ws ks : List ℕ) (at bad new n : ℕ) → ((j : ℕ) → j < 64 → bit_at bad j ≡ 0 → (m : ℕ) → m < n → slot_bit ws (at + j + slice_index ks m) ≡ 0)
+-- of the last entries, where n more come before them
+pub earlier_misses : (ws ks : List ℕ) (at bad new n : ℕ) → ((j : ℕ) → j < 64 → bit_at bad j ≡ 0 → (m : ℕ) → n < m → m < length ks → slot_bit ws (at + j + slice_index ks m) ≡ 0)
     → ((j : ℕ) → j < 64 → bit_at new j ≡ slot_bit ws (at + slice_index ks n + j))
-    → (j : ℕ) → j < 64 → bit_at (bit_or bad new) j ≡ 0 → (m : ℕ) → m < n + 1 → slot_bit ws (at + j + slice_index ks m) ≡ 0
-more_misses ws ks at bad new n misses is j h e m g =
+    → (j : ℕ) → j < 64 → bit_at (bit_or bad new) j ≡ 0 → (m : ℕ) → n ≤ m → m < length ks → slot_bit ws (at + j + slice_index ks m) ≡ 0
+earlier_misses ws ks at bad new n misses is j h e m g l =
     let z = none_of (bit_at bad j) (bit_at new j) (sym (bit_at_or bad new j) ∙ e) in
     elim (same_or_not m n) [
       | inl q ↦ (let s : at + slice_index ks n + j ≡ at + j + slice_index ks n = omega arith in
           ap (λ (i : ℕ). slot_bit ws (at + j + slice_index ks i)) q ∙ ap (λ (i : ℕ). slot_bit ws i) (sym s) ∙ sym (is j h) ∙ z.1)
-      | inr d ↦ misses j h z.0 m (omega arith)
+      | inr d ↦ misses j h z.0 m (omega arith) l
     ]
 
 -- no bit of a full word is 0

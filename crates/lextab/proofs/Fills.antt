@@ -1,37 +1,65 @@
 -- Filling the slots of one state after another.
 use Rattle.std.specs.Prelude.{◌≡◌, ◌≢◌, ℕ, zero, suc, ◌+◌, ◌<◌, ◌≤◌, ◌⊎◌, List, length, slice_index}
-use Rattle.std.proofs.Common.{inl, inr, sym, ◌∙◌, ap, subst, arith}
+use Rattle.std.proofs.Common.{inl, inr, sym, ◌∙◌, ap, subst, arith, set, get_or-set_other, get_or-set_same}
 use Rattle.lextab.specs.Columns.{IsEntry, IsTaken, IsBase, AreSlots, AreRows}
-use Rattle.lextab.specs.Searching.{AreEntries, AreFilled}
+use Rattle.lextab.specs.Searching.{AreFilled}
 use Rattle.lextab.proofs.Orders.{same_or_not}
 use Rattle.lextab.proofs.Placements.{later}
 use Rattle.lextab.proofs.Counts.{default_same}
 
-some_or_none : (f : ℕ → ℕ) (n i : ℕ) → ((j : ℕ) × (j < n) × (f j ≡ i)) ⊎ ((j : ℕ) → j < n → f j ≢ i)
-some_or_none f zero i = inr (λ j h. absurd (omega arith))
-some_or_none f (suc n) i = elim (same_or_not (f n) i) [
-  | inl e ↦ inl (n, omega arith, e)
-  | inr d ↦ elim (some_or_none f n i) [
-    | inl w ↦ inl (w.0, (let l = w.1 in omega arith), w.2)
-    | inr o ↦ inr (λ j h e. elim (same_or_not j n) [
-      | inl q ↦ d (ap f (sym q) ∙ e)
-      | inr m ↦ o j (omega arith) e
-    ])
+-- whether the slot i is that of one of the first n classes whose target is not d
+entry_or_none : (row : ℕ → ℕ) (d b n i : ℕ) → ((k : ℕ) × (k < n) × (row k ≢ d) × (b + k ≡ i)) ⊎ ((k : ℕ) → k < n → row k ≢ d → b + k ≢ i)
+entry_or_none row d b zero i = inr (λ k h. absurd (omega arith))
+entry_or_none row d b (suc n) i = elim (entry_or_none row d b n i) [
+  | inl w ↦ inl (w.0, (let l = w.1 in omega arith), w.2, w.3)
+  | inr none ↦ elim (same_or_not (b + n) i) [
+    | inr apart ↦ inr (λ k h o e. none k (not_last k n h (λ q. apart (ap (λ (m : ℕ). b + m) (sym q) ∙ e))) o e)
+    | inl here ↦ elim (same_or_not (row n) d) [
+      | inr o ↦ inl (n, omega arith, o, here)
+      | inl q ↦ inr (λ k h o e. none k (not_last k n h (λ r. o (ap row r ∙ q))) o e)
+    ]
   ]
 ]
+  where
+    not_last : (k n : ℕ) → k < suc n → k ≢ n → k < n
+    not_last k n h ne = omega arith
 
-pub one_more_filled : (to : ℕ → ℕ → ℕ) (count : ℕ) (ds bases : List ℕ) (s : ℕ) (row ks check next check' next' : List ℕ)
-    → AreSlots s to count ds bases check next → IsBase to count ds bases s (slice_index bases s) → length row ≡ count → ((k : ℕ) → k < count → slice_index row k ≡ to s k)
-    → AreEntries row (slice_index ds s) (length row) ks → AreFilled ks row (slice_index bases s) s (length ks) check next check' next' → length check' ≡ length check
+-- one more class, whose target is written or is d
+pub more_filled : (row : ℕ → ℕ) (d b s n : ℕ) (check next c x : List ℕ) → AreFilled row d b s n check next c x → b + n < length c → b + n < length x → row n ≢ d
+    → AreFilled row d b s (n + 1) check next (set c (b + n) s) (set x (b + n) (row n))
+more_filled row d b s n check next c x f h g o = record {
+  used = λ k l e. elim (same_or_not k n) [
+    | inl q ↦ (let at : b + k ≡ b + n = omega arith in
+        (ap (λ (i : ℕ). slice_index (set c (b + n) s) i) at ∙ get_or-set_same c (b + n) s 0 h, ap (λ (i : ℕ). slice_index (set x (b + n) (row n)) i) at ∙ get_or-set_same x (b + n) (row n) 0 g ∙ ap row (sym q)))
+    | inr ne ↦ (let u = f.used k (omega arith) e in let apart : b + k ≢ b + n = (λ q. ne (omega arith)) in
+        (get_or-set_other c (b + n) (b + k) s 0 apart ∙ u.0, get_or-set_other x (b + n) (b + k) (row n) 0 apart ∙ u.1))
+  ];
+  rest = λ i none. (let r = f.rest i (λ k l e. none k (omega arith) e) in
+      let apart : i ≢ b + n = (λ q. none n (omega arith) o (sym q)) in
+      (get_or-set_other c (b + n) i s 0 apart ∙ r.0, get_or-set_other x (b + n) i (row n) 0 apart ∙ r.1));
+}
+
+pub same_filled : (row : ℕ → ℕ) (d b s n : ℕ) (check next c x : List ℕ) → AreFilled row d b s n check next c x → row n ≡ d → AreFilled row d b s (n + 1) check next c x
+same_filled row d b s n check next c x f q = record {
+  used = λ k l e. f.used k (below k (λ r. e (ap row r ∙ q)) l) e;
+  rest = λ i none. f.rest i (λ k l e. none k (omega arith) e);
+}
+  where
+    below : (k : ℕ) → k ≢ n → k < n + 1 → k < n
+    below k ne h = omega arith
+
+pub one_more_filled : (to : ℕ → ℕ → ℕ) (count : ℕ) (ds bases : List ℕ) (s : ℕ) (row : ℕ → ℕ) (check next check' next' : List ℕ)
+    → AreSlots s to count ds bases check next → IsBase to count ds bases s (slice_index bases s) → ((k : ℕ) → k < count → row k ≡ to s k)
+    → AreFilled row (slice_index ds s) (slice_index bases s) s count check next check' next' → length check' ≡ length check
     → AreSlots (s + 1) to count ds bases check' next'
-one_more_filled to count ds bases s row ks check next check' next' x base len is ents filled size = record {
+one_more_filled to count ds bases s row check next check' next' x base is filled size = record {
   used = λ r k h e. elim (same_or_not r s) [
     | inl q ↦ subst (λ (n : ℕ). (slice_index check' (slice_index bases n + k) ≡ n) × (slice_index next' (slice_index bases n + k) ≡ to n k)) (sym q)
         (here k (subst (λ (n : ℕ). IsEntry to count ds n k) q e))
     | inr d ↦ before r k (omega arith) e
   ];
-  rest = λ i h. elim (some_or_none (λ j. slice_index bases s + slice_index ks j) (length ks) i) [
-    | inl w ↦ inl (record { state = s; class = slice_index ks w.0; before = omega arith; entry = entry_is w.0 w.1; here = w.2 })
+  rest = λ i h. elim (entry_or_none row (slice_index ds s) (slice_index bases s) count i) [
+    | inl w ↦ inl (record { state = s; class = w.0; before = omega arith; entry = entry_is w.0 w.1 w.2; here = w.3 })
     | inr o ↦ (let f = filled.rest i o in elim (x.rest i (omega arith)) [
       | inl t ↦ inl (later to count ds bases s i t)
       | inr z ↦ inr (f.0 ∙ z.0, f.1 ∙ z.1)
@@ -39,21 +67,15 @@ one_more_filled to count ds bases s row ks check next check' next' x base len is
   ];
 }
   where
-    entry_of : (k : ℕ) → IsEntry to count ds s k → (j : ℕ) × (j < length ks) × (slice_index ks j ≡ k)
-    entry_of k e = ents.all k (let l = e.class in omega arith) (λ z. e.other (sym (is k e.class) ∙ z))
-
-    entry_is : (j : ℕ) → j < length ks → IsEntry to count ds s (slice_index ks j)
-    entry_is j h = let o = ents.only j h in let o0 = o.0 in let l : slice_index ks j < count = omega arith in
-        record { class = l; other = λ z. o.1 (is (slice_index ks j) l ∙ z) }
+    entry_is : (k : ℕ) → k < count → row k ≢ slice_index ds s → IsEntry to count ds s k
+    entry_is k h o = record { class = h; other = λ z. o (is k h ∙ z) }
 
     here : (k : ℕ) → IsEntry to count ds s k → (slice_index check' (slice_index bases s + k) ≡ s) × (slice_index next' (slice_index bases s + k) ≡ to s k)
-    here k e = let j = entry_of k e in
-        subst (λ (m : ℕ). (slice_index check' (slice_index bases s + m) ≡ s) × (slice_index next' (slice_index bases s + m) ≡ to s m)) j.2
-        (let u = filled.used j.0 j.1 in (u.0, u.1 ∙ is (slice_index ks j.0) (entry_is j.0 j.1).class))
+    here k e = let u = filled.used k e.class (λ z. e.other (sym (is k e.class) ∙ z)) in (u.0, u.1 ∙ is k e.class)
 
     before : (r k : ℕ) → r < s → IsEntry to count ds r k → (slice_index check' (slice_index bases r + k) ≡ r) × (slice_index next' (slice_index bases r + k) ≡ to r k)
     before r k h e = let u = x.used r k h e in
-        let f = filled.rest (slice_index bases r + k) (λ j g q. base.fits (slice_index ks j) (entry_is j g) (record { state = r; class = k; before = h; entry = e; here = sym q })) in
+        let f = filled.rest (slice_index bases r + k) (λ j g o q. base.fits j (entry_is j g o) (record { state = r; class = k; before = h; entry = e; here = sym q })) in
         (f.0 ∙ u.0, f.1 ∙ u.1)
 
 -- rows that have the same targets pack alike

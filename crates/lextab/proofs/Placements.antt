@@ -3,9 +3,10 @@ use Rattle.std.specs.Prelude.{◌≡◌, ◌≢◌, ℕ, zero, suc, ◌+◌, ◌
 use Rattle.std.proofs.Common.{inl, inr, refl, sym, ◌∙◌, ap, subst, arith, take, drop, replicate}
 use Rattle.std.proofs.lemmas.List.{length-replicate}
 use Rattle.std.specs.Int.{bit_at}
+use Rattle.std.proofs.lemmas.Nat.Bits.{bit_at-lt}
 use Rattle.std.proofs.lemmas.List.{get_or_push, get_or_append_left, get_or-append_right, get_or-replicate, get_or_past, take-append-le, take_all}
 use Rattle.lextab.specs.Columns.{IsEntry, IsTaken, IsBase}
-use Rattle.lextab.specs.Searching.{AreEntries, slot_bit, Hits, IsFirstFit, IsMarked, IsEarlier, ArePlaced}
+use Rattle.lextab.specs.Searching.{AreEntries, slot_bit, Hits, IsFirstFit, IsFreeAtEnd, IsMarked, IsEarlier, ArePlaced}
 use Rattle.lextab.proofs.Orders.{same_or_not, less_or_not}
 use Rattle.lextab.proofs.Counts.{length_append_one}
 use Rattle.lextab.proofs.Unique.{moved}
@@ -39,6 +40,17 @@ marked_from old mid new ks b n e m = record {
   only = λ i h. elim (m.only i h) [ inl o ↦ inl (sym (e i) ∙ o) | inr w ↦ inr w ];
 }
 
+zero_if : (n : ℕ) → n < 2 → (n ≡ 1 → ⊥) → n ≡ 0
+zero_if n h f = omega arith
+
+-- the last words stay free where there are ten more than the place of the entries needs
+pub free_after : (old new ks : List ℕ) (b : ℕ) → IsFreeAtEnd old → length old ≤ length new → b / 64 + 10 ≤ length new
+    → ((j : ℕ) → j < length ks → slice_index ks j < 256) → IsMarked old ks b (length ks) new → IsFreeAtEnd new
+free_after old new ks b free more need small m i h = zero_if (slot_bit new i) (bit_at-lt (slice_index new (i / 64)) (i % 64)) (λ one. elim (m.only i one) [
+  | inl o ↦ (let z = free i (omega arith) in omega (arith, z, o))
+  | inr w ↦ (let l = small w.0 w.1 in let e = w.2 in omega arith)
+])
+
 pub base_moved : (to : ℕ → ℕ → ℕ) (count : ℕ) (ds bs cs : List ℕ) (s b : ℕ) → ((r : ℕ) → r < s → slice_index bs r ≡ slice_index cs r)
     → IsBase to count ds bs s b → IsBase to count ds cs s b
 base_moved to count ds bs cs s b same x = record {
@@ -54,10 +66,10 @@ zero_one n e f = omega arith
 
 pub one_more_placed : (to : ℕ → ℕ → ℕ) (count : ℕ) (ds bases words : List ℕ) (full s : ℕ) (row ks : List ℕ) (b : ℕ) (new : List ℕ) (full2 : ℕ)
     → ArePlaced to count ds bases words full s → length row ≡ count → ((k : ℕ) → k < count → slice_index row k ≡ to s k)
-    → AreEntries row (slice_index ds s) (length row) ks → IsFirstFit words ks b → b ≤ 64 * length words → IsMarked words ks b (length ks) new
-    → length new ≤ length words + 5 → full2 ≤ length new → ((i : ℕ) → i < 64 * full2 → slot_bit new i ≡ 1)
+    → AreEntries row (slice_index ds s) (length row) ks → IsFirstFit words ks b → b ≤ 64 * (length words - 5) → IsMarked words ks b (length ks) new
+    → length new ≤ length words - 5 + 10 → full2 ≤ length new → ((i : ℕ) → i < 64 * full2 → slot_bit new i ≡ 1) → IsFreeAtEnd new
     → ArePlaced to count ds (bases ++ b ∷ []) new full2 (s + 1)
-one_more_placed to count ds bases words full s row ks b new full2 x len is ents fit low marked most within2 all2 = record {
+one_more_placed to count ds bases words full s row ks b new full2 x len is ents fit low marked most within2 all2 free2 = record {
   len = omega (arith, length_append_one bases b, x.len);
   base = λ r h. elim (same_or_not r s) [
     | inl q ↦ subst (λ (n : ℕ). IsBase to count ds after n (slice_index after n)) (sym q) (subst (λ (n : ℕ). IsBase to count ds after s n) (sym at) here)
@@ -80,8 +92,7 @@ one_more_placed to count ds bases words full s row ks b new full2 x len is ents 
     | inr d ↦ (let g : t.state < s = (let w = t.before in omega arith) in
         marked.kept i (x.taken i (record { state = t.state; class = t.class; before = g; entry = t.entry; here = ap (λ (n : ℕ). n + t.class) (same t.state g) ∙ t.here })))
   ];
-  within = within2;
-  full_slots = all2;
+  room = record { within = within2; taken = all2; free = free2 };
   few = (let f = x.few in omega arith);
 }
   where

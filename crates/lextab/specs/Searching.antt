@@ -25,6 +25,16 @@ pub record IsFirstFit (words ks : List ℕ) (b : ℕ) : Type 0 where
   pub fits : Misses words ks b
   pub first : (c : ℕ) → c < b → Hits words ks c
 
+-- the last five words have no bit that is set
+abbrev pub IsFreeAtEnd : List ℕ → Type 0
+IsFreeAtEnd words = (i : ℕ) → 64 * length words ≤ i + 320 → slot_bit words i ≡ 0
+
+-- the first words are full, so many, and the last five are free
+pub record HasRoom (words : List ℕ) (full : ℕ) : Type 0 where
+  pub within : full ≤ length words
+  pub taken : (i : ℕ) → i < 64 * full → slot_bit words i ≡ 1
+  pub free : IsFreeAtEnd words
+
 -- the first n of the entries, placed from b, are set too
 pub record IsMarked (old ks : List ℕ) (b n : ℕ) (new : List ℕ) : Type 0 where
   pub kept : (i : ℕ) → slot_bit old i ≡ 1 → slot_bit new i ≡ 1
@@ -68,13 +78,12 @@ pub record ArePlaced (to : ℕ → ℕ → ℕ) (count : ℕ) (ds bases words : 
   pub small : (r : ℕ) → r < s → slice_index bases r ≤ 320 * s
   pub bits : (i : ℕ) → slot_bit words i ≡ 1 → IsTaken to count ds bases s i
   pub taken : (i : ℕ) → IsTaken to count ds bases s i → slot_bit words i ≡ 1
-  pub within : full ≤ length words
-  pub full_slots : (i : ℕ) → i < 64 * full → slot_bit words i ≡ 1
-  pub few : length words ≤ 5 * s
+  pub room : HasRoom words full
+  pub few : length words ≤ 5 * s + 5
 
--- the slots of the first n entries, placed from b, have the state and the targets, and the others are as they were
-pub record AreFilled (ks row : List ℕ) (b s n : ℕ) (check next check' next' : List ℕ) : Type 0 where
-  pub used : (j : ℕ) → j < n → (slice_index check' (b + slice_index ks j) ≡ s)
-      × (slice_index next' (b + slice_index ks j) ≡ slice_index row (slice_index ks j))
-  pub rest : (i : ℕ) → ((j : ℕ) → j < n → b + slice_index ks j ≢ i) → (slice_index check' i ≡ slice_index check i)
+-- of the first n classes of a row those whose target is not d, placed from b, have the state and the target in their
+-- slots, and the other slots are as they were
+pub record AreFilled (row : ℕ → ℕ) (d b s n : ℕ) (check next check' next' : List ℕ) : Type 0 where
+  pub used : (k : ℕ) → k < n → row k ≢ d → (slice_index check' (b + k) ≡ s) × (slice_index next' (b + k) ≡ row k)
+  pub rest : (i : ℕ) → ((k : ℕ) → k < n → row k ≢ d → b + k ≢ i) → (slice_index check' i ≡ slice_index check i)
       × (slice_index next' i ≡ slice_index next i)

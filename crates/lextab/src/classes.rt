@@ -21,8 +21,8 @@ fn numbered(alloc: Global, lead: &[u8]) -> Result<Classes, AllocError>
         × (slice_index lead.now (slice_index lead.now b) ≡ slice_index lead.now b) }
     ensures { IfOk result (λ c. AreNumbered lead.now c.class_of.items c.heads.items 256) }
 {
-    let mut class_of: Vec<u8> = Vec::new(alloc);
-    let mut heads = Vec::new(alloc);
+    let mut class_of: Vec<u8> = Vec::with_capacity(alloc, 256)?;
+    let mut heads = Vec::with_capacity(alloc, 256)?;
     for byte in 0..256usize {
         let first = lead[byte] as usize;
         if first < byte {

@@ -1,12 +1,12 @@
 //! Rows placed one over another, each at the first place that fits.
-ghost use Rattle.std.specs.Prelude.{◌≡◌, ◌≢◌, true, ℕ, ◌+◌, ◌*◌, ◌<◌, ◌≤◌, ◌^◌};
+ghost use Rattle.std.specs.Prelude.{◌≡◌, ◌≢◌, true, ℕ, ◌+◌, ◌-◌, ◌*◌, ◌<◌, ◌≤◌, ◌^◌};
 ghost use Rattle.std.specs.Prelude.{length, vec_len, slice_index, OnOk, IfOk};
 ghost use Rattle.lextab.specs.Columns.{IsBase, IsEntry};
-ghost use Rattle.lextab.specs.Searching.{slot_bit, HasRows, Hits, IsFirstFit, IsMarked, IsEarlier, by_head};
+ghost use Rattle.lextab.specs.Searching.{HasRoom, HasRows, Hits, IsFirstFit, IsMarked, IsEarlier, IsFreeAtEnd, by_head};
 ghost use Rattle.lex_semantics.specs.Limits.{max_states};
 
 use crate::rows::{read_entries, read_row};
-use crate::slots::{first_fit, full_words, mark};
+use crate::slots::{REACH, first_fit, full_words, mark};
 use std::alloc::{AllocError, Global};
 
 /// Places entries at the first place that fits, which is not before `from`, and takes their slots.
@@ -17,21 +17,21 @@ fn place(
     entries: &[u32],
 ) -> Result<usize, AllocError>
     requires few { vec_len words.old < 2 ^ 24 }
-    requires within { full ≤ vec_len words.old }
-    requires full { (i : ℕ) → i < 64 * full → slot_bit words.old.items i ≡ 1 }
+    requires room { HasRoom words.old.items full }
     requires from { (c : ℕ) → c < from → Hits words.old.items entries.now c }
     requires small { (j : ℕ) → j < length entries.now → slice_index entries.now j < 256 }
-    ensures low { IfOk result (λ b. b ≤ 64 * vec_len words.old) }
+    ensures low { IfOk result (λ b. b ≤ 64 * (vec_len words.old - 5)) }
     ensures placed { IfOk result (λ b. IsFirstFit words.old.items entries.now b
         × IsMarked words.old.items entries.now b (length entries.now) words.new.items) }
     ensures room { OnOk result ((vec_len words.old ≤ vec_len words.new)
-        × (vec_len words.new ≤ vec_len words.old + 5)) }
+        × (vec_len words.new ≤ vec_len words.old - 5 + 10)) }
+    ensures free { OnOk result (IsFreeAtEnd words.new.items) }
 {
     if entries.is_empty() {
         return Ok(0);
     }
     let base = first_fit(words, entries, full, from);
-    let need = base / 64 + 5;
+    let need = base / 64 + 2 * REACH;
     if words.len() < need {
         words.resize(need, 0)?;
     }
@@ -68,6 +68,7 @@ fn is_within(block: &[u32], heads: &[u8], other: u32, row: &[u32], default: u32)
 
 /// A place that a row's base is not before: the base of an earlier state, if that one's entries are all among the
 /// row's. It fitted nowhere before, so the row does not either.
+#[inline(never)]
 fn start_of(
     next: &[u32],
     heads: &[u8],
@@ -110,11 +111,11 @@ pub(crate) fn bases_of(
         → IsBase (by_head next.now heads.now) (length heads.now) defaults.now v.items s (slice_index v.items s)) }
 {
     let mut row = vec![in alloc; 0u32; heads.len()]?;
-    let mut entries = Vec::new(alloc);
+    let mut entries = Vec::with_capacity(alloc, heads.len())?;
     let mut words: Vec<u64> = Vec::new(alloc);
     let mut full = 0;
     let mut lasts = vec![in alloc; 0u32; states]?;
-    let mut bases = Vec::new(alloc);
+    let mut bases = Vec::with_capacity(alloc, states)?;
     for state in 0..states {
         let default = defaults[state];
         read_row(next, state, heads, &mut row);

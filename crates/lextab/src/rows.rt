@@ -155,7 +155,7 @@ pub(crate) fn defaults_of(
         → IsDefault (by_head next.now heads.now s) (length heads.now) (slice_index v.items s)) }
 {
     let mut row = vec![in alloc; 0u32; heads.len()]?;
-    let mut defaults = Vec::new(alloc);
+    let mut defaults = Vec::with_capacity(alloc, states)?;
     for state in 0..states {
         read_row(next, state, heads, &mut row);
         let default = default_of(&row, counts);

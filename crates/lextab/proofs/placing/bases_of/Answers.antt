@@ -27,7 +27,7 @@ loop-state-preserved c =
       placed = subst (λ (l : List ℕ). ArePlaced to count ds l new full (s + 1)) (sym pushed)
           (one_more_placed to count ds c.loop-state.bases.items c.loop-state.words.items c.loop-state.full s row ks b new full c.loop-state.invariant.placed
           (ap length is ∙ c.read_row.ensures.len) (λ k h. ap (λ (l : List ℕ). slice_index l k) is ∙ c.read_row.ensures.each k h)
-          ents c.in_ok-base.ensures.placed.0 (search rules) c.in_ok-base.ensures.placed.1 (search rules) within all);
+          ents c.in_ok-base.ensures.placed.0 (search rules) c.in_ok-base.ensures.placed.1 (search rules) within all c.in_ok-base.ensures.free);
     }
 
 pub returns-clause-each : goal.returns-clause-each

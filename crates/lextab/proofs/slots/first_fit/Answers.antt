@@ -1,7 +1,7 @@
 use Rattle.std.proofs.Common.{rules, ◌≡◌, ℕ, ◌<◌, arith, subst, sym, w64}
 use Rattle.std.proofs.lemmas.Nat.Bits.{bit_at-trailing_ones}
 use Rattle.std.specs.Int.{bit_at}
-use Rattle.lextab.proofs.Bits.{before_start, fits_here, no_fit_here}
+use Rattle.lextab.proofs.Bits.{before_start, fits_here, fits_at_end, no_fit_here}
 use Rattle.lextab.proofs.slots.first_fit.Goals as goal
 
 pub returns-then-bad-clause-first : goal.returns-then-bad-clause-first
@@ -17,4 +17,7 @@ loop-w-preserved c = no_fit_here c.args.words.now c.args.entries.now c.loop-w.w 
 
 pub loop-w-init : goal.loop-w-init
 loop-w-init c = before_start c.args.words.now c.args.entries.now c.args.full c.args.from c.saturating_sub-past_full.result c.min-start.result
-    c.requires.some c.requires.full c.requires.from (search rules) (let m = c.max.ensures in let n = c.min-start.ensures in omega arith)
+    c.requires.some c.requires.room.taken c.requires.from (search rules) (let m = c.max.ensures in let n = c.min-start.ensures in omega arith)
+
+pub returns-clause-first : goal.returns-clause-first
+returns-clause-first c = fits_at_end c.args.words.now c.args.entries.now c.args.full c.loop-w.w c.saturating_sub-free.result c.requires.room (search rules) (let l = c.loop-w-test.false in omega arith) c.loop-w.invariant
