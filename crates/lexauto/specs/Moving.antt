@@ -39,7 +39,8 @@ AreChanges reads changes =
 pub record AreLetters (all letters : List ByteSet) (places : List ℕ) : Type 0 where
   pub len : length places ≡ length all
   pub low : (q : ℕ) → q < length all → slice_index places q < length letters
-  pub same : (q : ℕ) → q < length all → slice_index_or letters (slice_index places q) empty_set ≡ slice_index_or all q empty_set
+  pub same : (q : ℕ) → q < length all
+      → slice_index_or letters (slice_index places q) empty_set ≡ slice_index_or all q empty_set
 
 -- the place of a position's letter, and the end of n letters for another number
 abbrev pub place_at : List ℕ → ℕ → ℕ → ℕ

@@ -1,4 +1,4 @@
-//! The bytes at which what a position reads changes.
+//! The bytes at which what a letter reads changes.
 ghost use Rattle.std.specs.Prelude.{◌≡◌, ℕ, ◌-◌, ◌<◌, ◌≤◌, false, true, length, slice_index_or, IfOk};
 ghost use Rattle.lex_semantics.specs.ByteSets.{has, empty_set};
 ghost use Rattle.lexauto_positions.specs.Letters.{reads_at};
@@ -17,7 +17,8 @@ pub(crate) fn has_none_after(set: &ByteSet, up_to: &[ByteSet], byte: u8) -> bool
     set.union(before) == *before
 }
 
-/// Whether a byte is the last one of the set. It may be told not though it is, where the byte after it is told wrong.
+/// Whether it is seen that a byte is the last one of the set: it is told to be in, the one after it is not, and no later
+/// byte is.
 fn is_end(set: &ByteSet, up_to: &[ByteSet], byte: u8, was_in: bool, is_in: bool) -> bool
     requires len { length up_to.now ≡ 256 }
     requires up_to { HaveNoneAfter up_to.now }

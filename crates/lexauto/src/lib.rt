@@ -5,7 +5,8 @@
 //! - `error`: why there is no automaton for a specification.
 //! - `sets`: sets of numbers, as lists and as flags, and the keys of states.
 //! - `key_packing`: keys as they are kept, those of many positions as bits.
-//! - `changing`: the bytes at which what a position reads changes.
+//! - `alphabet`: the letters that positions read, each but a few times.
+//! - `changing`: the bytes at which what a letter reads changes.
 //! - `stepping`: how the keys of a specification lead to one another.
 //! - `following`: what follows a key, and the rules that it accepts.
 //! - `explore`: a work list over keys, for whatever leads from one to another.
