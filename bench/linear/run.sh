@@ -62,7 +62,7 @@ round() {
         if [[ -z ${least[$1.$index]-} ]] || above "${least[$1.$index]}" "$took"; then
             least[$1.$index]=$took
         fi
-        if [[ -n $before ]] && above "$before" 0.05; then
+        if [[ -n $before ]] && above "$before" 0; then
             quotients[$1.$index]+=" $(awk -v one="$took" -v other="$before" 'BEGIN { printf "%.2f", one / other }')"
         fi
         before=$took
@@ -74,10 +74,10 @@ round() {
 
 # The cells of the family $1. Ratios are judged where $2 is `judged`.
 doublings() {
-    local ratio index
+    local ratio index before=0
     for index in 0 1 2 3 4; do
         row+=" ${least[$1.$index]-}"
-        if [[ -n ${quotients[$1.$index]-} ]]; then
+        if [[ -n ${quotients[$1.$index]-} ]] && above "$before" 0.05; then
             ratio=$(median ${quotients[$1.$index]})
             row+=" ($ratio)"
             if [[ $2 == judged ]] && above "$ratio" 2.3; then
@@ -85,6 +85,7 @@ doublings() {
             fi
         fi
         row+=" |"
+        before=${least[$1.$index]-0}
     done
 }
 
