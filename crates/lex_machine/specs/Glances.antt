@@ -45,3 +45,7 @@ pub record Leads (M : Machine) (first : ℕ) (bytes : List ℕ) (w : Way) : Type
   pub asked : (i : ℕ) → 1 ≤ i → i < w.count → M.goes_on (walk M first (take i bytes)) ≡ true
   pub stops : M.goes_on w.state ≡ false
   pub gist_is : Gists M w.state w.gist
+
+-- of so many states no other than p leads to s by a byte
+abbrev pub OnlyBefore : Machine → ℕ → ℕ → ℕ → Type 0
+OnlyBefore M states s p = (q b : ℕ) → q < states → b < 256 → M.next q b ≡ s → q ≡ p

@@ -2,7 +2,7 @@
 ghost use Rattle.std.specs.Prelude.{◌≡◌, ℕ, ◌<◌, map, true, false, IfSome};
 ghost use Rattle.lex_semantics.specs.Machine.{Machine as MachineModel};
 ghost use Rattle.lex_machine.specs.Views.{statement_of, end_action_of, cut_of};
-ghost use Rattle.lex_machine.specs.Glances.{Leads, Gists};
+ghost use Rattle.lex_machine.specs.Glances.{Leads, Gists, OnlyBefore};
 ghost use Rattle.lex_machine.specs.Quiets.{NoneFits};
 ghost use Rattle.lex_machine.specs.Singles.{IsDropped, IsCopied, Singles};
 ghost use Rattle.lex_semantics.specs.MachineLaws.{MachineLaws, StaysBelow, NoReject, SomeReject};
@@ -85,6 +85,15 @@ pub trait Machine {
     {
         let _bytes = bytes;
         let _first = first;
+        None
+    }
+
+    /// The only state that leads to this one by a byte, where that is known.
+    fn only_before(&self, state: u32) -> Option<u32>
+        requires { state < states self.now }
+        ensures { IfSome result (OnlyBefore (machine self.now) (states self.now) state) }
+    {
+        let _state = state;
         None
     }
 

@@ -130,7 +130,7 @@ fn burst_by<M: Machine, K: Sink>(
             passed = passed.wrapping_add(left.len() - rest.len());
             continue 'turns;
         }
-        let longest = longest_match(machine, first, rest, way.count, near);
+        let longest = longest_match(machine, first, rest, way, near);
         if !names_rule(longest.gist) {
             break 'turns;
         }

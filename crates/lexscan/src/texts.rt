@@ -76,7 +76,7 @@ fn text_turn<M: Machine, K: Sink>(
 {
     let at = place.at;
     let near = near_match(machine, way);
-    let longest = longest_match(machine, first, &text[at..], way.count, near);
+    let longest = longest_match(machine, first, &text[at..], way, near);
     if !names_rule(longest.gist) {
         return stopped(held, place, false);
     }

@@ -1,13 +1,16 @@
 //! What the bytes of a match tell of it at a glance, and what its rule does then.
-ghost use Rattle.std.specs.Prelude.{◌≡◌, ℕ, ◌+◌, ◌-◌, ◌<◌, ◌≤◌, List, [], length, true, None, map, IfOk, IfSome};
+ghost use Rattle.std.specs.Prelude.{◌≡◌, ℕ, ◌+◌, ◌-◌, ◌<◌, ◌≤◌, ◌⊎◌, List, [], length, take, true, None, map, IfOk};
+ghost use Rattle.std.specs.Prelude.{IfSome};
+ghost use Rattle.lex_semantics.specs.Machine.{walk};
 ghost use Rattle.lex_io.specs.Sink.{Appended};
 ghost use Rattle.lex_machine.specs.Glances.{Leads};
+ghost use Rattle.lex_machine.specs.declared.glance.Gist.TheVariants.{NoRule};
 ghost use Rattle.lexscan_window.specs.Intakes.{sink_of, sink_name, can_write};
 ghost use Rattle.lexscan_window.specs.Ends.{SinkLeft};
 ghost use Rattle.lex_machine.specs.Views.{statement_of};
 ghost use Rattle.lexscan_window.specs.Acts.{said};
 ghost use Rattle.lexscan_matching.specs.Glanced.{names_rule, begun, all_said, all_begun, condition_after, written_by};
-ghost use Rattle.lexscan_matching.specs.Glanced.{IsGlancedMatch, IsLongestPart, IsNearMatch};
+ghost use Rattle.lexscan_matching.specs.Glanced.{IsGlancedMatch, IsLongestPart, IsNearMatch, NoneAfter};
 
 use lex_io::Sink;
 use lex_machine::{Gist, Machine, Statement, Way};
@@ -32,7 +35,7 @@ struct LongestPart {
 }
 
 /// The longest part of a walk that a rule takes, where the walk is gone over again.
-#[inline(never)]
+#[inline(always)]
 fn longest_part<M: Machine>(machine: &M, first: u32, bytes: &[u8]) -> LongestPart
     requires first { first < M.states machine.now }
     ensures part { IsLongestPart (M.machine machine.now) first bytes.now result }
@@ -54,12 +57,36 @@ fn longest_part<M: Machine>(machine: &M, first: u32, bytes: &[u8]) -> LongestPar
     longest
 }
 
+/// The same, where no rule takes all of the walk or all but one byte of it. The state before the last byte may tell it:
+/// by the only one that leads there. Else the walk is gone over again.
+#[inline(never)]
+fn farther_part<M: Machine>(machine: &M, first: u32, bytes: &[u8], before: u32) -> LongestPart
+    requires first { first < M.states machine.now }
+    requires some { 2 ≤ length bytes.now }
+    requires known_before { before < M.states machine.now }
+    requires before { before ≡ walk (M.machine machine.now) first (take (length bytes.now - 1) bytes.now) }
+    requires none { NoneAfter (M.machine machine.now) first bytes.now (length bytes.now - 2) (length bytes.now) }
+    ensures part { IsLongestPart (M.machine machine.now) first bytes.now result }
+    ensures known { result.state < M.states machine.now }
+{
+    if let Some(earlier) = machine.only_before(before) {
+        if !machine.accepts(earlier).is_empty() {
+            return LongestPart {
+                keep: bytes.len() - 2,
+                state: earlier,
+            };
+        }
+    }
+    longest_part(machine, first, bytes)
+}
+
 /// What the last two states of a walk tell of its match: the last where it accepts a rule, or else the one before it.
 #[inline(always)]
 pub fn near_match<'m, M: Machine>(machine: &'m M, way: Way<'m>) -> GlancedMatch<'m>
     requires known_before { way.before < M.states machine.now }
-    ensures { (first : ℕ) (bytes : List ℕ) → Leads (M.machine machine.now) first bytes way.entry
+    ensures near { (first : ℕ) (bytes : List ℕ) → Leads (M.machine machine.now) first bytes way.entry
         → IsNearMatch (M.machine machine.now) first bytes way.entry.count result }
+    ensures both { result.gist ≡ NoRule → (result.keep + 1 ≡ way.entry.count) ⊎ (way.entry.count ≤ 1) }
 {
     if matches!(way.gist, Gist::NoRule) && 1 < way.count {
         return GlancedMatch {
@@ -85,33 +112,35 @@ pub fn silent_part(near: GlancedMatch<'_>) -> Option<usize>
     }
 }
 
-/// What is told of the match of a walk over so many bytes: by its last two states, or, where it is a short one, by
-/// going over it again.
+/// What is told of the match of a walk: by its last two states, or, where it is a short one, by the only state that leads
+/// to the one before its last byte, or by going over it again.
 #[inline(always)]
 pub fn longest_match<'m, M: Machine>(
     machine: &'m M,
     first: u32,
     bytes: &[u8],
-    count: usize,
+    way: Way<'m>,
     near: GlancedMatch<'m>,
 ) -> GlancedMatch<'m>
     requires first { first < M.states machine.now }
-    requires count { count ≤ length bytes.now }
-    requires near { IsNearMatch (M.machine machine.now) first bytes.now count near }
-    ensures { IsGlancedMatch (M.machine machine.now) first bytes.now count result }
+    requires known_before { way.before < M.states machine.now }
+    requires leads { Leads (M.machine machine.now) first bytes.now way }
+    requires near { IsNearMatch (M.machine machine.now) first bytes.now way.count near }
+    requires both { near.gist ≡ NoRule → (near.keep + 1 ≡ way.count) ⊎ (way.count ≤ 1) }
+    ensures { IsGlancedMatch (M.machine machine.now) first bytes.now way.entry.count result }
 {
     if !matches!(near.gist, Gist::NoRule) {
         return near;
     }
     // A long walk is left to a turn, which marks what it has gone over.
-    if FEW < count {
+    if FEW < way.count {
         return GlancedMatch {
             gist: Gist::Any,
-            keep: count,
+            keep: way.count,
         };
     }
     if near.keep != 1 {
-        let longest = longest_part(machine, first, &bytes[..count]);
+        let longest = farther_part(machine, first, &bytes[..way.count], way.before);
         if longest.keep != 0 {
             return GlancedMatch {
                 gist: machine.gist(longest.state),

@@ -12,13 +12,13 @@ use Rattle.lextab_packed.specs.declared.parts.Row.{Row}
 use Rattle.lextab_packed.specs.declared.parts.TableParts.{TableParts}
 use Rattle.lextab_packed.proofs.Places.{row_is, slot_is, class_below, step_is}
 
-slots_low : (cs ns : List ℕ) (i : ℕ) → i < length (slots_of cs ns) → (i < length cs) × (i < length ns)
+pub slots_low : (cs ns : List ℕ) (i : ℕ) → i < length (slots_of cs ns) → (i < length cs) × (i < length ns)
 slots_low [] ns i h = absurd (omega (arith, h))
 slots_low (c ∷ cs) [] i h = absurd (omega (arith, h))
 slots_low (c ∷ cs) (n ∷ ns) zero h = (omega arith, omega arith)
 slots_low (c ∷ cs) (n ∷ ns) (suc i) h = let k = slots_low cs ns i (omega (arith, h)) in (omega (arith, k.0), omega (arith, k.1))
 
-slots_at : (cs ns : List ℕ) (i : ℕ) → i < length (slots_of cs ns) → slice_index_or (slots_of cs ns) i no_slot ≡ record { check = slice_index cs i; next = slice_index ns i }
+pub slots_at : (cs ns : List ℕ) (i : ℕ) → i < length (slots_of cs ns) → slice_index_or (slots_of cs ns) i no_slot ≡ record { check = slice_index cs i; next = slice_index ns i }
 slots_at [] ns i h = absurd (omega (arith, h))
 slots_at (c ∷ cs) [] i h = absurd (omega (arith, h))
 slots_at (c ∷ cs) (n ∷ ns) zero h = refl

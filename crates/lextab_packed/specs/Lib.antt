@@ -15,4 +15,5 @@ pub mod Inverse
 pub mod Spreading
 pub mod Passes
 pub mod Rejections
+pub mod Predecessors
 pub mod Quiets

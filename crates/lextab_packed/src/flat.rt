@@ -8,6 +8,7 @@ ghost use Rattle.lextab_packed.specs.Checks.{IsTable};
 ghost use Rattle.lextab_packed.specs.Flats.{as_target, marked_target, kind_of};
 ghost use Rattle.lex_machine.specs.Singles.{IsDropped, IsCopied};
 ghost use Rattle.lextab_packed.specs.Leaps.{OthersStay};
+ghost use Rattle.lextab_packed.specs.Predecessors.{IsSource};
 ghost use Rattle.lextab_packed.specs.Singles.{OthersDrop, AllTellSingles, AllTellSingles-prop, FirstAre};
 ghost use Rattle.lextab_packed.specs.Runs.{Stays, IsRun};
 ghost use Rattle.lextab_packed.specs.declared.kinds.Kind.{Kind};
@@ -20,6 +21,7 @@ use crate::laying::laid_out;
 use crate::leaps::{Leavers, leaps_of, pass_over};
 use crate::parts::TableParts;
 use crate::passes::going_on_soon;
+use crate::predecessors::{Sources, sources_of};
 use crate::rows::marked_rows;
 use crate::singles::{Most, is_copied, is_dropped, most_of};
 use crate::steps::{STOP, STOP_ECHO, STOP_OTHER, STOP_SILENT, mark_rows, marks_of};
@@ -38,6 +40,7 @@ pub struct Flat {
     kinds: Vec<Kind>,
     leaps: Vec<Option<Leavers>>,
     most: Vec<Most>,
+    sources: Vec<Sources>,
     ghost sizes: { length rows.items ≡ 256 * length tables.parts.rows.items },
     ghost targets: { (s b : ℕ) → s < length tables.parts.rows.items → b < 256
         → slice_index rows.items (256 * s + b) ≡ marked_target tables s b },
@@ -50,6 +53,9 @@ pub struct Flat {
     ghost most_column: { length most.items ≡ (table_machine tables).conditions },
     ghost most_told: { AllTellSingles (table_machine tables) rows.items most.items } by { AllTellSingles-prop (table_machine tables)
         rows.items most.items },
+    ghost source_column: { length sources.items ≡ length tables.parts.rows.items },
+    ghost source_told: { (s b : ℕ) → s < length tables.parts.rows.items → b < 256
+        → IsSource sources.items (step_of (table_of tables.parts) s b) s },
 }
 
 impl Flat {
@@ -117,12 +123,14 @@ impl Flat {
     {
         let leaps = leaps_of(alloc, &rows, kinds.len())?;
         let most = most_of(alloc, &tables, &rows)?;
+        let sources = sources_of(alloc, &tables.parts)?;
         Ok(Flat {
             tables,
             rows,
             kinds,
             leaps,
             most,
+            sources,
         })
     }
 
@@ -341,6 +349,14 @@ impl Machine for Flat {
             }
         }
         None
+    }
+
+    /// The only state that leads to this one by a byte, where it was seen that no other does.
+    fn only_before(&self, state: u32) -> Option<u32> {
+        match self.sources[state as usize] {
+            Sources::Only(source) => Some(source),
+            Sources::Unknown | Sources::Several => None,
+        }
     }
 
     /// What is told at a glance of what the first rule does that the state accepts.

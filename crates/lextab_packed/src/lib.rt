@@ -15,6 +15,7 @@
 //! - `kinds`: what is known of the first rule that each state accepts.
 //! - `leaps`: states that at most three bytes lead away from; runs of the others are passed 16 bytes at a time.
 //! - `singles`: conditions in which most bytes of a text are matches by themselves, which are dropped or copied.
+//! - `predecessors`: of each state the only one that leads to it by a byte, where no other does.
 //! - `flat`: a table with a row of 256 marked targets for each state, so that a step is one look-up. It is the machine
 //!   of a scan.
 //! - `quiet`: a flat table in which rules that do nothing but REJECT fit no text, so that their matches are not looked
@@ -48,6 +49,7 @@ mod live;
 mod machine;
 mod parts;
 mod passes;
+mod predecessors;
 mod quiet;
 mod rows;
 mod singles;

@@ -177,6 +177,11 @@ impl Machine for Quiet<'_> {
         self.flat.way(first, bytes)
     }
 
+    /// The only state that leads to this one by a byte, as the table tells it.
+    fn only_before(&self, state: u32) -> Option<u32> {
+        self.flat.only_before(state)
+    }
+
     /// What is told at a glance of what the first rule does that the state accepts, as the table tells it.
     #[inline(always)]
     fn gist(&self, state: u32) -> Gist<'_> {

@@ -112,6 +112,11 @@ impl Machine for Rules {
         self.flat().way(first, bytes)
     }
 
+    /// The only state that leads to this one by a byte, where that is known.
+    fn only_before(&self, state: u32) -> Option<u32> {
+        self.flat().only_before(state)
+    }
+
     /// What is told at a glance of what the first rule does that the state accepts.
     #[inline(always)]
     fn gist(&self, state: u32) -> Gist<'_> {

@@ -15,4 +15,6 @@ invariant_of-result c = record {
       subst (λ r. OthersStay r (256 * s) l) c.deref.ensures.value (c.in_ok-leaps.ensures.each s (omega (arith, known, c.len.ensures, c.requires.column)) l is);
   most_column = c.in_ok-most.ensures.len;
   most_told = λ k m is. subst (λ r. TellsSingles (table_machine c.args.tables) r k m) c.deref-2.ensures.value (c.in_ok-most.ensures.each k m is);
+  source_column = c.in_ok-sources.ensures.len;
+  source_told = c.in_ok-sources.ensures.each;
 }
