@@ -1,5 +1,5 @@
 -- What is told of a match, and what several statements do.
-use Rattle.std.proofs.Common.{◌≡◌, ℕ, ◌+◌, ◌<◌, ◌≤◌, true, false, List, [], ◌∷◌, ◌++◌, length, take, get_or, inl, inr, refl, sym, ◌∙◌, ap, subst, arith}
+use Rattle.std.proofs.Common.{◌≡◌, ℕ, zero, suc, ◌+◌, ◌-◌, ◌<◌, ◌≤◌, true, false, List, [], ◌∷◌, ◌++◌, length, take, get_or, inl, inr, refl, sym, ◌∙◌, ap, subst, arith}
 use Rattle.std.proofs.lemmas.Bool.{cases_lt}
 use Rattle.std.proofs.lemmas.List.{append-nil, append_assoc, take-take, length-take-le}
 use Rattle.lex_semantics.specs.Text.{BeginsWith}
@@ -10,7 +10,8 @@ use Rattle.lex_semantics.proofs.MachineLaws.{walk-append}
 use Rattle.lex_semantics.proofs.Actions.{BeginsBelow}
 use Rattle.lex_machine.specs.declared.glance.Gist.{Gist}
 use Rattle.lex_machine.specs.declared.glance.Gist.TheVariants.{Any, NoRule, Silent, Echo, Print, Begin, Several}
-use Rattle.lex_machine.specs.Glances.{Gists, are_simple}
+use Rattle.lex_semantics.specs.MachineLaws.{StaysBelow}
+use Rattle.lex_machine.specs.Glances.{Gists, OnlyBefore, are_simple}
 use Rattle.lexscan_window.specs.declared.act.ActionState.{ActionState}
 use Rattle.lexscan_window.specs.declared.act.ActionFlow.{ActionFlow}
 use Rattle.lexscan_matching.specs.declared.glanced.GlancedMatch.{GlancedMatch}
@@ -62,6 +63,25 @@ module _ (M : Machine) (first : ℕ) (bytes : List ℕ) (n : ℕ) (inside : n �
 
   pub part_none : longest.keep ≡ 0 → NoneAfter M first bytes 0 n
   part_none e = none_front M first bytes 0 n (subst (λ few. NoneAfter M first (take n bytes) few n) e none_in)
+
+-- the only state that leads to the one before the last byte of a walk is the one before that
+module _ (M : Machine) (states first : ℕ) (bytes : List ℕ) (below : StaysBelow M states) (known : first < states) (small : (i : ℕ) → get_or bytes i 0 < 256) where
+  known_after : (n : ℕ) → n ≤ length bytes → walk M first (take n bytes) < states
+  known_after zero le = known
+  known_after (suc n) le =
+      let e : n + 1 ≡ suc n = omega arith in
+      subst (λ s. s < states) (sym (walk_more M first bytes n (omega (arith, le))) ∙ ap (λ k. walk M first (take k bytes)) e)
+      (below.next (walk M first (take n bytes)) (get_or bytes n 0) (known_after n (omega (arith, le))) (small n))
+
+  pub two_before : (before earlier : ℕ) → 2 ≤ length bytes → before ≡ walk M first (take (length bytes - 1) bytes) → OnlyBefore M states before earlier →
+      (earlier ≡ walk M first (take (length bytes - 2) bytes)) × (earlier < states)
+  two_before before earlier some is only =
+      let n : ℕ = length bytes - 2 in
+      let s : ℕ = walk M first (take n bytes) in
+      let e : n + 1 ≡ length bytes - 1 = omega (arith, some) in
+      let low : s < states = known_after n (omega arith) in
+      let same : s ≡ earlier = only s (get_or bytes n 0) low (small n) (sym (walk_more M first bytes n (omega (arith, some))) ∙ ap (λ k. walk M first (take k bytes)) e ∙ sym is) in
+      (sym same, subst (λ k. k < states) same low)
 
 -- the statements that are told are simple
 pub gist_simple : (M : Machine) (s : ℕ) (g : Gist) → names_rule g ≡ true → Gists M s g → are_simple (statements_in g) ≡ true

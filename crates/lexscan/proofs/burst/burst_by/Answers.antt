@@ -33,7 +33,7 @@ turns-smaller-in-Some-silent_part g c =
     let bytes = is_text_from text (λ k. let f = c.type_inv.text k in omega (arith, f)) in
     let longest : GlancedMatch = record { gist = Silent; keep = c.in-Some-silent_part.keep } in
     let tells = subst (λ (told : GlancedMatch). IsGlancedMatch M c.turns.first c.turns.rest.now c.in-Some.way.count told) c.in-Some-silent_part.ensures
-    (inl (c.near_match-near.ensures c.turns.first c.turns.rest.now c.in-Some.ensures.way)) in
+    (inl (c.near_match-near.ensures.near c.turns.first c.turns.rest.now c.in-Some.ensures.way)) in
     let some = (Pass.keeps M laws text bytes g.K.Sink.wrote g.met.K.Sink.wrote_none g.met.K.Sink.wrote_more c.args.outlet.now.sink.now c.turns.outlet.sink.now c.args.held c.args.place.condition c.args.place.line_start c.turns.rest.now c.turns.unasked c.turns.condition c.turns.first c.turns.invariant.place c.in-Some.way longest c.in-Some.ensures.way tells refl).0 in
     let line = ap (λ n. nat_eq n 10) (sym (get_or-take longest.keep c.turns.rest.now (longest.keep - 1) 0 (omega (arith, some)))) in
     let first = c.start_at-first-in-Some-silent_part.ensures M (g.M.Machine.states c.args.machine.now) c.turns.condition c.turns.invariant.starts in
@@ -51,7 +51,7 @@ turns-preserved-in-Some-silent_part g c =
     let bytes = is_text_from text (λ k. let f = c.type_inv.text k in omega (arith, f)) in
     let longest : GlancedMatch = record { gist = Silent; keep = c.in-Some-silent_part.keep } in
     let tells = subst (λ (told : GlancedMatch). IsGlancedMatch M c.turns.first c.turns.rest.now c.in-Some.way.count told) c.in-Some-silent_part.ensures
-    (inl (c.near_match-near.ensures c.turns.first c.turns.rest.now c.in-Some.ensures.way)) in
+    (inl (c.near_match-near.ensures.near c.turns.first c.turns.rest.now c.in-Some.ensures.way)) in
     let some = (Pass.keeps M laws text bytes g.K.Sink.wrote g.met.K.Sink.wrote_none g.met.K.Sink.wrote_more c.args.outlet.now.sink.now c.turns.outlet.sink.now c.args.held c.args.place.condition c.args.place.line_start c.turns.rest.now c.turns.unasked c.turns.condition c.turns.first c.turns.invariant.place c.in-Some.way longest c.in-Some.ensures.way tells refl).0 in
     let line = ap (λ n. nat_eq n 10) (sym (get_or-take longest.keep c.turns.rest.now (longest.keep - 1) 0 (omega (arith, some)))) in
     let first = c.start_at-first-in-Some-silent_part.ensures M (g.M.Machine.states c.args.machine.now) c.turns.condition c.turns.invariant.starts in

@@ -10,7 +10,7 @@ use Rattle.lexscan_matching.proofs.glanced.longest_match.Goals as goal
 
 pub returns-then-longest-ne0 : goal.returns-then-longest-ne0
 returns-then-longest-ne0 g c =
-    Tell.part_tells (g.M.Machine.machine c.args.machine.now) c.args.first c.args.bytes.now c.args.count c.requires.count c.longest_part-longest.result c.longest_part-longest.ensures.part
+    Tell.part_tells (g.M.Machine.machine c.args.machine.now) c.args.first c.args.bytes.now c.args.way.count c.requires.leads.inside c.farther_part-longest.result c.farther_part-longest.ensures.part
     c.gist.result (omega (arith, c.if-longest-ne0.true)) c.gist.ensures
 
 pub returns : goal.returns
@@ -33,11 +33,11 @@ returns g c = inr (inl (refl, refl, none))
         subst (λ (gist : Gist). Gists M (walk M c.args.first (take 1 bytes)) gist) no_rule
         (subst (λ k. Gists M (walk M c.args.first (take k bytes)) c.args.near.gist) one c.requires.near.3)
 
-    none : NoneAfter M c.args.first bytes 0 c.args.count
+    none : NoneAfter M c.args.first bytes 0 c.args.way.count
     none = elim c.if-near-ne1.branch [
-      | then-near-ne1+else-longest-ne0 w ↦ Tell.part_none M c.args.first bytes c.args.count c.requires.count w.longest_part-longest.result w.longest_part-longest.ensures.part (omega (arith, w.if-longest-ne0.false))
+      | then-near-ne1+else-longest-ne0 w ↦ Tell.part_none M c.args.first bytes c.args.way.count c.requires.leads.inside w.farther_part-longest.result w.farther_part-longest.ensures.part (omega (arith, w.if-longest-ne0.false))
       | else-near-ne1 w ↦ (
           let one : c.args.near.keep ≡ 1 = omega (arith, w.if-near-ne1.false) in
-          Tell.none_first M c.args.first bytes c.args.count (subst (λ k. NoneAfter M c.args.first bytes k c.args.count) one c.requires.near.2) (first_none one)
+          Tell.none_first M c.args.first bytes c.args.way.count (subst (λ k. NoneAfter M c.args.first bytes k c.args.way.count) one c.requires.near.2) (first_none one)
           )
     ]
