@@ -112,8 +112,8 @@ pub fn silent_part(near: GlancedMatch<'_>) -> Option<usize>
     }
 }
 
-/// What is told of the match of a walk: by its last two states, or, where it is a short one, by the only state that leads
-/// to the one before its last byte, or by going over it again.
+/// What is told of the match of a walk: by its last two states, or, where it is a short one, by the only state that
+/// leads to the first of these, or by going over it again.
 #[inline(always)]
 pub fn longest_match<'m, M: Machine>(
     machine: &'m M,

@@ -4,8 +4,8 @@
 //! - `pick`: finds the longest match of a turn by these, or by one more walk, and carries it out.
 //! - `looking`: looks ahead with the state after each byte, where rules have REJECT.
 //! - `descent`: REJECT: tries the matches from the longest down, up to the first whose action does not reject.
-//! - `glanced`: for `burst` of lexscan: a match that is told by its last state, by the one before it or by a short walk,
-//!   and what it does.
+//! - `glanced`: for `burst` of lexscan: a match that is told by one of the last three states of its walk or by one more
+//!   short walk, and what it does.
 //! - `plan`: for `apart` of lexscan: what a match does whose rule has trailing context, does yymore beside simple
 //!   statements, or rejects the match after them.
 //! - `back`: a match over many bytes that an earlier match has read ahead already; the walk stops where a mark says
@@ -22,9 +22,11 @@
 //!   kept.
 //! - A burst goes back over at most 32 bytes to find the last accepting state. Where there are more it ends, so that no
 //!   byte is walked over more than a fixed number of times.
+//! - A walk keeps its last two states alone. The one before them is the only one that leads to the first of them, where
+//!   the machine knows that it is (`only_before`).
 //! - A rule that does nothing is asked for first: its match changes three numbers, which stay in registers.
-//! - What a burst asks for of a long walk is answered in two numbers (`longest_part`). Where an answer goes through memory,
-//!   the compiler asks of each match twice what its rule does.
+//! - What a burst asks for of a long walk is answered in two numbers (`farther_part`). Where an answer goes through
+//!   memory, the compiler asks of each match twice what its rule does.
 //! - Where some rule has REJECT there are no marks. Its matches are tried one after another, which may take time in
 //!   the square of the text, whatever is known of walks. A machine may leave out the rules that do nothing but REJECT.
 //! - A walk marks the last state on its way where a rule may fit, or that there is none, as the machine knows it

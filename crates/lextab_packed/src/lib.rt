@@ -22,9 +22,9 @@
 //!   for.
 //!
 //! It promises that a table keeps to `IsTable`, and is a machine by its laws; and that the flat one is the same
-//! machine. How live states are found may change alone. So may the marks of `flat`, the kinds, and what is told of singles,
-//! under the trait's contract: they are how a scan sees at a glance what a match does. The parts may not: they are the
-//! fields of the file.
+//! machine. How live states are found may change alone. So may the marks of `flat`, the kinds, and what is told of
+//! singles and predecessors, under the trait's contract: they are how a scan sees at a glance what a match does. The
+//! parts may not: they are the fields of the file.
 //!
 //! Decided here:
 //! - Which states are live is found backwards: from the states that accept to those that lead to them, each taken once.
