@@ -16,6 +16,7 @@ use lexauto_positions::Walked;
 use lexre_bytes::ByteSet;
 use std::alloc::{AllocError, AllocFailed, Global};
 use std::collections::BTreeMap;
+use std::rc::Rc;
 
 /// Why the keys that are reached were not all found.
 #[derive(Drop)]
@@ -268,7 +269,7 @@ fn target_above(next: &[u32]) -> u32 {
 /// What keys tell, in their order: the rules that each accepts, and whether something follows it.
 #[derive(Drop)]
 struct Told {
-    accepts: Vec<Vec<u32>>,
+    accepts: Vec<Rc<Vec<u32>>>,
     goes_on: Vec<bool>,
 }
 
@@ -290,7 +291,8 @@ impl Told {
     {
         let key = unpack_key(alloc, kept)?;
         let walked = moves.walk(alloc, &key, is_bits(kept))?;
-        self.accepts.push(walked.accepted)?;
+        let accepted = Rc::new(alloc, walked.accepted)?;
+        self.accepts.push(accepted)?;
         self.goes_on.push(!walked.followers.is_empty())?;
         Ok(Following {
             changes: moves.changes(&walked.followers),
@@ -305,7 +307,7 @@ impl Told {
 pub(crate) struct Explored {
     pub keys: Vec<Vec<u32>>,
     pub next: Vec<u32>,
-    pub accepts: Vec<Vec<u32>>,
+    pub accepts: Vec<Rc<Vec<u32>>>,
     pub goes_on: Vec<bool>,
 }
 
