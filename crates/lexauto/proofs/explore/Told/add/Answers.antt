@@ -1,4 +1,4 @@
-use Rattle.std.proofs.Common.{rules, ◌≡◌, ◌==◌, not, Bool, [], ◌∷◌, ◌++◌, length, sym, subst, ap, ◌∙◌, ℕ, Vec, Global}
+use Rattle.std.proofs.Common.{rules, ◌≡◌, ◌==◌, not, Bool, [], ◌∷◌, ◌++◌, length, sym, subst, ap, ◌∙◌}
 use Rattle.lex_semantics.specs.Reading.{is_empty}
 use Rattle.lexauto_positions.specs.Cursors.{Increases}
 use Rattle.lexauto.specs.Sets.{lasts_in}
@@ -25,7 +25,7 @@ returns g c =
     let empty : c.is_empty.result ≡ (length followers == 0) = search rules in
     let some : not (length followers == 0) ≡ not (is_empty followers) = some_is followers in
     let goes : not c.is_empty.result ≡ goes_by follow kept = ap not empty ∙ some ∙ ap (λ l. not (is_empty l)) next in
-    let shared : c.in_ok-accepted.accepted.value.items ≡ accept kept = ap (λ (v : Vec ℕ Global). v.items) c.in_ok-accepted.ensures.ok ∙ accepted in
+    let shared : c.in_ok-accepted.accepted.value.items ≡ accept kept = c.in_ok-accepted.ensures ∙ accepted in
     let pushed : keys_in c.push.new.self.items ≡ keys_in (accepts ++ c.in_ok-accepted.accepted ∷ []) = ap keys_in c.in_ok-push.ensures.items in
     record {
       followers = next;
