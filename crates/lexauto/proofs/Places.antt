@@ -7,6 +7,7 @@ use Rattle.std.specs.Str.{bytes_eq}
 use Rattle.std.specs.BTreeMap.{BTreeMap, UpdatesBy}
 use Rattle.std.specs.Map.{lookup, IsKeyTest, AreApart, KeepsOthers}
 use Rattle.std.proofs.lemmas.Bool.{cases_Bool, cond-true, cond-false}
+use Rattle.std.specs.declared.rc.Rc.{Rc}
 use Rattle.lexauto.specs.Keys.{Key, At, Absent, Finds, look}
 
 apart : (bs cs ks : List ℕ) → bytes_eq bs cs ≡ false → bytes_eq bs ks ≡ true → bytes_eq cs ks ≡ false
@@ -75,10 +76,10 @@ finds_more f g keys k d n e = record {
   ];
 }
 
-pub keys_of_push : (vs : List (Vec ℕ Global)) (v : Vec ℕ Global) → map (λ v. v.items) (vs ++ v ∷ []) ≡ map (λ v. v.items) vs ++ v.items ∷ []
+pub keys_of_push : (vs : List (Rc (Vec ℕ Global) Global)) (v : Rc (Vec ℕ Global) Global) → map (λ v. v.value.items) (vs ++ v ∷ []) ≡ map (λ v. v.value.items) vs ++ v.value.items ∷ []
 keys_of_push [] v = refl
-keys_of_push (x ∷ vs) v = ap (λ ks. x.items ∷ ks) (keys_of_push vs v)
+keys_of_push (x ∷ vs) v = ap (λ ks. x.value.items ∷ ks) (keys_of_push vs v)
 
-pub keys_length : (vs : List (Vec ℕ Global)) → length (map (λ v. v.items) vs) ≡ length vs
+pub keys_length : (vs : List (Rc (Vec ℕ Global) Global)) → length (map (λ v. v.value.items) vs) ≡ length vs
 keys_length [] = refl
 keys_length (x ∷ vs) = ap suc (keys_length vs)

@@ -4,6 +4,7 @@ use Rattle.std.proofs.Common.{Global}
 use Rattle.std.specs.BTreeMap.{BTreeMap, get_by}
 use Rattle.std.specs.Cmp.Lexicographic.{slice_cmp}
 use Rattle.std.specs.Ordering.{nat_cmp}
+use Rattle.std.specs.declared.rc.Rc.{Rc}
 
 abbrev pub Key : Type 0
 Key = List ℕ
@@ -23,8 +24,8 @@ Apart keys = (i j : ℕ) (k : Key) → At keys i k → At keys j k → i ≡ j
 abbrev pub Found : List Key → Key → List Key → Type 0
 Found old k new = ((i : ℕ) × At old i k × (new ≡ old)) ⊎ (Absent old k × (new ≡ old ++ k ∷ []))
 
-abbrev pub keys_in : List (Vec ℕ Global) → List Key
-keys_in vs = map (λ v. v.items) vs
+abbrev pub keys_in : List (Rc (Vec ℕ Global) Global) → List Key
+keys_in vs = map (λ v. v.value.items) vs
 
 -- what the map has at a list
 abbrev pub look : BTreeMap (Vec ℕ Global) ℕ → Key → Option ℕ

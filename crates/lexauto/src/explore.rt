@@ -16,6 +16,7 @@ use lexauto_positions::Walked;
 use lexre_bytes::ByteSet;
 use std::alloc::{AllocError, AllocFailed, Global};
 use std::collections::BTreeMap;
+use std::rc::Rc;
 
 /// Why the keys that are reached were not all found.
 #[derive(Drop)]
@@ -265,10 +266,26 @@ fn target_above(next: &[u32]) -> u32 {
     next[next.len() - 256]
 }
 
+/// A list of rules as it is kept: the last one again, where both are equal, so that it is kept once.
+fn kept_list(
+    alloc: Global,
+    before: &[Rc<Vec<u32>>],
+    list: Vec<u32>,
+) -> Result<Rc<Vec<u32>>, AllocError>
+    ensures { IfOk result (λ rc. rc.value.items ≡ list.items) }
+{
+    if let Some(last) = before.last() {
+        if last.as_slice() == list.as_slice() {
+            return Rc::clone(last);
+        }
+    }
+    Ok(Rc::new(alloc, list)?)
+}
+
 /// What keys tell, in their order: the rules that each accepts, and whether something follows it.
 #[derive(Drop)]
 struct Told {
-    accepts: Vec<Vec<u32>>,
+    accepts: Vec<Rc<Vec<u32>>>,
     goes_on: Vec<bool>,
 }
 
@@ -290,7 +307,8 @@ impl Told {
     {
         let key = unpack_key(alloc, kept)?;
         let walked = moves.walk(alloc, &key, is_bits(kept))?;
-        self.accepts.push(walked.accepted)?;
+        let accepted = kept_list(alloc, &self.accepts, walked.accepted)?;
+        self.accepts.push(accepted)?;
         self.goes_on.push(!walked.followers.is_empty())?;
         Ok(Following {
             changes: moves.changes(&walked.followers),
@@ -305,7 +323,7 @@ impl Told {
 pub(crate) struct Explored {
     pub keys: Vec<Vec<u32>>,
     pub next: Vec<u32>,
-    pub accepts: Vec<Vec<u32>>,
+    pub accepts: Vec<Rc<Vec<u32>>>,
     pub goes_on: Vec<bool>,
 }
 

@@ -21,6 +21,7 @@ use lexauto_dfa::{Dfa, Parts};
 use lexauto_positions::count_positions;
 use lexspec::Spec;
 use std::alloc::Global;
+use std::rc::Rc;
 
 /// How large an automaton may become: at most 16,384 positions and 8,192 states.
 #[derive(Clone, Copy, Debug, PartialEq, Eq)]
@@ -36,7 +37,7 @@ pub struct Limits {
 struct Survey {
     keys: Vec<Vec<u32>>,
     next: Vec<u32>,
-    accepts: Vec<Vec<u32>>,
+    accepts: Vec<Rc<Vec<u32>>>,
     goes_on: Vec<bool>,
     starts: Vec<u32>,
     line_starts: Vec<u32>,

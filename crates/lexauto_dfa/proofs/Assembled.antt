@@ -4,6 +4,7 @@ use Rattle.std.proofs.Common.{inl, inr, ◌≡◌, ◌↔◌, ℕ, ◌+◌, ◌*
 use Rattle.std.proofs.lemmas.List.{length-map}
 use Rattle.std.proofs.lemmas.Bool.{cases_Bool, cond-false, ltb-true}
 use Rattle.std.specs.Prelude.{slice_index, nat_lt}
+use Rattle.std.specs.declared.rc.Rc.{Rc}
 use Rattle.lex_semantics.specs.Text.{Among, Ascending}
 use Rattle.lexauto_dfa.specs.Invariant.{IsAutomaton}
 use Rattle.lex_semantics.specs.Spec.{Spec}
@@ -63,7 +64,7 @@ module _ (p : Parts) (a : IsAutomaton p) (classes : List ℕ) (cl : AreClasses (
       rows = subst (λ (xs : List ℕ). AreRows classes p.next.items t.members.items xs) (sym i.next) m.rows_are;
       called = subst (λ (ys : List ℕ). AreCalled (length (by_turns q.starts.items q.line_starts.items)) t.members.items (by_turns q.starts.items q.line_starts.items ++ ys)) (sym i.next)
           (subst (λ (xs : List ℕ). AreCalled (length xs) t.members.items (xs ++ t.table.items)) (sym i.starts) m.called);
-      lists_len = length-map q.accepts.items (λ (v : Vec ℕ Global). v.items) ∙ i.lists_len;
+      lists_len = length-map q.accepts.items (λ (v : Rc (Vec ℕ Global) Global). v.value.items) ∙ i.lists_len;
       lists = i.lists;
     }
 

@@ -5,6 +5,7 @@ use Rattle.std.specs.Prelude.{◌≡◌, ◌≢◌, ◌↔◌, ℕ, zero, suc, �
 use Rattle.std.proofs.Common.{inl, inr, refl, ap, sym, subst, ◌∙◌, arith, Global}
 use Rattle.std.proofs.lemmas.Bool.{cases_Bool, cases_lt, cond-true, cond-false}
 use Rattle.std.proofs.lemmas.List.{length-map}
+use Rattle.std.specs.declared.rc.Rc.{Rc}
 use Rattle.lex_semantics.specs.Text.{Among, Ascending}
 use Rattle.lex_semantics.specs.Spec.{Spec, Rule, statements_at}
 use Rattle.lex_semantics.specs.Sound.{IsSound}
@@ -80,7 +81,7 @@ automaton_of_laws p S count laws reached some few lines rows lists starts_known 
 -- past the last state nothing is accepted, and all leads to the dead state
 module _ (p : Parts) (a : IsAutomaton p) where
   past_accepts : (s : ℕ) → states p ≤ s → accepts p s ≡ []
-  past_accepts s h = past_end (lists_in p) s [] (let n = length-map p.accepts.items (λ (v : Vec ℕ Global). v.items) in let l = a.lists in omega (arith, n, l, h))
+  past_accepts s h = past_end (lists_in p) s [] (let n = length-map p.accepts.items (λ (v : Rc (Vec ℕ Global) Global). v.value.items) in let l = a.lists in omega (arith, n, l, h))
 
   past_goes_on : (s : ℕ) → states p ≤ s → goes_on p s ≡ false
   past_goes_on s h = past_end p.goes_on.items s false h

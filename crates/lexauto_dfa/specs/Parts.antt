@@ -19,7 +19,7 @@ next p s b = cond (nat_lt b 256) (slice_index p.next.items (s * 256 + b)) 0
 
 -- the rules that a state accepts
 abbrev pub accepts : Parts → ℕ → List ℕ
-accepts p s = slice_index_or (map (λ v. v.items) p.accepts.items) s []
+accepts p s = slice_index_or (map (λ v. v.value.items) p.accepts.items) s []
 
 abbrev pub goes_on : Parts → ℕ → Bool
 goes_on p s = slice_index_or p.goes_on.items s false
@@ -32,7 +32,7 @@ IsReachedIn p s =
 
 -- Names that proofs have for the lists of accepted rules, and for the state after a word.
 abbrev pub lists_in : Parts → List (List ℕ)
-lists_in p = map (λ v. v.items) p.accepts.items
+lists_in p = map (λ v. v.value.items) p.accepts.items
 
 abbrev pub after : Parts → ℕ → List ℕ → ℕ
 after p s w = fold (next p) s w

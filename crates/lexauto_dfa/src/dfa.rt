@@ -2,6 +2,8 @@
 ghost use Rattle.std.specs.Prelude.{◌≡◌, ◌≢◌, ◌<◌, ◌≤◌, ◌↔◌, ℕ, [], length, IsTrue};
 ghost use Rattle.lexauto_dfa.specs.Invariant.{IsAutomaton, IsAutomaton-prop};
 
+use std::rc::Rc;
+
 /// The lists of which an automaton is made. A state is its number, and state 0 is the dead state.
 #[derive(Drop)]
 pub struct Parts {
@@ -11,8 +13,8 @@ pub struct Parts {
     pub line_starts: Vec<u32>,
     /// For each state the next states by the bytes from 0 to 255, one row after another.
     pub next: Vec<u32>,
-    /// For each state the rules that it accepts, ascending.
-    pub accepts: Vec<Vec<u32>>,
+    /// For each state the rules that it accepts, ascending. Equal lists may be kept once.
+    pub accepts: Vec<Rc<Vec<u32>>>,
     /// For each state whether some word that is not empty leads from it to a state that accepts.
     pub goes_on: Vec<bool>,
 }

@@ -48,7 +48,7 @@ module _ (p : Parts) (automaton : IsAutomaton p) (S : Spec) (count : conditions 
   among_known : (s i : ℕ) → Among (accepts p s) i → s < states p
   among_known s i h = elim (cases_lt s (states p)) [
     | inl y ↦ y
-    | inr n ↦ absurd (subst (λ l. Among l i) (past_end (lists_in p) s [] (omega (arith, n, automaton.lists, length-map p.accepts.items (λ v. v.items)))) h)
+    | inr n ↦ absurd (subst (λ l. Among l i) (past_end (lists_in p) s [] (omega (arith, n, automaton.lists, length-map p.accepts.items (λ v. v.value.items)))) h)
   ]
 
   is_known : (i : ℕ) → IsAccepted (machine_in p S) S i → i < length S.rules

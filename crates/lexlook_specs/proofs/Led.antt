@@ -50,7 +50,7 @@ led_from p s n w some few (y, (c, line, known, e), text, is) =
 
 past_accepts : (p : Parts) → IsAutomaton p → (s : ℕ) → states p ≤ s → accepts p s ≡ []
 past_accepts p a s h =
-    let n = length-map p.accepts.items (λ v. v.items) in
+    let n = length-map p.accepts.items (λ v. v.value.items) in
     let m = a.lists in
     past_end (lists_in p) s [] (omega (arith, n, m, h))
 

@@ -76,7 +76,7 @@ module _ (p : Parts) (a : IsAutomaton p) (S : S.Spec) (laws : MachineLaws (machi
   bases_len = packed_as.rows.bases_len ∙ sym packed_as.rows.defaults_len
 
   lists_len : length (lists_in p) ≡ length q.defaults
-  lists_len = length-map p.accepts.items (λ v. v.items) ∙ a.lists ∙ sym packed_as.rows.defaults_len
+  lists_len = length-map p.accepts.items (λ v. v.value.items) ∙ a.lists ∙ sym packed_as.rows.defaults_len
 
   nexts_len : length q.next ≡ length q.check
   nexts_len = same_size (states p) q.class_count q.bases (length q.next) (length q.check) packed_as.rows.next_len packed_as.rows.check_len

@@ -28,7 +28,7 @@ module _ (p : Parts) (a : IsAutomaton p) (S : Spec) (count : conditions p ≡ le
     | inl y ↦ y
     | inr n ↦ absurd
         (subst (λ l. Among l i)
-        (past_end (lists_in p) s [] (omega (arith, n, a.lists, length-map p.accepts.items (λ v. v.items)))) h)
+        (past_end (lists_in p) s [] (omega (arith, n, a.lists, length-map p.accepts.items (λ v. v.value.items)))) h)
   ]
 
   pub below : StaysBelow (machine_in p S) (states p)

@@ -12,6 +12,7 @@ use lexspec::Rule;
 use lexspec_actions::Condition;
 use lextab_packed::{Row, TableCondition, TableRule};
 use std::alloc::{AllocError, Global};
+use std::rc::Rc;
 
 /// The conditions of a table.
 pub(crate) fn table_conditions(
@@ -60,11 +61,12 @@ pub(crate) fn table_rows(
     alloc: Global,
     defaults: &[u32],
     bases: &[u32],
-    lists: &[Vec<u32>],
+    lists: &[Rc<Vec<u32>>],
 ) -> Result<Vec<Row>, AllocError>
     requires bases { length bases.now ≡ length defaults.now }
     requires lists { length lists.now ≡ length defaults.now }
-    ensures { IfOk result (λ v. map row_of v.items ≡ rows_with defaults.now bases.now (map (λ l. l.items) lists.now)) }
+    ensures { IfOk result (λ v. map row_of v.items
+        ≡ rows_with defaults.now bases.now (map (λ l. l.value.items) lists.now)) }
 {
     let mut rows = Vec::new(alloc);
     for i in 0..defaults.len() {

@@ -4,6 +4,7 @@ ghost use Rattle.lexauto_dfa.specs.Lists.{AreLabels, look};
 
 use std::alloc::{AllocError, Global};
 use std::collections::BTreeMap;
+use std::rc::Rc;
 
 /// The first state that was asked for with a list: this one if there was none.
 fn first_with(
@@ -26,7 +27,7 @@ fn first_with(
 }
 
 /// A label for each state, one for those with the same list.
-pub(crate) fn labels_of(alloc: Global, lists: &[Vec<u32>]) -> Result<Vec<u32>, AllocError>
+pub(crate) fn labels_of(alloc: Global, lists: &[Rc<Vec<u32>>]) -> Result<Vec<u32>, AllocError>
     requires few { length lists.now < 2 ^ 32 }
     ensures { IfOk result (λ v. AreLabels lists.now v.items) }
 {

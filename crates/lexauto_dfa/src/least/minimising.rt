@@ -7,7 +7,7 @@ ghost use Rattle.lexauto_dfa.specs.Invariant.{IsAutomaton};
 ghost use Rattle.lexauto_dfa.specs.Automata.{conditions_of, lists_of, machine_of};
 ghost use Rattle.lexauto_dfa.specs.Building.{ArePartsOf, FitsTable};
 ghost use Rattle.lexauto_dfa.specs.Least.{AcceptsAs, GoesOnAs, IsLeast, IsNumbered};
-ghost use Rattle.lexauto_dfa.specs.Lists.{list_at};
+ghost use Rattle.lexauto_dfa.specs.Lists.{AreLabels, list_at};
 ghost use Rattle.lexauto_dfa.specs.Numbers.{AreMade};
 ghost use Rattle.lexauto_dfa.specs.Quotients.{AreClasses};
 ghost use Rattle.lexauto_dfa.specs.Sources.{IsRow};
@@ -21,9 +21,16 @@ use crate::least::labels::labels_of;
 use crate::least::tables::{ClassTable, quotient};
 use crate::memory::OutOfMemory;
 use std::alloc::{AllocError, Global};
+use std::rc::Rc;
 
-/// The lists at some places.
-fn lists_at(alloc: Global, lists: &[Vec<u32>], places: &[u32]) -> Result<Vec<Vec<u32>>, AllocError>
+/// The lists at some places, each the first list with its label, so that equal ones are kept once.
+fn lists_at(
+    alloc: Global,
+    lists: &[Rc<Vec<u32>>],
+    labels: &[u32],
+    places: &[u32],
+) -> Result<Vec<Rc<Vec<u32>>>, AllocError>
+    requires labels { AreLabels lists.now labels.now }
     requires places { (k : ℕ) → k < length places.now → slice_index places.now k < length lists.now }
     ensures len { IfOk result (λ v. length v.items ≡ length places.now) }
     ensures each { IfOk result (λ v. (k : ℕ) → k < length places.now
@@ -31,7 +38,8 @@ fn lists_at(alloc: Global, lists: &[Vec<u32>], places: &[u32]) -> Result<Vec<Vec
 {
     let mut some = Vec::new(alloc);
     for i in 0..places.len() {
-        some.push(Vec::from_slice(alloc, &lists[places[i] as usize])?)?;
+        let first = labels[places[i] as usize];
+        some.push(Rc::clone(&lists[first as usize])?)?;
     }
     Ok(some)
 }
@@ -51,13 +59,14 @@ fn flags_at(alloc: Global, flags: &[bool], places: &[u32]) -> Result<Vec<bool>, 
 }
 
 /// For each state the class of those with the same future.
-fn classes_of(alloc: Global, parts: &Parts) -> Result<Vec<u32>, AllocError>
-    requires { IsAutomaton parts.now }
+fn classes_of(alloc: Global, parts: &Parts, labels: &[u32]) -> Result<Vec<u32>, AllocError>
+    requires automaton { IsAutomaton parts.now }
+    requires labels { AreLabels parts.now.accepts.items labels.now }
     ensures row { IfOk result (λ v. IsRow v.items) }
     ensures classes { IfOk result (λ v. AreClasses (automaton_of parts.now) v.items) }
 {
-    let labels = labels_of(alloc, &parts.accepts)?;
-    let classes = classes(alloc, &parts.next, labels)?;
+    let copy = Vec::from_slice(alloc, labels)?;
+    let classes = classes(alloc, &parts.next, copy)?;
     Ok(classes)
 }
 
@@ -76,15 +85,21 @@ fn table_of(alloc: Global, parts: &Parts, classes: &[u32]) -> Result<ClassTable,
 }
 
 /// The lists of the automaton of a table of classes.
-fn parts_of(alloc: Global, parts: &Parts, classes: ClassTable) -> Result<Parts, AllocError>
+fn parts_of(
+    alloc: Global,
+    parts: &Parts,
+    labels: &[u32],
+    classes: ClassTable,
+) -> Result<Parts, AllocError>
     requires automaton { IsAutomaton parts.now }
+    requires labels { AreLabels parts.now.accepts.items labels.now }
     requires fits { FitsTable parts.now classes }
     ensures { IfOk result (λ q. ArePartsOf parts.now classes q) }
 {
     let conditions = parts.starts.len();
     let starts = every_other(alloc, &classes.starts, conditions, 0)?;
     let line_starts = every_other(alloc, &classes.starts, conditions, 1)?;
-    let accepts = lists_at(alloc, &parts.accepts, &classes.members)?;
+    let accepts = lists_at(alloc, &parts.accepts, labels, &classes.members)?;
     let goes_on = flags_at(alloc, &parts.goes_on, &classes.members)?;
     Ok(Parts {
         starts,
@@ -108,8 +123,9 @@ pub fn minimise(alloc: Global, dfa: &Dfa) -> Result<Dfa, OutOfMemory>
     ensures table { IfOk result (λ e. (S : Spec) → TableFor (machine_of dfa.now S) S → TableFor (machine_of e S) S) }
 {
     let parts = dfa.parts();
-    let classes = classes_of(alloc, parts)?;
+    let labels = labels_of(alloc, &parts.accepts)?;
+    let classes = classes_of(alloc, parts, &labels)?;
     let table = table_of(alloc, parts, &classes)?;
-    let least = parts_of(alloc, parts, table)?;
+    let least = parts_of(alloc, parts, &labels, table)?;
     Ok(Dfa::new(least))
 }

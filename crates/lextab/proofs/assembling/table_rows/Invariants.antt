@@ -5,4 +5,4 @@ use Rattle.lextab.proofs.assembling.table_rows.Given as goal
 
 abbrev pub invariant-loop-i : goal.invariant-loop-i
 invariant-loop-i l =
-    map row_of l.rows.items ++ rows_with (drop l.i l.defaults) (drop l.i l.bases) (map (λ v. v.items) (drop l.i l.lists)) ≡ rows_with l.defaults l.bases (map (λ v. v.items) l.lists)
+    map row_of l.rows.items ++ rows_with (drop l.i l.defaults) (drop l.i l.bases) (map (λ v. v.value.items) (drop l.i l.lists)) ≡ rows_with l.defaults l.bases (map (λ v. v.value.items) l.lists)

@@ -1,4 +1,5 @@
 use Rattle.std.proofs.Common.{◌≡◌, ℕ, List, map, ap, ◌∙◌, Vec, Global}
+use Rattle.std.specs.declared.rc.Rc.{Rc}
 use Rattle.lex_semantics.specs.Spec as S
 use Rattle.lexspec_actions.specs.Views.{condition_of as condition_in}
 use Rattle.lexspec.specs.Views.{spec_of}
@@ -21,9 +22,9 @@ returns-clause-table c =
     let rules_are : map table_rule_of c.in_ok-rules.rules.items ≡ map action_in spec.rules = c.in_ok-rules.ensures.same ∙ ap (λ (l : List S.Rule). map action_in l) c.rules.ensures.rules in
     let rows_are : map row_of c.in_ok-rows.rows.items ≡ rows_with q.defaults.items q.bases.items (lists_in p) =
     c.in_ok-rows.ensures
-    ∙ ap (λ (l : List ℕ). rows_with l c.deref-4.result.now (map (λ (v : Vec ℕ Global). v.items) c.deref-5.result.now)) c.deref-3.ensures.value
-    ∙ ap (λ (l : List ℕ). rows_with q.defaults.items l (map (λ (v : Vec ℕ Global). v.items) c.deref-5.result.now)) c.deref-4.ensures.value
-    ∙ ap (λ (l : List (Vec ℕ Global)). rows_with q.defaults.items q.bases.items (map (λ (v : Vec ℕ Global). v.items) l)) c.deref-5.ensures.value in
+    ∙ ap (λ (l : List ℕ). rows_with l c.deref-4.result.now (map (λ (v : Rc (Vec ℕ Global) Global). v.value.items) c.deref-5.result.now)) c.deref-3.ensures.value
+    ∙ ap (λ (l : List ℕ). rows_with q.defaults.items l (map (λ (v : Rc (Vec ℕ Global) Global). v.value.items) c.deref-5.result.now)) c.deref-4.ensures.value
+    ∙ ap (λ (l : List (Rc (Vec ℕ Global) Global)). rows_with q.defaults.items q.bases.items (map (λ (v : Rc (Vec ℕ Global) Global). v.value.items) l)) c.deref-5.ensures.value in
     λ k. record {
       conditions = conditions_are k;
       rules = rules_are k;

@@ -11,7 +11,7 @@ parts_of-requires-clause-fits c =
     let p = c.parts-parts.result.now in
     let a = subst (λ (r : Parts). IsAutomaton r) (sym c.parts-parts.ensures) c.args.dfa.now.lawful in
     let t = c.in_ok-table.table in
-    let made = subst (λ (cs : List ℕ). AreMade cs (by_turns p.starts.items p.line_starts.items) p.next.items t.members.items t.starts.items t.table.items) c.deref.ensures.value c.in_ok-table.ensures in
+    let made = subst (λ (cs : List ℕ). AreMade cs (by_turns p.starts.items p.line_starts.items) p.next.items t.members.items t.starts.items t.table.items) c.deref-3.ensures.value c.in_ok-table.ensures in
     fits p a c.in_ok-classes.classes.items c.in_ok-classes.ensures.classes t made
 
 pub new-requires : goal.new-requires
@@ -19,7 +19,7 @@ new-requires c =
     let p = c.parts-parts.result.now in
     let a = subst (λ (r : Parts). IsAutomaton r) (sym c.parts-parts.ensures) c.args.dfa.now.lawful in
     let t = c.in_ok-table.table in
-    let made = subst (λ (cs : List ℕ). AreMade cs (by_turns p.starts.items p.line_starts.items) p.next.items t.members.items t.starts.items t.table.items) c.deref.ensures.value c.in_ok-table.ensures in
+    let made = subst (λ (cs : List ℕ). AreMade cs (by_turns p.starts.items p.line_starts.items) p.next.items t.members.items t.starts.items t.table.items) c.deref-3.ensures.value c.in_ok-table.ensures in
     let of : IsLeastOf p c.in_ok-least.least = is_least_of p a c.in_ok-classes.classes.items c.in_ok-classes.ensures.classes t made c.in_ok-least.least c.in_ok-least.ensures in
     of.automaton
 
@@ -28,7 +28,7 @@ returns c =
     let p = c.parts-parts.result.now in
     let a = subst (λ (r : Parts). IsAutomaton r) (sym c.parts-parts.ensures) c.args.dfa.now.lawful in
     let t = c.in_ok-table.table in
-    let made = subst (λ (cs : List ℕ). AreMade cs (by_turns p.starts.items p.line_starts.items) p.next.items t.members.items t.starts.items t.table.items) c.deref.ensures.value c.in_ok-table.ensures in
+    let made = subst (λ (cs : List ℕ). AreMade cs (by_turns p.starts.items p.line_starts.items) p.next.items t.members.items t.starts.items t.table.items) c.deref-3.ensures.value c.in_ok-table.ensures in
     let of : IsLeastOf p c.in_ok-least.least = is_least_of p a c.in_ok-classes.classes.items c.in_ok-classes.ensures.classes t made c.in_ok-least.least c.in_ok-least.ensures in
     let from : IsLeastOf c.args.dfa.now.parts c.in_ok-least.least = subst (λ (r : Parts). IsLeastOf r c.in_ok-least.least) c.parts-parts.ensures of in
     let all : IsLeastOf c.args.dfa.now.parts c.new.result.parts = subst (λ (r : Parts). IsLeastOf c.args.dfa.now.parts r) (sym c.new.ensures) from in

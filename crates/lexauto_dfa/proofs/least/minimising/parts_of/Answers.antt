@@ -1,4 +1,5 @@
 use Rattle.std.proofs.Common.{rules, ◌≡◌, ℕ, ◌+◌, ◌*◌, false, Bool, List, length, slice_index, slice_index_or, arith, sym, refl, ap, ◌∙◌, Vec, Global}
+use Rattle.std.specs.declared.rc.Rc.{Rc}
 use Rattle.lexauto_dfa.specs.Lists.{list_at}
 use Rattle.lexauto_dfa.proofs.ByTurns.{turns_are}
 use Rattle.lexauto_dfa.proofs.least.minimising.parts_of.Goals as goal
@@ -28,7 +29,7 @@ returns c =
       count = c.in_ok-goes_on.ensures.len ∙ ap (λ (xs : List ℕ). length xs) ks;
       lists_len = c.in_ok-accepts.ensures.len ∙ ap (λ (xs : List ℕ). length xs) ms;
       lists = λ k h. c.in_ok-accepts.ensures.each k (let l = ap (λ (xs : List ℕ). length xs) ms in omega (arith, h, l))
-          ∙ ap (λ (ws : List (Vec ℕ Global)). list_at ws (slice_index c.deref-4.result.now k)) vs ∙ ap (λ (xs : List ℕ). list_at d.accepts.items (slice_index xs k)) ms;
+          ∙ ap (λ (ws : List (Rc (Vec ℕ Global) Global)). list_at ws (slice_index c.deref-4.result.now k)) vs ∙ ap (λ (xs : List ℕ). list_at d.accepts.items (slice_index xs k)) ms;
       flags = λ k h. c.in_ok-goes_on.ensures.each k (let l = ap (λ (xs : List ℕ). length xs) ks in omega (arith, h, l))
           ∙ ap (λ (gs : List Bool). slice_index_or gs (slice_index c.deref-6.result.now k) false) fs ∙ ap (λ (xs : List ℕ). slice_index_or d.goes_on.items (slice_index xs k) false) ks;
     }
