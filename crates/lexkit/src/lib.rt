@@ -59,11 +59,11 @@ pub use lextab::{
     Tables, ToBytes, ToWrite, WriteFault, read_flat, read_tables, write_tables,
 };
 pub use making::{
-    Generated, Least, Made, generate, generate_tables, least_automaton, lines_of, read_text,
+    Generated, Least, Made, Ready, generate, generate_tables, least_automaton, lines_of, make_ready, read_text,
 };
 pub use options::Options;
 pub use program::{
     MAX_TABLE_BYTES, SPEC_READ_BYTES, command_words, read_more, read_spec_file, report_failure,
 };
-pub use scan::{MAX_READS, run_table, scan_by, scan_made, scan_spec, scan_table};
+pub use scan::{MAX_READS, run_table, scan_by, scan_made, scan_ready, scan_spec, scan_table};
 pub use stats::{Stats, write_stats};

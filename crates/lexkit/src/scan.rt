@@ -17,7 +17,7 @@ ghost use Rattle.lextab_packed.specs.FlatViews.{tables_of};
 ghost use Rattle.lextab_packed.specs.Machines.{table_machine};
 
 use crate::errors::{GenError, ScanError};
-use crate::making::{least_automaton, read_text};
+use crate::making::{scan_automaton, read_text};
 use crate::options::Options;
 use lexauto::Limits;
 use lexscan::{RunError, Source, run};
@@ -96,11 +96,11 @@ pub fn scan_by<S: Source, K: Sink>(
         limits (spec_of spec.now) result }
     ensures counts { ScanCounts S.ends S.failures K.failures K.flushed source.old source.new sink.old sink.new result }
 {
-    let least = match least_automaton(alloc, spec, limits) {
+    let automaton = match scan_automaton(alloc, spec, limits) {
         Err(error) => return Err(ScanError::Generate(error)),
-        Ok(least) => least,
+        Ok(automaton) => automaton,
     };
-    let machine = match pack_flat(alloc, &least.automaton, spec) {
+    let machine = match pack_flat(alloc, &automaton, spec) {
         Err(_) => return Err(ScanError::Generate(GenError::OutOfMemory)),
         Ok(machine) => machine,
     };
@@ -130,6 +130,21 @@ pub fn scan_made<S: Source, K: Sink>(
         Ok(flat) => flat,
     };
     match run_table(alloc, &flat, source, sink) {
+        Err(stop) => Err(ScanError::Run(stop)),
+        Ok(end) => Ok(end),
+    }
+}
+
+/// Scans the source.
+pub fn scan_ready<S: Source, K: Sink>(
+    alloc: Global,
+    machine: &Flat,
+    source: &mut S,
+    sink: &mut K,
+) -> Result<u8, ScanError>
+    requires few { FewCounts S.ends S.failures K.failures source.old sink.old }
+{
+    match run_table(alloc, machine, source, sink) {
         Err(stop) => Err(ScanError::Run(stop)),
         Ok(end) => Ok(end),
     }

@@ -43,6 +43,7 @@ mod plain_machine;
 mod rows;
 mod slots;
 mod tables;
+mod unpacked;
 
 pub use laws::{
     examples_of_packings, one_packing, packed_step_is, packing_has_ranges, packing_of_same_moves,
