@@ -13,8 +13,8 @@
 //!   written under its own name, and not under another one first: a reader refuses one that was cut short.
 //! - **Files are joined as they are**, with nothing between them. Reading ends one byte past the limit: files after that
 //!   are not opened, since what stands in them can change no answer.
-//! - **`--scan-spec` makes the tables once.** Where warnings are written, `generate_tables` makes them, and `scan_made` scans
-//!   by the tables. With `-w` `scan_spec` does both.
+//! - **`--scan-spec` makes the machine once.** Where warnings are written, `make_ready` makes it with them, and `scan_ready`
+//!   scans by it. With `-w` `scan_spec` does both.
 //! - **A file that opens but cannot be read**, as a folder, is 66, as one that does not open. So is a table file of more
 //!   than 268,435,456 bytes, which no table has. An output file that cannot be made is a write fault, 74, with no name.
 #![tactic(auto)]
@@ -29,7 +29,7 @@ use crate::generating::{Outputs, make, ready_with_warnings};
 use crate::reading::{read_specification, read_table_file};
 use lex_command::{ArgsError, Job, PatternFlags, read_args};
 use lexkit::{
-    ByteReader, ByteWriter, Failure, FromBytes, MAX_POSITIONS, MAX_STATES, Options, Sink, Flat,
+    ByteReader, ByteWriter, Failure, Flat, FromBytes, MAX_POSITIONS, MAX_STATES, Options, Sink,
     ToBytes, command_words, read_spec_file, report_failure, scan_ready, scan_spec, scan_table,
 };
 use std::alloc::AllocError;
@@ -51,7 +51,7 @@ fn job_of(rt: &HostRuntime) -> Result<Job, Failure> {
 enum By<'a> {
     /// The text of a specification, and how it is read.
     Spec(&'a [u8], PatternFlags),
-    /// The tables that were made of a specification.
+    /// The machine that was made ready of a specification.
     Ready(&'a Flat),
     /// A table file.
     Table(&'a [u8]),

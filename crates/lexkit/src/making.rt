@@ -18,7 +18,7 @@ use crate::stats::{Stats, stats_of};
 use lexauto::{BackUp, Dfa, Limits, OutOfMemory, backing_up, build, minimise, useless_rules};
 use lexauto_reports::{Warning, warnings};
 use lexspec::{ReadOptions, Rule, Spec, SpecError, read_spec, tested_specifications};
-use lextab::{Flat, Tables, pack, pack_flat};
+use lextab::{Tables, pack};
 use std::alloc::{AllocError, Global};
 
 /// What is made of a specification but for the states that back up.
@@ -90,56 +90,6 @@ pub fn read_text(alloc: Global, text: &[u8], options: Options) -> Result<Spec, G
     match read_spec(alloc, text, read) {
         Err(error) => Err(GenError::Spec(error)),
         Ok(spec) => Ok(spec),
-    }
-}
-
-/// What a scan of a text goes by, with the warnings that come before it.
-#[derive(Drop)]
-pub struct Ready {
-    /// The machine.
-    pub machine: Flat,
-    /// Skipped code and rules that cannot be matched, in order of line.
-    pub warnings: Vec<Warning>,
-}
-
-/// How many states an automaton has at most that is not minimised for a scan.
-const FEW_STATES: u32 = 256;
-
-/// An automaton of a specification for a scan.
-pub(crate) fn scan_automaton(alloc: Global, spec: &Spec, limits: Limits) -> Result<Dfa, GenError>
-    requires few_positions { limits.positions ≤ max_positions }
-    requires few_states { limits.states ≤ max_states }
-{
-    let automaton = match build(alloc, spec, limits) {
-        Err(error) => return Err(GenError::Build(error)),
-        Ok(automaton) => automaton,
-    };
-    if automaton.len() <= FEW_STATES {
-        return Ok(automaton);
-    }
-    match minimise(alloc, &automaton) {
-        Err(_) => Err(GenError::OutOfMemory),
-        Ok(least) => Ok(least),
-    }
-}
-
-fn ready_of(alloc: Global, spec: &Spec, automaton: &Dfa) -> Result<Ready, OutOfMemory> {
-    let useless = useless_rules(alloc, spec, automaton)?;
-    let warnings = warnings(alloc, spec, &useless)?;
-    let machine = pack_flat(alloc, automaton, spec)?;
-    Ok(Ready { machine, warnings })
-}
-
-/// Makes ready.
-pub fn make_ready(alloc: Global, text: &[u8], options: Options) -> Result<Ready, GenError>
-    requires few_positions { options.limits.positions ≤ max_positions }
-    requires few_states { options.limits.states ≤ max_states }
-{
-    let spec = read_text(alloc, text, options)?;
-    let automaton = scan_automaton(alloc, &spec, options.limits)?;
-    match ready_of(alloc, &spec, &automaton) {
-        Err(_) => Err(GenError::OutOfMemory),
-        Ok(ready) => Ok(ready),
     }
 }
 

@@ -1,6 +1,6 @@
 -- The columns of an automaton go as it does.
 use Rattle.std.specs.Prelude.{◌≡◌, ℕ, ◌+◌, ◌*◌, ◌<◌, length, nat_lt, slice_index}
-use Rattle.std.proofs.Common.{sym, ap, ◌∙◌, arith}
+use Rattle.std.proofs.Common.{List, sym, ap, subst, ◌∙◌, arith}
 use Rattle.std.proofs.lemmas.Bool.{cond-true, lt-ltb}
 use Rattle.lex_semantics.specs.Spec as S
 use Rattle.lexauto_dfa.specs.Alike.{moves}
@@ -24,6 +24,12 @@ packing_goes n go q x some dead below = record {
   next_len = same_size n q.class_count q.bases (length q.next) (length q.check) x.rows.next_len x.rows.check_len;
   steps = goes_as n go q x dead;
 }
+
+-- what holds of the lists that were read holds of the automaton's
+pub of_lists : (P : ℕ → List ℕ → Type 0) (p r : Parts) (n : ℕ) (next : List ℕ) → r ≡ p → n ≡ states r → next ≡ r.next.items → P n next → P (states p) p.next.items
+of_lists P p r n next same len is h =
+    let a = subst (λ (m : ℕ). P m next) (len ∙ ap (λ (x : Parts). states x) same) h in
+    subst (λ (l : List ℕ). P (states p) l) (is ∙ ap (λ (x : Parts). x.next.items) same) a
 
 module _ (p : Parts) (a : IsAutomaton p) where
   moves_are : (s b : ℕ) → s < states p → b < 256 → moves p.next.items s b ≡ next p s b

@@ -27,5 +27,5 @@ pub record AreRowByRow (to : ℕ → ℕ → ℕ) (count n : ℕ) (bases check n
   pub base : (s : ℕ) → s < n → slice_index bases s ≡ s * count
   pub check_len : length check ≡ n * count
   pub next_len : length next ≡ n * count
-  pub check : (s k : ℕ) → s < n → k < count → slice_index check (s * count + k) ≡ s
-  pub next : (s k : ℕ) → s < n → k < count → slice_index next (s * count + k) ≡ to s k
+  pub state : (s k : ℕ) → s < n → k < count → slice_index check (s * count + k) ≡ s
+  pub target : (s k : ℕ) → s < n → k < count → slice_index next (s * count + k) ≡ to s k

@@ -51,12 +51,7 @@ fn table_parts(
 }
 
 /// The tables of an automaton that is one for the specification, by columns in which its states go as they do.
-fn tables_by(
-    alloc: Global,
-    dfa: &Dfa,
-    spec: &Spec,
-    packed: Packed,
-) -> Result<Tables, AllocError>
+fn tables_by(alloc: Global, dfa: &Dfa, spec: &Spec, packed: Packed) -> Result<Tables, AllocError>
     requires conditions { conditions_of dfa.now ≡ length (conditions_in (spec_of spec.now)) }
     requires table { TableFor (machine_of dfa.now (spec_of spec.now)) (spec_of spec.now) }
     requires goes { GoesAs (states_of dfa.now) (next_of dfa.now) (packing_of packed) }
@@ -79,7 +74,8 @@ pub fn pack(alloc: Global, dfa: &Dfa, spec: &Spec) -> Result<Tables, OutOfMemory
 {
     let parts = dfa.parts();
     let packed = pack_rows(alloc, &parts.next, parts.goes_on.len())?;
-    Ok(tables_by(alloc, dfa, spec, packed)?)
+    let tables = tables_by(alloc, dfa, spec, packed)?;
+    Ok(tables)
 }
 
 /// The machine of a scan by an automaton that is one for the specification. Its tables are made at once, and not packed.

@@ -59,6 +59,18 @@ fn mark_changes(row: &[u32], changes: &mut [u32])
     mark_four(row, changes, 251);
 }
 
+/// Marks the bytes where some state goes elsewhere by the next byte.
+fn mark_all(next: &[u32], states: usize, changes: &mut [u32])
+    requires rows { length next.now ≡ 256 * states }
+    requires changes { length changes.old ≡ 256 }
+    ensures len { length changes.new ≡ 256 }
+    ensures tell { TellChanges next.now states changes.new }
+{
+    for state in 0..states {
+        mark_changes(&next[256 * state..256 * state + 256], changes);
+    }
+}
+
 /// For each byte but the last whether some state goes elsewhere by the next one; not 0 where one does.
 fn changes_of(alloc: Global, next: &[u32], states: usize) -> Result<Vec<u32>, AllocError>
     requires { length next.now ≡ 256 * states }
@@ -66,9 +78,7 @@ fn changes_of(alloc: Global, next: &[u32], states: usize) -> Result<Vec<u32>, Al
     ensures tell { IfOk result (λ v. TellChanges next.now states v.items) }
 {
     let mut changes = vec![in alloc; 0u32; 256]?;
-    for state in 0..states {
-        mark_changes(&next[256 * state..256 * state + 256], &mut changes);
-    }
+    mark_all(next, states, &mut changes);
     Ok(changes)
 }
 

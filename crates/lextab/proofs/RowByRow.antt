@@ -1,8 +1,8 @@
 -- Rows of slots by classes of neighbours make a table that goes as the automaton does.
-use Rattle.std.specs.Prelude.{◌≡◌, ◌≢◌, ℕ, zero, suc, ◌+◌, ◌-◌, ◌*◌, ◌<◌, ◌≤◌, ◌⊎◌, ◌==◌, ◌++◌, ◌∷◌, [], cond, List, length, replicate, slice_index}
+use Rattle.std.specs.Prelude.{◌≡◌, ◌≢◌, ℕ, zero, suc, ◌+◌, ◌-◌, ◌*◌, ◌<◌, ◌≤◌, ◌⊎◌, ◌==◌, ◌++◌, ◌∷◌, [], cond, List, length, replicate, take, slice_index}
 use Rattle.std.specs.Int.Bits.{bit_or, bit_xor, bit_and, xor_add_and}
 use Rattle.std.proofs.Common.{inl, inr, refl, sym, ◌∙◌, ap, subst, arith}
-use Rattle.std.proofs.lemmas.List.{length-append, length-replicate, get_or-replicate, get_or_append_left, get_or-append_right, get_or_push}
+use Rattle.std.proofs.lemmas.List.{length-append, length-replicate, get_or-replicate, get_or_append_left, get_or-append_right, get_or_push, take_all}
 use Rattle.std.proofs.lemmas.Nat.{row_fits, mul-le, le_or_l, le_or_r, and_le_l, and_le_r}
 use Rattle.lexauto_dfa.specs.Alike.{moves}
 use Rattle.lextab.specs.Columns.{Packing, HasRanges, GoesAs, packed_step}
@@ -15,6 +15,23 @@ none_or a b e = let l = le_or_l a b in let r = le_or_r a b in (omega (arith, l, 
 
 pub none_xor : (a b : ℕ) → bit_xor a b ≡ 0 → a ≡ b
 none_xor a b e = let s = xor_add_and a b in let l = and_le_l a b in let r = and_le_r a b in omega (arith, s, l, r, e)
+
+-- one state more, whose row is marked
+pub one_state_more : (next : List ℕ) (s : ℕ) (row old new : List ℕ) → TellChanges next s old → ((b : ℕ) → b < 256 → slice_index row b ≡ slice_index next (256 * s + b))
+    → ((b : ℕ) → slice_index new b ≡ 0 → slice_index old b ≡ 0) → ((b : ℕ) → b < 255 → TellsNext row new b) → TellChanges next (s + 1) new
+one_state_more next s row old new tell at before here r b h l none = elim (same_or_not r s) [
+  | inl q ↦ ap (λ (j : ℕ). moves next j b) q ∙ sym (at b (omega (arith, l))) ∙ here b l none ∙ at (b + 1) (omega (arith, l)) ∙ ap (λ (j : ℕ). moves next j (b + 1)) (sym q)
+  | inr ne ↦ tell r b (omega (arith, h, ne)) l (before b none)
+]
+
+-- a column that grew by copies of a number
+pub resized : (old new : List ℕ) (m l count s : ℕ) → l ≡ length old → m ≡ length old → new ≡ take (l + count) old ++ replicate (l + count - m) s → new ≡ old ++ replicate count s
+resized old new m l count s e f g =
+    let more : l + count - m ≡ count = omega (arith, e, f) in
+    g ∙ ap (λ (xs : List ℕ). xs ++ replicate (l + count - m) s) (take_all (l + count) old (omega (arith, e))) ∙ ap (λ (k : ℕ). old ++ replicate k s) more
+
+pub same_neighbours : (next : List ℕ) (n i : ℕ) (cs ds hs is : List ℕ) → ds ≡ cs → is ≡ hs → AreNeighbours next n cs hs i → AreNeighbours next n ds is i
+same_neighbours next n i cs ds hs is e f x = rw (e, f) x
 
 -- each slot is that of a state and a class
 pub place_of : (count n i : ℕ) → i < n * count → (s : ℕ) × (k : ℕ) × (s < n) × (k < count) × (s * count + k ≡ i)
@@ -37,18 +54,18 @@ one_row_more to count s b bases check next row bases' check' next' x len is at e
   ];
   check_len = (let l = length-append check (replicate count s) in let r = length-replicate count s in let m = x.check_len in let e = one_more in omega (arith, l, r, m, e));
   next_len = (let l = length-append next row in let m = x.next_len in let e = one_more in omega (arith, l, len, m, e));
-  check = λ r k h l. elim (same_or_not r s) [
+  state = λ r k h l. elim (same_or_not r s) [
     | inl q ↦ (let m : length check ≡ r * count = x.check_len ∙ ap (λ (j : ℕ). j * count) (sym q) in let e : r * count + k - r * count ≡ k = omega arith in
         get_or-append_right check (replicate count s) (r * count) (r * count + k) 0 m (omega arith)
         ∙ ap (λ (j : ℕ). slice_index (replicate count s) j) e ∙ get_or-replicate count k s 0 l ∙ sym q)
     | inr ne ↦ (let f = inside r k (omega (arith, h, ne)) l in let m = x.check_len in
-        get_or_append_left check (replicate count s) 0 (r * count + k) (omega (arith, f, m)) ∙ x.check r k (omega (arith, h, ne)) l)
+        get_or_append_left check (replicate count s) 0 (r * count + k) (omega (arith, f, m)) ∙ x.state r k (omega (arith, h, ne)) l)
   ];
-  next = λ r k h l. elim (same_or_not r s) [
+  target = λ r k h l. elim (same_or_not r s) [
     | inl q ↦ (let m : length next ≡ r * count = x.next_len ∙ ap (λ (j : ℕ). j * count) (sym q) in let e : r * count + k - r * count ≡ k = omega arith in
         get_or-append_right next row (r * count) (r * count + k) 0 m (omega arith) ∙ ap (λ (j : ℕ). slice_index row j) e ∙ is k l ∙ ap (λ (j : ℕ). to j k) (sym q))
     | inr ne ↦ (let f = inside r k (omega (arith, h, ne)) l in let m = x.next_len in
-        get_or_append_left next row 0 (r * count + k) (omega (arith, f, m)) ∙ x.next r k (omega (arith, h, ne)) l)
+        get_or_append_left next row 0 (r * count + k) (omega (arith, f, m)) ∙ x.target r k (omega (arith, h, ne)) l)
   ];
 })
   where
@@ -127,10 +144,11 @@ module _ (next : List ℕ) (n : ℕ) (cls hs bs cs xs : List ℕ) (size : length
   slot i h =
       let p = place_of count n i (let l = r.check_len in omega (arith, h, l)) in
       let here = p.4 in let in_row = p.3 in let known = p.2 in
-      let is : slice_index cs i ≡ p.0 = ap (λ (j : ℕ). slice_index cs j) (sym here) ∙ r.check p.0 p.1 p.2 p.3 in
-      let to : slice_index xs i ≡ by_head next hs p.0 p.1 = ap (λ (j : ℕ). slice_index xs j) (sym here) ∙ r.next p.0 p.1 p.2 p.3 in
+      let is : slice_index cs i ≡ p.0 = ap (λ (j : ℕ). slice_index cs j) (sym here) ∙ r.state p.0 p.1 p.2 p.3 in
+      let to : slice_index xs i ≡ by_head next hs p.0 p.1 = ap (λ (j : ℕ). slice_index xs j) (sym here) ∙ r.target p.0 p.1 p.2 p.3 in
       elim (same_or_not p.0 0) [
-        | inl z ↦ inl (is ∙ z, to ∙ ap (λ (s : ℕ). by_head next hs s p.1) z ∙ dead (slice_index hs p.1) (x.head p.1 p.3))
+        | inl z ↦ (let first : 256 * 0 + slice_index hs p.1 ≡ slice_index hs p.1 = omega arith in
+            inl (is ∙ z, to ∙ ap (λ (s : ℕ). by_head next hs s p.1) z ∙ ap (λ (j : ℕ). slice_index next j) first ∙ dead (slice_index hs p.1) (x.head p.1 p.3)))
         | inr ne ↦ (let base : slice_index bs (slice_index cs i) ≡ p.0 * count = ap (λ (s : ℕ). slice_index bs s) is ∙ r.base p.0 p.2 in let t = target_low p.0 p.1 p.2 p.3 in
             inr (omega (arith, is, ne), omega (arith, is, known), omega (arith, base, here), omega (arith, base, here, in_row), omega (arith, to, t)))
       ]
@@ -153,9 +171,9 @@ module _ (next : List ℕ) (n : ℕ) (cls hs bs cs xs : List ℕ) (size : length
       let k = slice_index cls b in
       let within = x.below b l in
       let here : slice_index bs s + k ≡ s * count + k = ap (λ (m : ℕ). m + k) (r.base s h) in
-      let is : slice_index cs (slice_index bs s + k) ≡ s = ap (λ (j : ℕ). slice_index cs j) here ∙ r.check s k h within in
+      let is : slice_index cs (slice_index bs s + k) ≡ s = ap (λ (j : ℕ). slice_index cs j) here ∙ r.state s k h within in
       chosen (slice_index cs (slice_index bs s + k)) s (slice_index xs (slice_index bs s + k)) (slice_index (replicate n 0) s) is
-      ∙ ap (λ (j : ℕ). slice_index xs j) here ∙ r.next s k h within ∙ x.alike s b h l
+      ∙ ap (λ (j : ℕ). slice_index xs j) here ∙ r.target s k h within ∙ x.alike s b h l
     where
       chosen : (a b c d : ℕ) → a ≡ b → cond (a == b) c d ≡ c
       chosen a b c d e = rw (test_same a b e) refl
@@ -170,3 +188,9 @@ module _ (next : List ℕ) (n : ℕ) (cls hs bs cs xs : List ℕ) (size : length
     next_len = r.next_len ∙ sym r.check_len;
     steps = step;
   }
+
+pub goes_by_columns : (next : List ℕ) (n : ℕ) (cls hs is bs cs xs ds : List ℕ) (count : ℕ) → is ≡ hs → count ≡ length hs → ds ≡ replicate n 0
+    → length next ≡ 256 * n → 0 < n → ((i : ℕ) → i < length next → slice_index next i < n) → ((b : ℕ) → b < 256 → slice_index next b ≡ 0)
+    → AreNeighbours next n cls hs 256 → AreRowByRow (by_head next is) (length is) n bs cs xs
+    → GoesAs n (moves next) (record { class_of = cls; class_count = count; defaults = ds; bases = bs; check = cs; next = xs })
+goes_by_columns next n cls hs is bs cs xs ds count e f g size some low dead x r = rw (f, g) (goes_as next n cls hs bs cs xs size some low dead x (subst (λ (l : List ℕ). AreRowByRow (by_head next l) (length l) n bs cs xs) e r))
