@@ -24,14 +24,14 @@ pub record IsAutomatonOf (limits : Limits) (S : Spec) (d : Dfa) : Type 0 where
   pub table : TableFor (machine_of d S) S
 
 -- a machine that is one for a sound specification, which is within the limits
-pub record IsMachineOf (limits : Limits) (S : Spec) (f : Flat) : Type 0 where
+pub record IsMachineFor (limits : Limits) (S : Spec) (f : Flat) : Type 0 where
   pub sound : IsSound S
   pub within : IsWithin limits S
   pub table : TableFor (table_machine (tables_of f)) S
 
 -- such a machine with the warnings; `skipped` are the lines of skipped code
 pub record IsReadyFor (limits : Limits) (S : Spec) (skipped : List ℕ) (r : Ready) : Type 0 where
-  pub machine : IsMachineOf limits S r.machine
+  pub machine : IsMachineFor limits S r.machine
   pub warnings : AreWarnings S skipped r.warnings.items
 
 -- what is made ready of a text
@@ -43,4 +43,4 @@ MakesReady options text (Err e) = Refusal options text e
 
 -- the machine is one for the specification that the text spells
 abbrev pub HasMachine : Options → List ℕ → Flat → Type 0
-HasMachine options text f = (S : Spec) × SpellsSpec (reading options) text S × IsMachineOf options.limits S f
+HasMachine options text f = (S : Spec) × SpellsSpec (reading options) text S × IsMachineFor options.limits S f
