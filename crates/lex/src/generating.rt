@@ -3,8 +3,8 @@ ghost use Rattle.std.specs.Prelude.{◌≤◌};
 
 use crate::flushing::{put_report, put_stats, put_table};
 use lexkit::{
-    BackUp, ByteWriter, Failure, Generated, MAX_POSITIONS, MAX_STATES, Made, Options, Stats,
-    Tables, ToBytes, ToWrite, Warning, generate, generate_tables, write_warnings,
+    BackUp, ByteWriter, Failure, Generated, MAX_POSITIONS, MAX_STATES, Made, Options, Ready, Stats,
+    Tables, ToBytes, ToWrite, Warning, generate, generate_tables, make_ready, write_warnings,
 };
 use std::fs::File;
 use std::io;
@@ -73,14 +73,18 @@ fn made_of(
     Ok((made, backup))
 }
 
-/// What is made of a specification, whose warnings go to standard error.
-pub fn make_with_warnings(rt: &HostRuntime, text: &[u8], options: Options) -> Result<Made, Failure>
+/// What is made ready for a scan by a specification, whose warnings go to standard error.
+pub fn ready_with_warnings(
+    rt: &HostRuntime,
+    text: &[u8],
+    options: Options,
+) -> Result<Ready, Failure>
     requires few_positions { options.limits.positions ≤ MAX_POSITIONS }
     requires few_states { options.limits.states ≤ MAX_STATES }
 {
-    let made = generate_tables(rt.alloc(), text, options)?;
-    warn(rt, &made.warnings)?;
-    Ok(made)
+    let ready = make_ready(rt.alloc(), text, options)?;
+    warn(rt, &ready.warnings)?;
+    Ok(ready)
 }
 
 /// Writes the warnings to standard error.

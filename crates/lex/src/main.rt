@@ -13,8 +13,8 @@
 //!   written under its own name, and not under another one first: a reader refuses one that was cut short.
 //! - **Files are joined as they are**, with nothing between them. Reading ends one byte past the limit: files after that
 //!   are not opened, since what stands in them can change no answer.
-//! - **`--scan-spec` makes the tables once.** Where warnings are written, `generate_tables` makes them, and `scan_made` scans
-//!   by the tables. With `-w` `scan_spec` does both.
+//! - **`--scan-spec` makes the machine once.** Where warnings are written, `make_ready` makes it with them, and `scan_ready`
+//!   scans by it. With `-w` `scan_spec` does both.
 //! - **A file that opens but cannot be read**, as a folder, is 66, as one that does not open. So is a table file of more
 //!   than 268,435,456 bytes, which no table has. An output file that cannot be made is a write fault, 74, with no name.
 #![tactic(auto)]
@@ -25,12 +25,12 @@ mod flushing;
 mod generating;
 mod reading;
 
-use crate::generating::{Outputs, make, make_with_warnings};
+use crate::generating::{Outputs, make, ready_with_warnings};
 use crate::reading::{read_specification, read_table_file};
 use lex_command::{ArgsError, Job, PatternFlags, read_args};
 use lexkit::{
-    ByteReader, ByteWriter, Failure, FromBytes, MAX_POSITIONS, MAX_STATES, Options, Sink, Tables,
-    ToBytes, command_words, read_spec_file, report_failure, scan_made, scan_spec, scan_table,
+    ByteReader, ByteWriter, Failure, Flat, FromBytes, MAX_POSITIONS, MAX_STATES, Options, Sink,
+    ToBytes, command_words, read_spec_file, report_failure, scan_ready, scan_spec, scan_table,
 };
 use std::alloc::AllocError;
 use std::io;
@@ -51,8 +51,8 @@ fn job_of(rt: &HostRuntime) -> Result<Job, Failure> {
 enum By<'a> {
     /// The text of a specification, and how it is read.
     Spec(&'a [u8], PatternFlags),
-    /// The tables that were made of a specification.
-    Made(Tables),
+    /// The machine that was made ready of a specification.
+    Ready(&'a Flat),
     /// A table file.
     Table(&'a [u8]),
 }
@@ -71,7 +71,7 @@ fn scan(rt: &HostRuntime, by: By<'_>) -> Result<u8, Failure> {
                 &mut sink,
             )
         }
-        By::Made(tables) => scan_made(rt.alloc(), tables, &mut source, &mut sink),
+        By::Ready(machine) => scan_ready(rt.alloc(), machine, &mut source, &mut sink),
         By::Table(bytes) => scan_table(rt.alloc(), bytes, &mut source, &mut sink),
     };
     if result.is_err() {
@@ -102,8 +102,8 @@ fn scan_by_spec(
     if quiet {
         return scan(rt, By::Spec(text.as_slice(), patterns));
     }
-    let made = make_with_warnings(rt, text.as_slice(), options_of(patterns))?;
-    scan(rt, By::Made(made.tables))
+    let made = ready_with_warnings(rt, text.as_slice(), options_of(patterns))?;
+    scan(rt, By::Ready(&made.machine))
 }
 
 /// Does what the command line asks for, and answers with the status of the program.

@@ -8,7 +8,7 @@ use Rattle.lexauto.specs.declared.error.BuildError.TheVariants as builds
 use Rattle.lexauto_dfa.specs.declared.dfa.Dfa.{Dfa}
 use Rattle.lexspec.specs.Files.{SpellsSpec}
 use Rattle.lexspec.specs.Skipped.{AreSkipped}
-use Rattle.lexkit.specs.Headline.{BuildRefusal, IsWithin, ScansBy, TableRefusal, reading}
+use Rattle.lexkit.specs.Headline.{BuildRefusal, IsWithin, Refusal, ScansBy, TableRefusal, reading}
 use Rattle.lextab_packed.specs.Table as T
 use Rattle.lextab_file.specs.File.{IsFileOf}
 use Rattle.lextab_file.specs.Refusals.{is_out_of_memory}
@@ -47,17 +47,19 @@ table_refusal bytes errors.TrailingBytes h = h refl
 table_refusal bytes (errors.BadField at) h = h refl
 table_refusal bytes errors.OutOfMemory h = tt
 
+-- a specification of which no automaton is made makes its text one that is refused
+pub refused_of_text : (options : Options) (text : List ℕ) (S : Spec) → SpellsSpec (reading options) text S → (e : GenError) → SpecRefusal options.limits S e → Refusal options text e
+refused_of_text options text S spells (gens.Build e) refused = (S, spells, refused)
+refused_of_text options text S spells gens.OutOfMemory refused = tt
+refused_of_text options text S spells (gens.Spec e) refused = absurd refused
+
 -- what is made by the specification that a text spells, and by its lines of skipped code, is made of the text
 pub made_of_text : (options : Options) (text : List ℕ) (S : Spec) (skipped : List ℕ) → SpellsSpec (reading options) text S → AreSkipped text skipped → (r : Result Generated GenError) → MakesBy options.limits S skipped r
     → Makes options text r
 made_of_text options text S skipped spells lines (Ok g) made = (S, spells, skipped, lines, made)
-made_of_text options text S skipped spells lines (Err (gens.Build e)) refused = (S, spells, refused)
-made_of_text options text S skipped spells lines (Err gens.OutOfMemory) refused = tt
-made_of_text options text S skipped spells lines (Err (gens.Spec e)) refused = absurd refused
+made_of_text options text S skipped spells lines (Err e) refused = refused_of_text options text S spells e refused
 
 pub tables_of_text : (options : Options) (text : List ℕ) (S : Spec) (skipped : List ℕ) → SpellsSpec (reading options) text S → AreSkipped text skipped → (r : Result Made GenError) → MakesTablesBy options.limits S skipped r
     → MakesTables options text r
 tables_of_text options text S skipped spells lines (Ok m) made = (S, spells, skipped, lines, made)
-tables_of_text options text S skipped spells lines (Err (gens.Build e)) refused = (S, spells, refused)
-tables_of_text options text S skipped spells lines (Err gens.OutOfMemory) refused = tt
-tables_of_text options text S skipped spells lines (Err (gens.Spec e)) refused = absurd refused
+tables_of_text options text S skipped spells lines (Err e) refused = refused_of_text options text S spells e refused

@@ -102,7 +102,3 @@ MakesTables options text (Ok m) =
     (S : Spec) × SpellsSpec (reading options) text S × (skipped : List ℕ) × AreSkipped text skipped
     × MakesTablesBy options.limits S skipped (Ok m)
 MakesTables options text (Err e) = Refusal options text e
-
--- the tables are those of the specification that the text spells
-abbrev pub HasTables : Options → List ℕ → Tables → Type 0
-HasTables options text t = (S : Spec) × SpellsSpec (reading options) text S × AreTablesOf options.limits S t

@@ -7,6 +7,7 @@ pub mod Canonical
 pub mod CanonicalExamples
 pub mod LeastAutomata
 pub mod Generated
+pub mod Ready
 pub mod FileScans
 pub mod Filtered
 pub mod TextTokens

@@ -5,7 +5,8 @@
 //! - `options`: how a specification is read, and how large its automaton may be.
 //! - `counting` and `stats`: the counts of `-v`, with the length of the table file.
 //! - `making`: what is made of a text: `generate`, `generate_tables`, and their steps `read_text` and `least_automaton`.
-//! - `scan`: `scan_spec`, `scan_by`, `scan_made` and `scan_table`, by `run_table`.
+//! - `ready`: `make_ready`: what a scan by a text goes by, with its warnings.
+//! - `scan`: `scan_spec`, `scan_by`, `scan_ready` and `scan_table`, by `run_table`.
 //! - `laws`: one canonical file, and a scan by a file is a scan by its specification.
 //! - `failure` and `faults`: what ended a program, its line on standard error and its status.
 //! - `program`: the words of a command line, the files that both programs read, and how a failure is reported.
@@ -23,7 +24,9 @@
 //! - **`lex:` stands before the lines of both programs**, so that one page lists them.
 //! - **States that back up are looked for where they are asked for.** That takes up to a third of the instructions, and half
 //!   of the memory. So `generate_tables` makes all that `generate` does but for their report.
-//! - **The contract of `scan_made` is that of `scan_spec`** for each text of which the tables are made.
+//! - **The contract of `scan_ready` is that of `scan_spec`** for each text of which the machine is made.
+//! - **A scan needs neither the least automaton nor packed tables**: both only matter to the file. So a scan goes by the
+//!   automaton as it was built, but for one of many states, whose rows would not fit the cache of a processor.
 #![tactic(auto)]
 
 mod counting;
@@ -34,6 +37,7 @@ mod laws;
 mod making;
 mod options;
 mod program;
+mod ready;
 mod scan;
 mod stats;
 
@@ -65,5 +69,6 @@ pub use options::Options;
 pub use program::{
     MAX_TABLE_BYTES, SPEC_READ_BYTES, command_words, read_more, read_spec_file, report_failure,
 };
-pub use scan::{MAX_READS, run_table, scan_by, scan_made, scan_spec, scan_table};
+pub use ready::{Ready, make_ready};
+pub use scan::{MAX_READS, run_table, scan_by, scan_ready, scan_spec, scan_table};
 pub use stats::{Stats, write_stats};

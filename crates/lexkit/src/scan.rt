@@ -5,7 +5,7 @@ ghost use Rattle.lexspec.specs.Views.{spec_of};
 ghost use Rattle.lexscan.specs.Runs.{FewCounts, FewReads, Ran, RunCounts};
 ghost use Rattle.lexscan.specs.Ties.{RunHandedOn};
 ghost use Rattle.lexkit.specs.Headline.{Headline, IsWithin, ScansBy, TableHeadline, TellsFault, max_reads};
-ghost use Rattle.lexkit.specs.Generated.{HasTables};
+ghost use Rattle.lexkit.specs.Ready.{HasMachine};
 ghost use Rattle.lexkit.specs.declared.options.Options.{Options as Asked};
 ghost use Rattle.lexkit.specs.ScanCounts.{ScanCounts};
 ghost use Rattle.lex_semantics.specs.Limits.{max_positions, max_states};
@@ -17,12 +17,13 @@ ghost use Rattle.lextab_packed.specs.FlatViews.{tables_of};
 ghost use Rattle.lextab_packed.specs.Machines.{table_machine};
 
 use crate::errors::{GenError, ScanError};
-use crate::making::{least_automaton, read_text};
+use crate::making::read_text;
 use crate::options::Options;
+use crate::ready::scan_automaton;
 use lexauto::Limits;
 use lexscan::{RunError, Source, run};
 use lexspec::Spec;
-use lextab::{Flat, Sink, Tables, pack_flat, read_flat};
+use lextab::{Flat, Sink, pack_flat, read_flat};
 use std::alloc::Global;
 
 /// How many reads a scan makes at most: 2^40.
@@ -96,11 +97,11 @@ pub fn scan_by<S: Source, K: Sink>(
         limits (spec_of spec.now) result }
     ensures counts { ScanCounts S.ends S.failures K.failures K.flushed source.old source.new sink.old sink.new result }
 {
-    let least = match least_automaton(alloc, spec, limits) {
+    let automaton = match scan_automaton(alloc, spec, limits) {
         Err(error) => return Err(ScanError::Generate(error)),
-        Ok(least) => least,
+        Ok(automaton) => automaton,
     };
-    let machine = match pack_flat(alloc, &least.automaton, spec) {
+    let machine = match pack_flat(alloc, &automaton, spec) {
         Err(_) => return Err(ScanError::Generate(GenError::OutOfMemory)),
         Ok(machine) => machine,
     };
@@ -110,26 +111,22 @@ pub fn scan_by<S: Source, K: Sink>(
     }
 }
 
-/// Scans the source by the tables that were made of a text, and writes to the sink, as `scan_spec` does by the text:
-/// they are not made once more. Out of memory in laying them flat comes before the source or the sink is touched.
-pub fn scan_made<S: Source, K: Sink>(
+/// Scans the source by the machine that was made ready of a text, and writes to the sink, as `scan_spec` does by the
+/// text.
+pub fn scan_ready<S: Source, K: Sink>(
     alloc: Global,
-    tables: Tables,
+    machine: &Flat,
     source: &mut S,
     sink: &mut K,
 ) -> Result<u8, ScanError>
     requires few { FewCounts S.ends S.failures K.failures source.old sink.old }
-    ensures told { (options : Asked) (text : List ℕ) → HasTables options text tables
+    ensures told { (options : Asked) (text : List ℕ) → HasMachine options text machine.now
         → Headline S.gave K.wrote source.old source.new sink.old sink.new
         (nat_lt (S.ends source.old) (S.ends source.new)) (S.failures source.new - S.failures source.old)
         options text result }
     ensures counts { ScanCounts S.ends S.failures K.failures K.flushed source.old source.new sink.old sink.new result }
 {
-    let flat = match Flat::new(alloc, tables) {
-        Err(_) => return Err(ScanError::Generate(GenError::OutOfMemory)),
-        Ok(flat) => flat,
-    };
-    match run_table(alloc, &flat, source, sink) {
+    match run_table(alloc, machine, source, sink) {
         Err(stop) => Err(ScanError::Run(stop)),
         Ok(end) => Ok(end),
     }

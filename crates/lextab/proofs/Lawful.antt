@@ -23,13 +23,7 @@ use Rattle.lextab_packed.specs.Invariant.{GoesOn}
 use Rattle.lextab_packed.proofs.Places.{each_of}
 use Rattle.lextab.specs.Below.{below}
 use Rattle.lextab.specs.Assembled.{start_in, action_in, assembled, HasTexts}
-use Rattle.lextab.specs.Columns.{Packing, IsPacking, HasRanges}
-use Rattle.lexauto_dfa.specs.Alike.{moves}
-use Rattle.lextab.specs.Columns.{packing_in}
-use Rattle.lextab.proofs.Unique.{same_size}
-use Rattle.lextab.proofs.Steps.{goes_as}
-use Rattle.lextab.proofs.Lifted.{packed_to}
-use Rattle.lextab.proofs.Bounds.{ranges_of}
+use Rattle.lextab.specs.Columns.{Packing, GoesAs, packing_in, packed_step}
 use Rattle.lextab.proofs.Columns.{rows_len, defaults_are, bases_are, lists_are, slots_len, checks_are, nexts_are, default_at, base_at, rules_at, check_at, next_at, steps_as_packed}
 use Rattle.lextab.proofs.Actions.{each_rule, each_condition, conditions_len, same_reject, same_cut, same_statements, same_ending, same_start}
 
@@ -56,30 +50,18 @@ slot_from z bases i n classes s e f some (inr h) =
     }
 
 module _ (p : Parts) (a : IsAutomaton p) (S : S.Spec) (laws : MachineLaws (machine_in p S)) (count : conditions p ≡ length S.conditions) (sound : is_sound S ≡ true)
-    (q : Packing) (packed : IsPacking (states p) (moves p.next.items) q) where
-  -- the packing is that of the automaton
-  same_moves : (s b : ℕ) → s < states p → b < 256 → moves p.next.items s b ≡ next p s b
-  same_moves s b h k =
-      let e : 256 * s + b ≡ s * 256 + b = omega arith in
-      ap (λ (i : ℕ). slice_index p.next.items i) e ∙ sym (cond-true (nat_lt b 256) (slice_index p.next.items (s * 256 + b)) 0 (lt-ltb b 256 k))
-
-  pub packed_as : IsPacking (states p) (next p) q
-  packed_as = packed_to (states p) (moves p.next.items) (next p) q same_moves packed
-
-  ranges : HasRanges (states p) q
-  ranges = ranges_of (states p) (next p) q packed_as a.some (λ b h. a.dead_stays b) (λ s b h k. (below p a S count).next s b h k)
-
+    (q : Packing) (goes : GoesAs (states p) (next p) q) where
   defaults_len : length q.defaults ≡ states p
-  defaults_len = packed_as.rows.defaults_len
+  defaults_len = goes.defaults_len
 
   bases_len : length q.bases ≡ length q.defaults
-  bases_len = packed_as.rows.bases_len ∙ sym packed_as.rows.defaults_len
+  bases_len = goes.bases_len ∙ sym goes.defaults_len
 
   lists_len : length (lists_in p) ≡ length q.defaults
-  lists_len = length-map p.accepts.items (λ v. v.value.items) ∙ a.lists ∙ sym packed_as.rows.defaults_len
+  lists_len = length-map p.accepts.items (λ v. v.value.items) ∙ a.lists ∙ sym goes.defaults_len
 
   nexts_len : length q.next ≡ length q.check
-  nexts_len = same_size (states p) q.class_count q.bases (length q.next) (length q.check) packed_as.rows.next_len packed_as.rows.check_len
+  nexts_len = goes.next_len
 
   rows_are : length (assembled p S q).rows ≡ states p
   rows_are = rows_len q.defaults q.bases (lists_in p) bases_len lists_len ∙ defaults_len
@@ -134,7 +116,7 @@ module _ (p : Parts) (a : IsAutomaton p) (S : S.Spec) (laws : MachineLaws (machi
       inside : (s b : ℕ) → s < states p → b < 256 → step_of (assembled p S q) s b ≡ next p s b
       inside s b h k =
           steps_as_packed (assembled p S q) s b (omega (arith, h, rows_are)) k
-          ∙ goes_as (states p) (next p) (packing_in (assembled p S q)) (subst (λ (r : Packing). IsPacking (states p) (next p) r) (sym has_packing) packed_as) (λ c l. a.dead_stays c) s b h k
+          ∙ ap (λ (r : Packing). packed_step r s b) has_packing ∙ goes.steps s b h k
 
       and_right' : (s b : ℕ) → nat_lt b 256 ≡ false → (nat_lt s (length (assembled p S q).rows) && nat_lt b 256) ≡ false
       and_right' s b h = and_right (nat_lt s (length (assembled p S q).rows)) (nat_lt b 256) h
@@ -198,13 +180,13 @@ module _ (p : Parts) (a : IsAutomaton p) (S : S.Spec) (laws : MachineLaws (machi
       let few = a.few in
       let some = a.some in
       let k = slots_are in
-      let least_slots = ranges.slots in
-      let most_slots = ranges.few_slots in
+      let least_slots = goes.ranges.slots in
+      let most_slots = goes.ranges.few_slots in
       record {
         some_conditions = (omega (arith, least, conditions_are), omega (arith, most, conditions_are));
         few_rules = omega (arith, few_rules, rules_len);
         some_states = (omega (arith, n, some), omega (arith, n, few));
-        some_classes = (ranges.some_class, ranges.classes);
+        some_classes = (goes.ranges.some_class, goes.ranges.classes);
         some_slots = (omega (arith, k, least_slots), omega (arith, k, most_slots, few));
       }
 
@@ -214,8 +196,8 @@ module _ (p : Parts) (a : IsAutomaton p) (S : S.Spec) (laws : MachineLaws (machi
       let low : s < states p = omega (arith, lt, rows_are) in
       let o = otherwise_is s in
       let b = base_is s in
-      let d = ranges.default s low in
-      let e = ranges.base s low in
+      let d = goes.ranges.default s low in
+      let e = goes.ranges.base s low in
       let n = rows_are in
       let k = slots_are in
       let r = rules_are s in
@@ -227,8 +209,8 @@ module _ (p : Parts) (a : IsAutomaton p) (S : S.Spec) (laws : MachineLaws (machi
         ascending = subst Ascending (sym r) (laws.ascending s);
         first_alone = λ none. subst (λ (l : List ℕ). length l ≤ 1) (sym r) (firsts (sym (same_reject S.rules) ∙ none) s low);
         dead = λ z. (
-          o ∙ ap (λ (m : ℕ). slice_index q.defaults m) z ∙ ranges.dead_default,
-          b ∙ ap (λ (m : ℕ). slice_index q.bases m) z ∙ ranges.dead_base,
+          o ∙ ap (λ (m : ℕ). slice_index q.defaults m) z ∙ goes.ranges.dead_default,
+          b ∙ ap (λ (m : ℕ). slice_index q.bases m) z ∙ goes.ranges.dead_base,
           r ∙ ap (λ (m : ℕ). accepts p m) z ∙ a.dead_accepts,
         );
       }
@@ -237,7 +219,7 @@ module _ (p : Parts) (a : IsAutomaton p) (S : S.Spec) (laws : MachineLaws (machi
   slot_of_place i lt =
       subst (λ (bases : List ℕ). IsSlot (sizes_of (assembled p S q)).states (sizes_of (assembled p S q)).classes bases i (slice_index_or (assembled p S q).slots i no_slot)) (sym (bases_are q.defaults q.bases (lists_in p) bases_len lists_len))
       (slot_from (sizes_of (assembled p S q)) q.bases i (states p) q.class_count (slice_index_or (assembled p S q).slots i no_slot) rows_are refl a.some
-      (seen (sym (check_is i)) (sym (next_is i)) (ranges.slot i (omega (arith, lt, slots_are)))))
+      (seen (sym (check_is i)) (sym (next_is i)) (goes.ranges.slot i (omega (arith, lt, slots_are)))))
     where
       seen : {c d x y : ℕ} → c ≡ d → x ≡ y
           → ((c ≡ 0) × (x ≡ 0)) ⊎ ((1 ≤ c) × (c < states p) × (slice_index q.bases c ≤ i) × (i < slice_index q.bases c + q.class_count) × (x < states p))
@@ -254,8 +236,8 @@ module _ (p : Parts) (a : IsAutomaton p) (S : S.Spec) (laws : MachineLaws (machi
         conditions = each_condition (sizes_of (assembled p S q)) (start_in p.starts.items p.line_starts.items) 0 S.conditions three.1
             (λ c line_start h. let low = (below p a S count).start c line_start (omega (arith, h)) in omega (arith, low, rows_are)) texts.prints;
         rules = each_rule (sizes_of (assembled p S q)) (length S.conditions) 0 S.rules (conditions_len (start_in p.starts.items p.line_starts.items) 0 S.conditions) four.1 texts.literals;
-        bytes = packed_as.classes.bytes;
-        class_of = each_of (λ i k. k < q.class_count) q.class_of 0 (λ b h. packed_as.classes.below b (let len = packed_as.classes.bytes in omega (arith, h, len)));
+        bytes = goes.bytes;
+        class_of = each_of (λ i k. k < q.class_count) q.class_of 0 (λ b h. goes.class_of b (let len = goes.bytes in omega (arith, h, len)));
         rows = each_of (IsRow (sizes_of (assembled p S q)).rules (sizes_of (assembled p S q)).states (sizes_of (assembled p S q)).classes (sizes_of (assembled p S q)).slots (some_rule_rejects (assembled p S q).rules)) (assembled p S q).rows no_row (row_of_state firsts);
         slots = each_of (IsSlot (sizes_of (assembled p S q)).states (sizes_of (assembled p S q)).classes (bases_of (assembled p S q).rows)) (assembled p S q).slots no_slot slot_of_place;
       }

@@ -93,3 +93,13 @@ pub record HasRanges (n : ℕ) (p : Packing) : Type 0 where
   pub slot : (i : ℕ) → i < length p.check → ((slice_index p.check i ≡ 0) × (slice_index p.next i ≡ 0))
       ⊎ ((1 ≤ slice_index p.check i) × (slice_index p.check i < n) × (slice_index p.bases (slice_index p.check i) ≤ i)
       × (i < slice_index p.bases (slice_index p.check i) + p.class_count) × (slice_index p.next i < n))
+
+-- columns of a table in which n states go so, within the limits of tables
+pub record GoesAs (n : ℕ) (go : ℕ → ℕ → ℕ) (p : Packing) : Type 0 where
+  pub ranges : HasRanges n p
+  pub bytes : length p.class_of ≡ 256
+  pub class_of : (b : ℕ) → b < 256 → slice_index p.class_of b < p.class_count
+  pub defaults_len : length p.defaults ≡ n
+  pub bases_len : length p.bases ≡ n
+  pub next_len : length p.next ≡ length p.check
+  pub steps : (s b : ℕ) → s < n → b < 256 → packed_step p s b ≡ go s b

@@ -13,6 +13,7 @@ pub mod Below
 pub mod Classes
 pub mod Packing
 pub mod Columns
+pub mod Unpacked
 pub mod PackingExamples
 pub mod Searching
 pub mod PackingViews

@@ -10,6 +10,7 @@
 //! - `filling`: the checks and the nexts.
 //! - `packing`: these together.
 //! - `assembling`: the conditions, rules and rows of a table.
+//! - `unpacked`: for a scan the columns of a table whose states each have a row of slots of their own.
 //! - `tables`: `pack`, and `pack_flat` for a scan.
 //! - `plain`: the automaton as it was built, with the actions of its specification, and `plain_machine`: what it
 //!   answers. Tests use it alone.
@@ -28,6 +29,9 @@
 //!   one file.
 //! - Bases without a shift: a state's row of slots is as long as there are classes, also past its last entry. So no
 //!   step leaves the slots, and an engine needs no test of bounds.
+//! - A scan is not packed for. Its table is seen by nobody, so each state has a row of slots of its own, and no place is
+//!   searched. Its classes are neighbours by which all states go alike: they are found in one look at each row, and are
+//!   some more than there need be.
 //! - What is packed is said of a table. `IsPacked` speaks of the rows and slots that a file has. The steps make
 //!   columns, and `IsPacking` says the same of those, with a proof that both agree.
 #![tactic(auto)]
@@ -43,6 +47,7 @@ mod plain_machine;
 mod rows;
 mod slots;
 mod tables;
+mod unpacked;
 
 pub use laws::{
     examples_of_packings, one_packing, packed_step_is, packing_has_ranges, packing_of_same_moves,

@@ -9,11 +9,13 @@ ghost use Rattle.lextab_packed.specs.Views.{table_of};
 ghost use Rattle.lextab_packed.specs.FlatViews.{tables_of};
 ghost use Rattle.lextab_packed.specs.Machines.{table_machine, table_parts};
 ghost use Rattle.lextab.specs.Assembled.{assembled, HasTexts};
+ghost use Rattle.lextab.specs.Columns.{GoesAs, packing_in};
 ghost use Rattle.lextab.specs.Packing.{IsPacked};
 ghost use Rattle.lextab.specs.PackingViews.{packing_of};
 
 use crate::assembling::{table_conditions, table_rows, table_rules};
 use crate::packing::{Packed, pack_rows};
+use crate::unpacked::unpacked;
 use lexauto_dfa::{Dfa, OutOfMemory, Parts};
 use lexspec::Spec;
 use lextab_packed::{Flat, TableParts, Tables};
@@ -48,6 +50,20 @@ fn table_parts(
     })
 }
 
+/// The tables of an automaton that is one for the specification, by columns in which its states go as they do.
+fn tables_by(alloc: Global, dfa: &Dfa, spec: &Spec, packed: Packed) -> Result<Tables, AllocError>
+    requires conditions { conditions_of dfa.now ≡ length (conditions_in (spec_of spec.now)) }
+    requires table { TableFor (machine_of dfa.now (spec_of spec.now)) (spec_of spec.now) }
+    requires goes { GoesAs (states_of dfa.now) (next_of dfa.now) (packing_of packed) }
+    ensures columns { IfOk result (λ t. packing_in (table_of (table_parts t)) ≡ packing_of packed) }
+    ensures machine { IfOk result (λ t. table_machine t ≡ machine_of dfa.now (spec_of spec.now)) }
+{
+    let parts = dfa.parts();
+    let table = table_parts(alloc, parts, spec, packed)?;
+    let goes_on = Vec::from_slice(alloc, &parts.goes_on)?;
+    Ok(Tables::new(table, goes_on))
+}
+
 /// The packed tables of an automaton that is one for the specification: its byte classes, defaults, bases and slots are
 /// those of first fit in order of state number, and the machine is the automaton's with the specification's actions.
 pub fn pack(alloc: Global, dfa: &Dfa, spec: &Spec) -> Result<Tables, OutOfMemory>
@@ -58,19 +74,18 @@ pub fn pack(alloc: Global, dfa: &Dfa, spec: &Spec) -> Result<Tables, OutOfMemory
 {
     let parts = dfa.parts();
     let packed = pack_rows(alloc, &parts.next, parts.goes_on.len())?;
-    let table = table_parts(alloc, parts, spec, packed)?;
-    let goes_on = Vec::from_slice(alloc, &parts.goes_on)?;
-    Ok(Tables::new(table, goes_on))
+    let tables = tables_by(alloc, dfa, spec, packed)?;
+    Ok(tables)
 }
 
-/// The machine of a scan by an automaton that is one for the specification: its packed tables, with the rows that the
-/// automaton has. They are not laid out from the slots.
+/// The machine of a scan by an automaton that is one for the specification. Its tables are made at once, and not packed.
 pub fn pack_flat(alloc: Global, dfa: &Dfa, spec: &Spec) -> Result<Flat, OutOfMemory>
     requires conditions { conditions_of dfa.now ≡ length (conditions_in (spec_of spec.now)) }
     requires table { TableFor (machine_of dfa.now (spec_of spec.now)) (spec_of spec.now) }
     ensures { IfOk result (λ f. table_machine (tables_of f) ≡ machine_of dfa.now (spec_of spec.now)) }
 {
-    let tables = pack(alloc, dfa, spec)?;
-    let rows = Vec::from_slice(alloc, &dfa.parts().next)?;
-    Ok(Flat::of_rows(alloc, tables, rows)?)
+    let parts = dfa.parts();
+    let columns = unpacked(alloc, &parts.next, parts.goes_on.len())?;
+    let tables = tables_by(alloc, dfa, spec, columns)?;
+    Ok(Flat::new(alloc, tables)?)
 }

@@ -3,7 +3,8 @@ use crate::answer::Answer;
 use crate::row::Row;
 use crate::scans::{options_of, refused};
 use lexkit::{
-    Generated, MemorySink, generate, write_backup, write_stats, write_tables, write_warnings,
+    Generated, MemorySink, generate, make_ready, write_backup, write_stats, write_tables,
+    write_warnings,
 };
 use std::alloc::{AllocError, Global};
 
@@ -21,9 +22,20 @@ fn reported(alloc: Global, all: &Generated) -> Result<Answer, AllocError> {
     })
 }
 
+/// Whether what is made ready of the specification has the warnings of what was made of it.
+fn is_ready_so(alloc: Global, row: &Row<'_>, all: &Generated) -> bool {
+    match make_ready(alloc, row.value("spec"), options_of(row)) {
+        Ok(ready) => ready.warnings == all.made.warnings,
+        Err(_) => false,
+    }
+}
+
 /// Writes the warnings, and tells the states that back up.
 pub(crate) fn report(alloc: Global, row: &Row<'_>) -> Result<Answer, AllocError> {
     match generate(alloc, row.value("spec"), options_of(row)) {
+        Ok(all) if !is_ready_so(alloc, row, &all) => {
+            Answer::telling(alloc, "other warnings for a scan\n")
+        }
         Ok(all) => reported(alloc, &all),
         Err(error) => refused(alloc, error),
     }

@@ -5,8 +5,8 @@ use crate::answer::{Answer, lines_of};
 use crate::row::Row;
 use lexkit::{
     Fault, GenError, Generated, MAX_POSITIONS, MAX_STATES, MemorySink, MemorySource, Options,
-    ReadOptions, ScanError, Source, Tables, generate, read_spec, scan_by, scan_made, scan_spec,
-    scan_table, write_tables,
+    ReadOptions, ScanError, Source, generate, make_ready, read_spec, scan_by, scan_ready,
+    scan_spec, scan_table, write_tables,
 };
 use std::alloc::{AllocError, Global};
 
@@ -98,12 +98,17 @@ fn by_value(alloc: Global, row: &Row<'_>) -> Result<Answer, AllocError> {
     }
 }
 
-/// A scan by tables.
-fn by_tables(alloc: Global, tables: Tables, input: &[u8]) -> Result<Answer, AllocError> {
-    let mut source = MemorySource::new(input);
-    let mut sink = MemorySink::new(alloc);
-    let answer = scan_made(alloc, tables, &mut source, &mut sink);
-    answer_of(alloc, answer, sink, source.calls())
+/// A scan by what is made ready of the text of a specification.
+fn by_ready(alloc: Global, row: &Row<'_>) -> Result<Answer, AllocError> {
+    match make_ready(alloc, row.value("spec"), options_of(row)) {
+        Ok(ready) => {
+            let mut source = MemorySource::new(row.value("input"));
+            let mut sink = MemorySink::new(alloc);
+            let answer = scan_ready(alloc, &ready.machine, &mut source, &mut sink);
+            answer_of(alloc, answer, sink, source.calls())
+        }
+        Err(error) => refused(alloc, error),
+    }
 }
 
 /// A scan by a table file.
@@ -114,21 +119,24 @@ pub(crate) fn by_file(alloc: Global, file: &[u8], input: &[u8]) -> Result<Answer
     answer_of(alloc, answer, sink, source.calls())
 }
 
-/// Whether scans by the tables that are made of a specification, and by their file, are answered so.
-fn is_made_so(alloc: Global, row: &Row<'_>, wanted: &Answer) -> Result<bool, AllocError> {
+/// A scan by the file of the tables that are made of a specification.
+fn by_made(alloc: Global, row: &Row<'_>) -> Result<Answer, AllocError> {
     match generate(alloc, row.value("spec"), options_of(row)) {
         Ok(Generated { made, backup: _ }) => {
-            let input = row.value("input");
             let mut file = MemorySink::new(alloc);
             let _ = write_tables(&made.tables, &mut file);
-            let so = by_file(alloc, file.written(), input)?.is(wanted);
-            Ok(by_tables(alloc, made.tables, input)?.is(wanted) && so)
+            by_file(alloc, file.written(), row.value("input"))
         }
-        Err(error) => Ok(refused(alloc, error)?.is(wanted)),
+        Err(error) => refused(alloc, error),
     }
 }
 
-/// What is answered of a scan by a specification: as text, as read, by the tables made of it, and by their file.
+/// Whether scans by what is made ready of a specification, and by the file of its tables, are answered so.
+fn is_made_so(alloc: Global, row: &Row<'_>, wanted: &Answer) -> Result<bool, AllocError> {
+    Ok(by_ready(alloc, row)?.is(wanted) && by_made(alloc, row)?.is(wanted))
+}
+
+/// What is answered of a scan by a specification: as text, as read, as made ready, and by the file of its tables.
 pub(crate) fn scan(alloc: Global, row: &Row<'_>) -> Result<Answer, AllocError> {
     let answer = by_text(alloc, row)?;
     if !by_value(alloc, row)?.is(&answer) {

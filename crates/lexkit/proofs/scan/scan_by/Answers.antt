@@ -7,7 +7,7 @@ use Rattle.lexspec.proofs.TestLaws.{spec_is_sound}
 use Rattle.lextab_packed.specs.FlatViews.{tables_of}
 use Rattle.lextab_packed.specs.Machines.{laws_of}
 use Rattle.lexkit.proofs.Carried.{came_to, stopped_at}
-use Rattle.lexkit.proofs.Refusing.{told_of, within}
+use Rattle.lexkit.proofs.Refusing.{told_of}
 use Rattle.lexkit.proofs.scan.scan_by.Goals as goal
 
 pub returns-in-Err-clause-told : goal.returns-in-Err-clause-told
@@ -19,7 +19,7 @@ returns-in-Err-run_table-clause-told g c =
     let S : Spec = spec_of c.args.spec.now in
     let made = c.in-Ok.ensures.made in
     let h = c.in-Err-run_table.ensures.ran in
-    stopped_at _ _ _ _ _ _ _ _ _ _ c.args.limits S (spec_is_sound S c.args.spec.now.sound) (within c.args.limits S c.in-Ok.least.subsets c.in-Ok.least.automaton made)
+    stopped_at _ _ _ _ _ _ _ _ _ _ c.args.limits S (spec_is_sound S c.args.spec.now.sound) made.within
     _ (laws_of (tables_of c.in-Ok-pack_flat.machine)) (subst (λ M. TableFor M S) (sym c.in-Ok-pack_flat.ensures) made.table) h.0 h.1 h.2 h.3 h.5 _ h.4
 
 pub returns-clause-told : goal.returns-clause-told
@@ -27,5 +27,5 @@ returns-clause-told g c =
     let S : Spec = spec_of c.args.spec.now in
     let made = c.in-Ok.ensures.made in
     let h = c.in-Ok-run_table.ensures.ran in
-    came_to _ _ _ _ _ _ _ _ _ _ c.args.limits S (spec_is_sound S c.args.spec.now.sound) (within c.args.limits S c.in-Ok.least.subsets c.in-Ok.least.automaton made)
+    came_to _ _ _ _ _ _ _ _ _ _ c.args.limits S (spec_is_sound S c.args.spec.now.sound) made.within
     _ (laws_of (tables_of c.in-Ok-pack_flat.machine)) (subst (λ M. TableFor M S) (sym c.in-Ok-pack_flat.ensures) made.table) h.0 h.1 h.2 h.3 h.5 _ h.4

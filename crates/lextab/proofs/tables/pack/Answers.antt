@@ -1,87 +1,26 @@
-use Rattle.std.proofs.Common.{◌≡◌, ℕ, Bool, List, rules, sym, ap, subst, ◌∙◌}
-use Rattle.lex_semantics.specs.Text.{flag}
-use Rattle.lexspec.specs.Views.{spec_of}
-use Rattle.lexspec.proofs.TestLaws.{spec_is_sound}
-use Rattle.lexauto_dfa.specs.Parts.{states, next}
-use Rattle.lexauto_dfa.specs.declared.dfa.Parts.{Parts}
-use Rattle.lextab_packed.specs.Table.{Table}
-use Rattle.lextab_packed.specs.Checks.{IsTable}
-use Rattle.lextab_packed.specs.Steps.{machine_of_table}
-use Rattle.lextab_packed.specs.Views.{table_of}
-use Rattle.lextab_packed.specs.Invariant.{GoesOn}
-use Rattle.lextab_packed.specs.declared.parts.TableParts.{TableParts}
-use Rattle.lextab.specs.Assembled.{assembled, HasTexts}
-use Rattle.lextab.specs.Columns.{Packing, IsPacking}
+use Rattle.std.proofs.Common.{◌≡◌, ℕ, List, rules, sym, subst}
 use Rattle.lexauto_dfa.specs.Alike.{moves}
-use Rattle.lextab.specs.Columns.{packing_in}
+use Rattle.lexauto_dfa.specs.Parts.{states, next}
+use Rattle.lextab_packed.specs.Views.{table_of}
+use Rattle.lextab.specs.Columns.{Packing, IsPacking}
 use Rattle.lextab.specs.PackingViews.{packing_of}
-use Rattle.lexauto_dfa.proofs.Fitting.{fitting_laws}
-use Rattle.lextab.proofs.Bounds.{class_count_low}
-use Rattle.lextab.proofs.Firsts.{first_alone}
-use Rattle.lextab.proofs.Lawful.{is_table, goes_on, same_machine, packed_as, has_packing}
-use Rattle.lextab.proofs.Tabled.{packed_of as packed_of_table}
+use Rattle.lextab.proofs.Goes.{of_lists, packed_as, packed_goes}
+use Rattle.lextab.proofs.Tabled.{packed_of}
 use Rattle.lextab.proofs.tables.pack.Goals as goal
 
-packed_of : (p r : Parts) (n : ℕ) (row : List ℕ) (q : Packing) → r ≡ p → n ≡ states r → row ≡ r.next.items → IsPacking n (moves row) q → IsPacking (states p) (moves p.next.items) q
-packed_of p r n row q same len rows h =
-    let a = subst (λ (m : ℕ). IsPacking m (moves row) q) (len ∙ ap (λ (x : Parts). states x) same) h in
-    subst (λ (l : List ℕ). IsPacking (states p) (moves l) q) (rows ∙ ap (λ (x : Parts). x.next.items) same) a
-
-pub table_parts-requires-clause-classes : goal.table_parts-requires-clause-classes
-table_parts-requires-clause-classes c =
-    class_count_low c.len.result (moves c.deref.result.now) (packing_of c.in_ok-packed.packed).class_of (packing_of c.in_ok-packed.packed).class_count c.in_ok-packed.ensures.classes
-
-pub new-requires-clause-table : goal.new-requires-clause-table
-new-requires-clause-table c =
+pub tables_by-requires-clause-goes : goal.tables_by-requires-clause-goes
+tables_by-requires-clause-goes c =
     let p = c.args.dfa.now.parts in
-    let a = c.args.dfa.now.lawful in
-    let spec = spec_of c.args.spec.now in
     let q : Packing = packing_of c.in_ok-packed.packed in
     let len : c.len.result ≡ states c.parts-parts.result.now = search rules in
-    let packed = packed_of p c.parts-parts.result.now c.len.result c.deref.result.now q c.parts-parts.ensures len c.deref.ensures.value c.in_ok-packed.ensures in
-    let is : table_of c.in_ok-table.table ≡ assembled p spec q = c.in_ok-table.ensures.table ∙ ap (λ (x : Parts). assembled x spec q) c.parts-parts.ensures in
-    subst IsTable (sym is) (is_table p a spec (fitting_laws p a spec (spec_is_sound spec c.args.spec.now.sound) c.requires.conditions c.requires.table) c.requires.conditions c.args.spec.now.sound q packed
-    (λ none. first_alone p a spec c.requires.conditions c.requires.table none)
-    (subst HasTexts is c.in_ok-table.ensures.texts))
-
-pub new-requires-clause-flags : goal.new-requires-clause-flags
-new-requires-clause-flags c =
-    let p = c.args.dfa.now.parts in
-    let a = c.args.dfa.now.lawful in
-    let spec = spec_of c.args.spec.now in
-    let q : Packing = packing_of c.in_ok-packed.packed in
-    let len : c.len.result ≡ states c.parts-parts.result.now = search rules in
-    let packed = packed_of p c.parts-parts.result.now c.len.result c.deref.result.now q c.parts-parts.ensures len c.deref.ensures.value c.in_ok-packed.ensures in
-    let is : table_of c.in_ok-table.table ≡ assembled p spec q = c.in_ok-table.ensures.table ∙ ap (λ (x : Parts). assembled x spec q) c.parts-parts.ensures in
-    let flags : c.in_ok-goes_on.goes_on.items ≡ p.goes_on.items = c.in_ok-goes_on.ensures.items ∙ c.deref-2.ensures.value ∙ ap (λ (x : Parts). x.goes_on.items) c.parts-parts.ensures in
-    subst (λ (t : Table). GoesOn t c.in_ok-goes_on.goes_on.items) (sym is)
-    (subst (λ (l : List Bool). GoesOn (assembled p spec q) l) (sym flags) (goes_on p a spec (fitting_laws p a spec (spec_is_sound spec c.args.spec.now.sound) c.requires.conditions c.requires.table) c.requires.conditions c.args.spec.now.sound q packed))
+    packed_goes p c.args.dfa.now.lawful q
+    (of_lists (λ (n : ℕ) (l : List ℕ). IsPacking n (moves l) q) p c.parts-parts.result.now c.len.result c.deref.result.now c.parts-parts.ensures len c.deref.ensures.value c.in_ok-packed.ensures)
 
 pub returns-clause-packed : goal.returns-clause-packed
 returns-clause-packed c =
     let p = c.args.dfa.now.parts in
-    let a = c.args.dfa.now.lawful in
-    let spec = spec_of c.args.spec.now in
     let q : Packing = packing_of c.in_ok-packed.packed in
     let len : c.len.result ≡ states c.parts-parts.result.now = search rules in
-    let packed = packed_of p c.parts-parts.result.now c.len.result c.deref.result.now q c.parts-parts.ensures len c.deref.ensures.value c.in_ok-packed.ensures in
-    let is : table_of c.new.result.parts ≡ assembled p spec q =
-    ap (λ (x : TableParts). table_of x) c.new.ensures.parts ∙ c.in_ok-table.ensures.table ∙ ap (λ (x : Parts). assembled x spec q) c.parts-parts.ensures in
-    let same = has_packing p a spec (fitting_laws p a spec (spec_is_sound spec c.args.spec.now.sound) c.requires.conditions c.requires.table) c.requires.conditions c.args.spec.now.sound q packed in
-    packed_of_table (states p) (next p) (table_of c.new.result.parts) (subst (λ (r : Packing). IsPacking (states p) (next p) r) (sym (ap (λ (t : Table). packing_in t) is ∙ same))
-    (packed_as p a spec (fitting_laws p a spec (spec_is_sound spec c.args.spec.now.sound) c.requires.conditions c.requires.table) c.requires.conditions c.args.spec.now.sound q packed))
-
-pub returns-clause-machine : goal.returns-clause-machine
-returns-clause-machine c =
-    let p = c.args.dfa.now.parts in
-    let a = c.args.dfa.now.lawful in
-    let spec = spec_of c.args.spec.now in
-    let q : Packing = packing_of c.in_ok-packed.packed in
-    let len : c.len.result ≡ states c.parts-parts.result.now = search rules in
-    let packed = packed_of p c.parts-parts.result.now c.len.result c.deref.result.now q c.parts-parts.ensures len c.deref.ensures.value c.in_ok-packed.ensures in
-    let is : table_of c.new.result.parts ≡ assembled p spec q =
-    ap (λ (x : TableParts). table_of x) c.new.ensures.parts ∙ c.in_ok-table.ensures.table ∙ ap (λ (x : Parts). assembled x spec q) c.parts-parts.ensures in
-    let flags : c.new.result.goes_on.items ≡ p.goes_on.items = c.new.ensures.flags ∙ c.in_ok-goes_on.ensures.items ∙ c.deref-2.ensures.value ∙ ap (λ (x : Parts). x.goes_on.items) c.parts-parts.ensures in
-    ap (λ (t : Table). machine_of_table t (λ s. flag c.new.result.goes_on.items s)) is
-    ∙ ap (λ (l : List Bool). machine_of_table (assembled p spec q) (λ s. flag l s)) flags
-    ∙ same_machine p a spec (fitting_laws p a spec (spec_is_sound spec c.args.spec.now.sound) c.requires.conditions c.requires.table) c.requires.conditions c.args.spec.now.sound q packed
+    let is = packed_as p c.args.dfa.now.lawful q
+    (of_lists (λ (n : ℕ) (l : List ℕ). IsPacking n (moves l) q) p c.parts-parts.result.now c.len.result c.deref.result.now c.parts-parts.ensures len c.deref.ensures.value c.in_ok-packed.ensures) in
+    packed_of (states p) (next p) (table_of c.in_ok-tables.tables.parts) (subst (λ (r : Packing). IsPacking (states p) (next p) r) (sym c.in_ok-tables.ensures.columns) is)

@@ -1,11 +1,21 @@
-use Rattle.std.proofs.Common.{◌≡◌, ℕ, ◌+◌, ◌*◌, List, slice_index, sym, ap, ◌∙◌, arith}
-use Rattle.std.proofs.lemmas.Bool.{cond-true, lt-ltb}
+use Rattle.std.proofs.Common.{◌≡◌, ℕ, List, rules, ap, ◌∙◌, slice_index}
+use Rattle.lexauto_dfa.specs.Alike.{moves}
+use Rattle.lexauto_dfa.specs.Parts.{states}
+use Rattle.lexauto_dfa.specs.declared.dfa.Parts.{Parts}
+use Rattle.lextab.specs.Columns.{Packing, GoesAs}
+use Rattle.lextab.specs.PackingViews.{packing_of}
+use Rattle.lextab.proofs.Goes.{of_lists, dead_row, goes_by_lists}
 use Rattle.lextab.proofs.tables.pack_flat.Goals as goal
 
-pub of_rows-requires-clause-steps : goal.of_rows-requires-clause-steps
-of_rows-requires-clause-steps c s b low byte =
-    let next : List ℕ = c.args.dfa.now.parts.next.items in
-    let rows : c.in_ok-rows.rows.items ≡ next = c.in_ok-rows.ensures.items ∙ c.deref.ensures.value ∙ ap (λ p. p.next.items) c.parts.ensures in
-    let place : 256 * s + b ≡ s * 256 + b = omega arith in
-    ap (λ l. slice_index l (256 * s + b)) rows ∙ ap (slice_index next) place
-    ∙ sym (cond-true _ (slice_index next (s * 256 + b)) 0 (lt-ltb b 256 byte)) ∙ sym (ap (λ M. M.next s b) c.in_ok-tables.ensures.machine)
+pub unpacked-requires-clause-dead : goal.unpacked-requires-clause-dead
+unpacked-requires-clause-dead c b h =
+    let p = c.args.dfa.now.parts in
+    ap (λ (l : List ℕ). slice_index l b) (c.deref.ensures.value ∙ ap (λ (x : Parts). x.next.items) c.parts-parts.ensures) ∙ dead_row p c.args.dfa.now.lawful b h
+
+pub tables_by-requires-clause-goes : goal.tables_by-requires-clause-goes
+tables_by-requires-clause-goes c =
+    let p = c.args.dfa.now.parts in
+    let q : Packing = packing_of c.in_ok-columns.columns in
+    let len : c.len.result ≡ states c.parts-parts.result.now = search rules in
+    goes_by_lists p c.args.dfa.now.lawful q
+    (of_lists (λ (n : ℕ) (l : List ℕ). GoesAs n (moves l) q) p c.parts-parts.result.now c.len.result c.deref.result.now c.parts-parts.ensures len c.deref.ensures.value c.in_ok-columns.ensures)
