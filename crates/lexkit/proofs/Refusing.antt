@@ -17,7 +17,9 @@ use Rattle.lextab_file.specs.declared.error.TableError.TheVariants as errors
 use Rattle.lexkit.specs.Generated.{SpecRefusal, MakesBy, Makes, MakesTablesBy, MakesTables}
 use Rattle.lexkit.specs.LeastAutomata.{IsLeastOf}
 use Rattle.lexkit.specs.declared.making.Generated.{Generated}
+use Rattle.lexkit.specs.Ready.{MakesReady, MakesReadyBy}
 use Rattle.lexkit.specs.declared.making.Made.{Made}
+use Rattle.lexkit.specs.declared.ready.Ready.{Ready}
 use Rattle.lexkit.specs.declared.options.Options.{Options}
 use Rattle.lexkit.specs.declared.errors.GenError.{GenError}
 use Rattle.lexkit.specs.declared.errors.GenError.TheVariants as gens
@@ -63,3 +65,8 @@ pub tables_of_text : (options : Options) (text : List ℕ) (S : Spec) (skipped :
     → MakesTables options text r
 tables_of_text options text S skipped spells lines (Ok m) made = (S, spells, skipped, lines, made)
 tables_of_text options text S skipped spells lines (Err e) refused = refused_of_text options text S spells e refused
+
+pub ready_of_text : (options : Options) (text : List ℕ) (S : Spec) (skipped : List ℕ) → SpellsSpec (reading options) text S → AreSkipped text skipped → (r : Result Ready GenError) → MakesReadyBy options.limits S skipped r
+    → MakesReady options text r
+ready_of_text options text S skipped spells lines (Ok ready) made = (S, spells, skipped, lines, made)
+ready_of_text options text S skipped spells lines (Err e) refused = refused_of_text options text S spells e refused

@@ -11,7 +11,7 @@ use Rattle.lexauto_dfa.specs.declared.dfa.Dfa.{Dfa}
 use Rattle.lextab_packed.specs.FlatViews.{tables_of}
 use Rattle.lextab_packed.specs.Machines.{table_machine}
 use Rattle.lextab_packed.specs.declared.flat.Flat.{Flat}
-use Rattle.lexkit.specs.Generated.{AreWarnings}
+use Rattle.lexkit.specs.Generated.{AreWarnings, SpecRefusal}
 use Rattle.lexkit.specs.Headline.{IsWithin, Refusal, reading}
 use Rattle.lexkit.specs.declared.options.Options.{Options}
 use Rattle.lexkit.specs.declared.errors.GenError.{GenError}
@@ -33,6 +33,11 @@ pub record IsMachineFor (limits : Limits) (S : Spec) (f : Flat) : Type 0 where
 pub record IsReadyFor (limits : Limits) (S : Spec) (skipped : List ℕ) (r : Ready) : Type 0 where
   pub machine : IsMachineFor limits S r.machine
   pub warnings : AreWarnings S skipped r.warnings.items
+
+-- what is made ready by a specification with these lines of skipped code
+abbrev pub MakesReadyBy : Limits → Spec → List ℕ → Result Ready GenError → Type 0
+MakesReadyBy limits S skipped (Ok r) = IsReadyFor limits S skipped r
+MakesReadyBy limits S skipped (Err e) = SpecRefusal limits S e
 
 -- what is made ready of a text
 abbrev pub MakesReady : Options → List ℕ → Result Ready GenError → Type 0

@@ -4,7 +4,7 @@ ghost use Rattle.std.specs.Prelude.{◌≡◌, ◌≤◌, length, IfOk, IfErr};
 ghost use Rattle.lex_semantics.specs.Limits.{max_positions, max_states};
 ghost use Rattle.lexauto_dfa.specs.Automata.{machine_of, conditions_of};
 ghost use Rattle.lexkit.specs.Generated.{AreWarnings, SpecRefusal};
-ghost use Rattle.lexkit.specs.Ready.{IsAutomatonOf, IsReadyFor, MakesReady};
+ghost use Rattle.lexkit.specs.Ready.{IsAutomatonOf, IsReadyFor, MakesReady, MakesReadyBy};
 ghost use Rattle.lexspec.specs.Views.{spec_of, skipped_in};
 
 use crate::errors::GenError;
@@ -66,6 +66,19 @@ fn ready_by(
     Ok(Ready { machine, warnings })
 }
 
+/// Makes what a scan by a specification goes by, with its warnings.
+fn ready_of(alloc: Global, spec: &Spec, limits: Limits) -> Result<Ready, GenError>
+    requires few_positions { limits.positions ≤ max_positions }
+    requires few_states { limits.states ≤ max_states }
+    ensures { MakesReadyBy limits (spec_of spec.now) (skipped_in spec.now) result }
+{
+    let automaton = scan_automaton(alloc, spec, limits)?;
+    match ready_by(alloc, spec, limits, &automaton) {
+        Err(_) => Err(GenError::OutOfMemory),
+        Ok(ready) => Ok(ready),
+    }
+}
+
 /// Makes what a scan by a text goes by, with the warnings of the text. It refuses the texts that `generate` refuses.
 pub fn make_ready(alloc: Global, text: &[u8], options: Options) -> Result<Ready, GenError>
     requires few_positions { options.limits.positions ≤ max_positions }
@@ -73,9 +86,5 @@ pub fn make_ready(alloc: Global, text: &[u8], options: Options) -> Result<Ready,
     ensures { MakesReady options text.now result }
 {
     let spec = read_text(alloc, text, options)?;
-    let automaton = scan_automaton(alloc, &spec, options.limits)?;
-    match ready_by(alloc, &spec, options.limits, &automaton) {
-        Err(_) => Err(GenError::OutOfMemory),
-        Ok(ready) => Ok(ready),
-    }
+    ready_of(alloc, &spec, options.limits)
 }

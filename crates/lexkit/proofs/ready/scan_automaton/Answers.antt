@@ -9,8 +9,8 @@ pub returns-in-Err-clause-refused : goal.returns-in-Err-clause-refused
 returns-in-Err-clause-refused c =
     by_reason c.args.limits (spec_of c.args.spec.now) c.in-Err.error (λ e. c.in-Err.ensures.too_many_positions (ap Err e)) (λ e. c.in-Err.ensures.too_many_states (ap Err e))
 
-pub returns-then-clause-made : goal.returns-then-clause-made
-returns-then-clause-made c =
+pub returns-then-len-le-FEW_STATES-clause-made : goal.returns-then-len-le-FEW_STATES-clause-made
+returns-then-len-le-FEW_STATES-clause-made c =
     let b = c.in-Ok.ensures in
     record {
       within = record { few_positions = b.few_positions; states = states_of c.in-Ok.automaton; subsets = b.states; few_states = b.few_states };
