@@ -9,6 +9,7 @@ ENDS = re.compile(r"^(?:\}|\};|\{\}|\)|\);|\]\);|\];|\S.*;)$")
 FUNCTION_ENDS = re.compile(r"^(?:\}|\{\})$")
 # (of a constant whose value is on a line of its own)
 VALUE_ENDS = re.compile(r";$")
+MADE = re.compile(r"^(?:pub(?:\([^)]*\))? )?(?:struct|enum) (\w+)")
 KEPT_DERIVES = ("Clone", "Copy", "Drop")
 USE = re.compile(r"(?m)^((?:pub(?:\([^)]*\))? )?)use ([\w:]+::)(?:\{([^}]*)\}|(\w+));")
 PROOFS = ("Answers.antt", "Invariants.antt", "Proof.antt")
@@ -43,14 +44,17 @@ def line_kept(line):
 
 
 def without_functions(text, is_kept, gone):
-    """A source file without functions, but those that are kept; the names of the others are added to `gone`."""
-    left = []
+    """A source file without functions, but those that are kept; the names of the others are added to `gone`. What has an impl of Drop, which
+    goes too, derives it."""
+    left, destroyed = [], set(re.findall(r"(?m)^impl\b.* Drop for (\w+)", text))
     for item in items(text):
         first = next((line for line in item if line and not line.startswith(("//", "#"))), "")
         head = HEAD.match(first)
         if head and not is_kept(head[1]):
             gone.add(head[1])
         elif not re.match(r"(unsafe )?impl\b(?!.*\bModel\b)|macro_rules", first):
+            made = MADE.match(first)
+            left += ["#[derive(Drop)]"] if made and made[1] in destroyed else []
             left += [line_kept(line) for line in item]
     return "\n".join(left)
 
