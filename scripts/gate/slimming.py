@@ -11,7 +11,7 @@ FUNCTION_ENDS = re.compile(r"^(?:\}|\{\})$")
 VALUE_ENDS = re.compile(r";$")
 MADE = re.compile(r"^(?:pub(?:\([^)]*\))? )?(?:struct|enum) (\w+)")
 KEPT_DERIVES = ("Clone", "Copy", "Drop")
-USE = re.compile(r"(?m)^((?:pub(?:\([^)]*\))? )?)use ([\w:]+::)(?:\{([^}]*)\}|(\w+));")
+USE = re.compile(r"(?m)^((?:pub(?:\([^)]*\))? )?)use ([\w:]+::)(?:\{([^}]*)\}|(\w+(?: as \w+)?));")
 PROOFS = ("Answers.antt", "Invariants.antt", "Proof.antt")
 
 
@@ -63,7 +63,7 @@ def without_names(text, gone):
     """A source file that imports none of these names."""
 
     def use(found):
-        names = [it for it in re.split(r",\s*", (found[3] or found[4]).strip().rstrip(",")) if it not in gone]
+        names = [it for it in re.split(r",\s*", (found[3] or found[4]).strip().rstrip(",")) if it.partition(" as ")[0] not in gone]
         return f"{found[1]}use {found[2]}{{{', '.join(names)}}};" if names else ""
 
     return USE.sub(use, text)
