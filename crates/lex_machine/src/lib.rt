@@ -19,7 +19,8 @@
 //! Decided for this room alone:
 //!
 //! - A machine need not tell anything at a glance: `way` and `gist` may answer that nothing is known. Then a scan
-//!   makes each turn by itself. Nor need it know which state leads to another (`only_before`).
+//!   makes each turn by itself. Nor need it know which state leads to another (`only_before`), or which rules do yymore
+//!   alone (`does_more`).
 //! - A gist says what a rule does only where it keeps the whole match and each statement is ECHO, a literal or BEGIN.
 //!   These change nothing but the output and the condition.
 #![tactic(auto)]

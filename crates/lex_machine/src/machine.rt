@@ -1,8 +1,9 @@
 //! What a scan obeys.
-ghost use Rattle.std.specs.Prelude.{◌≡◌, ℕ, ◌<◌, map, true, false, IfSome};
+ghost use Rattle.std.specs.Prelude.{◌≡◌, ℕ, ◌<◌, [], ◌∷◌, map, true, false, IfSome};
 ghost use Rattle.lex_semantics.specs.Machine.{Machine as MachineModel};
+ghost use Rattle.lex_semantics.specs.Spec.{More};
 ghost use Rattle.lex_machine.specs.Views.{statement_of, end_action_of, cut_of};
-ghost use Rattle.lex_machine.specs.Glances.{Leads, Gists, OnlyBefore};
+ghost use Rattle.lex_machine.specs.Glances.{Leads, Gists, FirstDoes, OnlyBefore};
 ghost use Rattle.lex_machine.specs.Quiets.{NoneFits};
 ghost use Rattle.lex_machine.specs.Singles.{IsDropped, IsCopied, Singles};
 ghost use Rattle.lex_semantics.specs.MachineLaws.{MachineLaws, StaysBelow, NoReject, SomeReject};
@@ -104,6 +105,15 @@ pub trait Machine {
     {
         let _state = state;
         Gist::Any
+    }
+
+    /// Whether it is known that the first rule that the state accepts keeps all of a match, and does yymore alone.
+    fn does_more(&self, state: u32) -> bool
+        requires { state < states self.now }
+        ensures { result ≡ true → FirstDoes (machine self.now) state (More ∷ []) }
+    {
+        let _state = state;
+        false
     }
 
     /// Whether most bytes are matches by themselves in a condition, which a scan drops or copies. It is asked before the

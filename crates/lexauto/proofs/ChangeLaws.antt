@@ -1,8 +1,8 @@
 -- The bytes at which what a position reads changes.
-use Rattle.std.proofs.Common.{◌≡◌, ◌≢◌, ℕ, zero, suc, ◌++◌, ◌+◌, ◌⊎◌, inl, inr, refl, ◌<◌, Bool, true, false, ◌&&◌, ◌||◌, List, [], ◌∷◌, length, sym, ap, ◌∙◌, arith}
+use Rattle.std.proofs.Common.{◌≡◌, ℕ, zero, suc, ◌++◌, ◌+◌, ◌⊎◌, inl, inr, refl, ◌<◌, Bool, true, false, ◌&&◌, ◌||◌, List, [], ◌∷◌, length, sym, ap, ◌∙◌, arith}
 use Rattle.std.specs.Prelude.{◌==◌, slice_index_or}
-use Rattle.std.proofs.lemmas.Bool.{eq-eqb, eqb-true, ne_eqb, or_parts}
-use Rattle.lex_semantics.specs.ByteSets.{ByteSet, has, empty_set, single, union}
+use Rattle.std.proofs.lemmas.Bool.{eqb-true, or_parts}
+use Rattle.lex_semantics.specs.ByteSets.{ByteSet, has, empty_set, union}
 use Rattle.lex_semantics.specs.Text.{flag}
 use Rattle.lexre_bytes.proofs.SetLaws.{has-set_of}
 use Rattle.lexauto_positions.specs.Letters.{reads_at}
@@ -15,24 +15,6 @@ has_nothing b lt = has-set_of (λ c. false) b lt
 pub in_neither : (s t : ByteSet) (b : ℕ) → b < 256 → has (union s t) b ≡ false → (has s b ≡ false) × (has t b ≡ false)
 unfolding union
 in_neither s t b lt e = or_parts (has s b) (has t b) (sym (has-set_of (λ c. has s c || has t c) b lt) ∙ e)
-
-pub not_single : (n b : ℕ) → b < 256 → has (single n) b ≡ false → b ≢ n
-unfolding single
-not_single n b lt e is = let h : true ≡ false = sym (eq-eqb b n is) ∙ sym (has-set_of (λ c. c == n) b lt) ∙ e in cc
-
--- a byte after another is not in a set with that one, if it was not in it before
-pub not_with : (s : ByteSet) (n b : ℕ) → n < b → b < 256 → has s b ≡ false → has (union s (single n)) b ≡ false
-unfolding union single
-not_with s n b after lt e = has-set_of (λ c. has s c || has (single n) c) b lt ∙ neither (has s b) (has (single n) b) e (has-set_of (λ c. c == n) b lt ∙ ne_eqb b n (λ is. omega (arith, is, after)))
-  where
-    neither : (x y : Bool) → x ≡ false → y ≡ false → (x || y) ≡ false
-    neither false false p q = refl
-    neither false true p q = cc
-    neither true y p q = cc
-
--- where a set adds nothing to another, it has no byte that the other lacks
-pub adds_nothing : (s t : ByteSet) (b : ℕ) → b < 256 → union s t ≡ t → has t b ≡ false → has s b ≡ false
-adds_nothing s t b lt same e = (in_neither s t b lt (ap (λ u. has u b) same ∙ e)).0
 
 and_same : (x y t : Bool) → (t ≡ true → x ≡ y) → (x && t) ≡ (y && t)
 and_same x y true h = ap (λ (z : Bool). z && true) (h (let e : true ≡ true = cc in e))

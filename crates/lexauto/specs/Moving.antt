@@ -52,17 +52,6 @@ AreChangesBy reads places changes =
     (q b : ℕ) → 1 ≤ b → b < 256 → has (slice_index_or changes (place_at places (length changes) q) empty_set) b ≡ false
     → reads (b - 1) q ≡ reads b q
 
--- for each byte a later one, at most 256; no byte between them is in one of the sets
-pub record AreLater (sets : List ByteSet) (later : List ℕ) : Type 0 where
-  pub len : length later ≡ 256
-  pub after : (b : ℕ) → b < 256 → b < slice_index later b
-  pub within : (b : ℕ) → b < 256 → slice_index later b ≤ 256
-  pub none : (b c k : ℕ) → b < 256 → b < c → c < slice_index later b → has (slice_index_or sets k empty_set) c ≡ false
-
--- for each byte, a set without the bytes after it
-abbrev pub HaveNoneAfter : List ByteSet → Type 0
-HaveNoneAfter sets = (b c : ℕ) → b < c → c < 256 → has (slice_index_or sets b empty_set) c ≡ false
-
 -- for each byte, an earlier one or itself with the same mask
 pub record AreTwins (masks : List (List Bool)) (twins : List ℕ) : Type 0 where
   pub len : length twins ≡ 256

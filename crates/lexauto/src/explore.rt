@@ -6,17 +6,18 @@ ghost use Rattle.lexauto_positions.specs.Cursors.{Increases};
 ghost use Rattle.lexauto.specs.Sets.{lasts_in};
 ghost use Rattle.lexauto.specs.declared.explore.ExploreError.TheVariants.{Memory};
 ghost use Rattle.lexauto.specs.Explored.{Changes, GoOn, IsExplored, MoreThan, Reached, AreImages, goes_by, step_by};
-ghost use Rattle.lexauto.specs.Moving.{HaveNoneAfter};
 ghost use Rattle.lexauto.specs.Keys.{At, Absent, Found, Finds, keys_in};
 ghost use Rattle.lexauto.specs.KeyPacking.{look_kept, kept_in, packed, unpacked};
 
-use crate::changing::{bytes_up_to, has_none_after};
 use crate::key_packing::{is_bits, pack_key, unpack_key};
 use lexauto_positions::Walked;
 use lexre_bytes::ByteSet;
 use std::alloc::{AllocError, AllocFailed, Global};
 use std::collections::BTreeMap;
 use std::rc::Rc;
+
+/// The targets that there is room for at once: the rows of 256 states. So few rows are copied to a larger room.
+const ROOM: usize = 65_536;
 
 /// Why the keys that are reached were not all found.
 #[derive(Drop)]
@@ -128,14 +129,6 @@ pub(crate) trait Moves {
     fn is_reading(&self, kept: &[u32], followers: &[u32], byte: u8) -> bool
         ensures { result ≡ true → unpacked kept.now ≡ read self.now followers.now byte };
 
-    /// A later byte, at most 256. Each byte before it, and after this one, is read as the byte before that one is,
-    /// whatever follows.
-    fn later(&self, byte: u8) -> usize
-        ensures after { byte < result }
-        ensures within { result ≤ 256 }
-        ensures same { (followers : List ℕ) (b : ℕ) → byte < b → b < result
-            → read self.now followers (b - 1) ≡ read self.now followers b };
-
     /// An earlier byte that is read as this one is, whatever follows; else the byte itself.
     fn twin(&self, byte: u8) -> u8
         ensures first { result ≤ byte }
@@ -226,38 +219,6 @@ fn target<M: Moves>(
     read_target(alloc, moves, table, followers, byte, limit)
 }
 
-/// The first byte after this one that is among the changes, or a later one up to which nothing is read otherwise.
-fn first_after<M: Moves>(moves: &M, following: &Following, byte: u8) -> usize
-    requires { Changes (M.read moves.now) following.now.list.items following.now.changes }
-    ensures after { byte < result }
-    ensures within { result ≤ 256 }
-    ensures same { (b : ℕ) → byte < b → b < result
-        → M.read moves.now following.now.list.items (b - 1) ≡ M.read moves.now following.now.list.items b }
-{
-    let mut next = moves.later(byte);
-    while next < 256 && !following.changes.contains(next as u8) {
-        next = moves.later(next as u8);
-    }
-    next
-}
-
-/// The next byte that may be read otherwise than the one before, or 256. `up_to` has for each byte the set of those
-/// up to it.
-fn next_change<M: Moves>(moves: &M, following: &Following, up_to: &[ByteSet], byte: u8) -> usize
-    requires len { length up_to.now ≡ 256 }
-    requires up_to { HaveNoneAfter up_to.now }
-    requires changes { Changes (M.read moves.now) following.now.list.items following.now.changes }
-    ensures after { byte < result }
-    ensures within { result ≤ 256 }
-    ensures same { (b : ℕ) → byte < b → b < result
-        → M.read moves.now following.now.list.items (b - 1) ≡ M.read moves.now following.now.list.items b }
-{
-    if has_none_after(&following.changes, up_to, byte) {
-        return 256;
-    }
-    first_after(moves, following, byte)
-}
-
 /// The target of the next byte in the row before, or the dead state where there is none.
 fn target_above(next: &[u32]) -> u32 {
     if next.len() < 256 {
@@ -346,9 +307,8 @@ pub(crate) fn explore<M: Moves>(
     ensures too_many { IsErrOf result ExploreError.TooMany
         → MoreThan limit (Reached (step_by (M.follow moves.now) (M.read moves.now)) (kept_in roots.keys.items)) }
 {
-    let up_to = bytes_up_to(alloc)?;
     let mut table = roots;
-    let mut next: Vec<u32> = Vec::new(alloc);
+    let mut next: Vec<u32> = Vec::with_capacity(alloc, ROOM)?;
     let mut told = Told {
         accepts: Vec::new(alloc),
         goes_on: Vec::new(alloc),
@@ -375,7 +335,7 @@ pub(crate) fn explore<M: Moves>(
             byte,
             limit,
         )?;
-        let end = next_change(moves, &following, &up_to, byte);
+        let end = following.changes.first_after(byte);
         next.resize(at * 256 + end, place)?;
     }
     Ok(Explored {

@@ -12,11 +12,11 @@ ghost use Rattle.lexauto_positions.specs.Letters.{reads_at};
 ghost use Rattle.lexauto_positions.specs.Owners.{AreOwners};
 ghost use Rattle.lexauto_positions.specs.RuleFlow.{rules_enter, rules_left, rules_read};
 ghost use Rattle.lexauto.specs.Sets.{marked_by};
-ghost use Rattle.lexauto.specs.Moving.{AreChanges, AreChangesBy, AreLater, AreMasks, AreTwins};
+ghost use Rattle.lexauto.specs.Moving.{AreChanges, AreChangesBy, AreMasks, AreTwins};
 ghost use Rattle.lexauto.specs.Moving.{masks_in, mask_at, place_at, followers_in, reading_in};
 
 use crate::alphabet::alphabet_of;
-use crate::changing::{changes_of, later_of, united};
+use crate::changing::{changes_of, united};
 use crate::explore::Moves;
 use crate::following::walk;
 use crate::key_packing::{keeps_marked, pack_marked};
@@ -41,8 +41,6 @@ pub(crate) struct RuleMoves<'a> {
     twins: Vec<u8>,
     /// For each letter the bytes of which it has just one, that or the byte before.
     changes: Vec<ByteSet>,
-    /// For each byte the next one that is among the changes of some letter, or 256.
-    later: Vec<usize>,
     ghost within: { all_positions (rules_in (spec_of spec.now)) ≡ count },
     ghost sized: { HaveSized rules.items } by { HaveSized-prop rules.items },
     ghost number: { length rules.items ≡ length (rules_in (spec_of spec.now)) },
@@ -60,7 +58,6 @@ pub(crate) struct RuleMoves<'a> {
         ≡ rules_read (rules_in (spec_of spec.now)) b q 0 },
     ghost alike: { AreTwins (masks_in masks.items) twins.items },
     ghost changing: { AreChangesBy (λ b q. rules_read (rules_in (spec_of spec.now)) b q 0) places.items changes.items },
-    ghost ahead: { AreLater changes.items later.items },
 }
 
 /// The marks, or none where nothing is marked.
@@ -177,7 +174,6 @@ impl<'a> RuleMoves<'a> {
         let changes = changes_of(alloc, &alphabet.letters)?;
         let masks = masks_of(alloc, &alphabet.letters, &changes)?;
         let twins = twins_of(alloc, &masks)?;
-        let later = later_of(alloc, &changes)?;
         Ok(RuleMoves {
             spec,
             count,
@@ -188,7 +184,6 @@ impl<'a> RuleMoves<'a> {
             masks,
             twins,
             changes,
-            later,
         })
     }
 }
@@ -251,11 +246,6 @@ impl Moves for RuleMoves<'_> {
     /// Whether a key that is kept as it is has just those of the followers that read the byte.
     fn is_reading(&self, kept: &[u32], followers: &[u32], byte: u8) -> bool {
         keeps_marked(kept, followers, &self.places, &self.masks[byte as usize])
-    }
-
-    /// The next byte that some letter has, or lacks, otherwise than the byte before.
-    fn later(&self, byte: u8) -> usize {
-        self.later[byte as usize]
     }
 
     /// The first byte that the same positions read.

@@ -53,6 +53,13 @@ impl Dfa {
         &self.parts
     }
 
+    /// The lists of which it was made.
+    pub fn into_parts(self) -> Parts
+        ensures { result ≡ lists_of self }
+    {
+        self.parts
+    }
+
     /// The state where a match starts in a condition, at the start of a line or not.
     pub fn start(&self, condition: usize, line_start: bool) -> u32
         requires { condition < conditions_of self.now }

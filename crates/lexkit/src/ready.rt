@@ -13,7 +13,7 @@ use crate::options::Options;
 use lexauto::{Dfa, Limits, OutOfMemory, build, minimise, useless_rules};
 use lexauto_reports::{Warning, warnings};
 use lexspec::{Spec, tested_specifications};
-use lextab::{Flat, pack_flat};
+use lextab::{Flat, into_flat};
 use std::alloc::Global;
 
 /// What a scan by a text goes by, and what is told before it.
@@ -54,15 +54,15 @@ fn ready_by(
     alloc: Global,
     spec: &Spec,
     limits: Limits,
-    automaton: &Dfa,
+    automaton: Dfa,
 ) -> Result<Ready, OutOfMemory>
-    requires { IsAutomatonOf limits (spec_of spec.now) automaton.now }
+    requires { IsAutomatonOf limits (spec_of spec.now) automaton }
     ensures { IfOk result (IsReadyFor limits (spec_of spec.now) (skipped_in spec.now)) }
 {
     tested_specifications();
-    let useless = useless_rules(alloc, spec, automaton)?;
+    let useless = useless_rules(alloc, spec, &automaton)?;
     let warnings = warnings(alloc, spec, &useless)?;
-    let machine = pack_flat(alloc, automaton, spec)?;
+    let machine = into_flat(alloc, automaton, spec)?;
     Ok(Ready { machine, warnings })
 }
 
@@ -73,7 +73,7 @@ fn ready_of(alloc: Global, spec: &Spec, limits: Limits) -> Result<Ready, GenErro
     ensures { MakesReadyBy limits (spec_of spec.now) (skipped_in spec.now) result }
 {
     let automaton = scan_automaton(alloc, spec, limits)?;
-    match ready_by(alloc, spec, limits, &automaton) {
+    match ready_by(alloc, spec, limits, automaton) {
         Err(_) => Err(GenError::OutOfMemory),
         Ok(ready) => Ok(ready),
     }

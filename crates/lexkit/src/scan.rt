@@ -23,7 +23,7 @@ use crate::ready::scan_automaton;
 use lexauto::Limits;
 use lexscan::{RunError, Source, run};
 use lexspec::Spec;
-use lextab::{Flat, Sink, pack_flat, read_flat};
+use lextab::{Flat, Sink, into_flat, read_flat};
 use std::alloc::Global;
 
 /// How many reads a scan makes at most: 2^40.
@@ -101,7 +101,7 @@ pub fn scan_by<S: Source, K: Sink>(
         Err(error) => return Err(ScanError::Generate(error)),
         Ok(automaton) => automaton,
     };
-    let machine = match pack_flat(alloc, &automaton, spec) {
+    let machine = match into_flat(alloc, automaton, spec) {
         Err(_) => return Err(ScanError::Generate(GenError::OutOfMemory)),
         Ok(machine) => machine,
     };

@@ -14,6 +14,7 @@ pub mod QuoteLaws
 pub mod IntervalLaws
 pub mod ClassLaws
 pub mod SetLaws
+pub mod WordLaws
 pub mod PassingLaws
 pub mod EndLaws
 pub mod MemberLaws

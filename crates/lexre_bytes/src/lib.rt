@@ -2,6 +2,7 @@
 //! Definitions, RE Bracket Expression.) The readers of patterns, of lines and of actions stand on it.
 //!
 //! The modules, in an order for reading:
+//! - `words`: words of 128 bits.
 //! - `sets`: a set of bytes as two words of bits.
 //! - `fronts`: what stands at the front of a text.
 //! - `digits`: numbers in digits, up to a cap.
@@ -41,6 +42,7 @@ mod names;
 mod passing;
 mod refusals;
 mod sets;
+mod words;
 
 pub use classes::Class;
 pub use digits::capped_value;

@@ -1,9 +1,11 @@
 //! Sets of bytes. (POSIX, lex, Regular Expressions in lex: bracket expressions in the POSIX locale.)
-ghost use Rattle.std.specs.Prelude.{◌≡◌, ℕ, ◌<◌, ◌≤◌, ◌↔◌, Bool, IsTrue};
+ghost use Rattle.std.specs.Prelude.{◌≡◌, ℕ, ◌-◌, ◌<◌, ◌≤◌, ◌↔◌, Bool, false, true, IsTrue};
 ghost use Rattle.lex_semantics.specs.ByteSets.{has, set_of, empty_set, single, range_set};
 ghost use Rattle.lex_semantics.specs.ByteSets.{union, complement, fold_case, named_set};
+ghost use Rattle.lexre_bytes.specs.Changes.{differ};
 
 use crate::classes::{Class, other_case};
+use crate::words::{first_one, next_one, ones_between};
 use std::marker::Model;
 
 /// A set of bytes. Bit b of the two words says whether the byte b is in it.
@@ -113,12 +115,16 @@ impl ByteSet {
     }
 
     /// The bytes from `lo` to `hi`, both in it.
-    #[tactic(auto, unfolding(lex_semantics::specs::ByteSets::range_set))]
     pub fn range(lo: u8, hi: u8) -> ByteSet
         requires { lo ≤ hi }
         ensures { result ≡ range_set lo hi }
     {
-        ByteSet::passing(|b| lo <= b && b <= hi)
+        let first = usize::from(lo);
+        let end = usize::from(hi) + 1;
+        ByteSet {
+            low: ones_between(first.min(128), end.min(128)),
+            high: ones_between(first.max(128) - 128, end.max(128) - 128),
+        }
     }
 
     /// The set closed under changing the case of ASCII letters. (flex, Scanner Options: case-insensitive.)
@@ -127,6 +133,34 @@ impl ByteSet {
         ensures { result ≡ fold_case self.now }
     {
         ByteSet::passing(|b| self.contains(b) || self.contains(other_case(b)))
+    }
+
+    /// The bytes of which the set has just one, that or the byte before. No byte is before the first.
+    pub fn changes(&self) -> ByteSet
+        ensures first { has result 0 ≡ has self.now 0 }
+        ensures later { (b : ℕ) → 1 ≤ b → b < 256 → has result b ≡ differ (has self.now (b - 1)) (has self.now b) }
+    {
+        ByteSet {
+            low: self.low ^ (self.low << 1),
+            high: self.high ^ ((self.high << 1) | (self.low >> 127)),
+        }
+    }
+
+    /// The first byte of the set after this one, or 256.
+    pub fn first_after(&self, byte: u8) -> usize
+        ensures after { byte < result }
+        ensures within { result ≤ 256 }
+        ensures none { (b : ℕ) → byte < b → b < result → has self.now b ≡ false }
+        ensures there { result < 256 → has self.now result ≡ true }
+    {
+        if byte >= 128 {
+            return 128 + next_one(self.high, byte - 128);
+        }
+        let place = next_one(self.low, byte);
+        if place < 128 {
+            return place;
+        }
+        128 + first_one(self.high)
     }
 
     /// The character class of this name in the POSIX locale, and None for a name that it does not have.

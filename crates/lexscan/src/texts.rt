@@ -1,14 +1,13 @@
 //! Bursts over texts that yymore makes longer: matches whose rules do nothing but yymore, and the one after them.
-ghost use Rattle.std.specs.Prelude.{◌≡◌, ℕ, ◌+◌, ◌^◌, ◌<◌, ◌≤◌, List, [], ◌∷◌, length, drop, true, false, IfSome};
-ghost use Rattle.lex_semantics.specs.Spec.{More};
-ghost use Rattle.lex_machine.specs.Glances.{FirstDoes, Leads};
+ghost use Rattle.std.specs.Prelude.{◌≡◌, ℕ, ◌+◌, ◌^◌, ◌<◌, ◌≤◌, List, length, drop, true, false, IfSome};
+ghost use Rattle.lex_machine.specs.Glances.{Leads};
 ghost use Rattle.lexscan_window.specs.Intakes.{can_write};
 ghost use Rattle.lexscan.specs.Bursts.{IsMoreMatch, BurstMade};
 
 use crate::apart::turn_apart;
 use crate::burst::{Burst, Runs, Wanted, burst_over};
 use lex_io::Sink;
-use lex_machine::{Cut, Gist, Machine, Statement, Way};
+use lex_machine::{Gist, Machine, Way};
 use lexscan_matching::{do_gist, longest_match, names_rule, near_match};
 use lexscan_window::{Outlet, TextPlace};
 
@@ -20,19 +19,6 @@ pub struct TextBurst {
     pub kept: usize,
 }
 
-/// Whether the first rule that a state accepts keeps all of a match, and does yymore alone.
-#[inline(always)]
-fn does_more<M: Machine>(machine: &M, state: u32) -> bool
-    requires { state < M.states machine.now }
-    ensures { result ≡ true → FirstDoes (M.machine machine.now) state (More ∷ []) }
-{
-    let Some(rule) = machine.accepts(state).first() else {
-        return false;
-    };
-    let (cut, statements) = machine.rule(*rule);
-    matches!(cut, Cut::Whole) && statements.len() == 1 && matches!(statements[0], Statement::More)
-}
-
 /// How many bytes of a walk a rule keeps that does yymore alone, where the last state of the walk tells it or the one
 /// before it.
 #[inline(always)]
@@ -42,11 +28,12 @@ fn more_part<M: Machine>(machine: &M, way: Way<'_>) -> Option<usize>
     ensures { IfSome result (λ keep. (first : ℕ) (bytes : List ℕ) → Leads (M.machine machine.now) first bytes way.entry
         → IsMoreMatch (M.machine machine.now) first bytes way.entry.count keep) }
 {
-    if matches!(way.gist, Gist::Any) && does_more(machine, way.state) {
+    if matches!(way.gist, Gist::NoRule) {
+        if 1 < way.count && machine.does_more(way.before) {
+            return Some(way.count - 1);
+        }
+    } else if machine.does_more(way.state) {
         return Some(way.count);
-    }
-    if matches!(way.gist, Gist::NoRule) && 1 < way.count && does_more(machine, way.before) {
-        return Some(way.count - 1);
     }
     None
 }
@@ -180,7 +167,7 @@ fn text_over<M: Machine, K: Sink>(
 }
 
 /// The same, and turns over what follows.
-#[inline(never)]
+#[inline(always)]
 fn burst_behind_text<M: Machine, K: Sink>(
     machine: &M,
     outlet: &mut Outlet<'_, K>,

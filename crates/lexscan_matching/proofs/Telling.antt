@@ -64,7 +64,14 @@ module _ (M : Machine) (first : ℕ) (bytes : List ℕ) (n : ℕ) (inside : n �
   pub part_none : longest.keep ≡ 0 → NoneAfter M first bytes 0 n
   part_none e = none_front M first bytes 0 n (subst (λ few. NoneAfter M first (take n bytes) few n) e none_in)
 
--- the only state that leads to the one before the last byte of a walk is the one before that
+-- no rule is accepted after one byte less either
+pub none_less : (M : Machine) (first : ℕ) (bytes : List ℕ) (n many : ℕ) → NoneAfter M first bytes n many → M.accepts (walk M first (take n bytes)) ≡ [] → NoneAfter M first bytes (n - 1) many
+none_less M first bytes n many none here i more le = elim (cases_lt n i) [
+  | inl lt ↦ none i lt le
+  | inr not ↦ (let e : n ≡ i = omega (arith, more, not) in subst (λ k. M.accepts (walk M first (take k bytes)) ≡ []) e here)
+]
+
+-- the only state that leads to the one after some bytes of a walk is the one after one byte less
 module _ (M : Machine) (states first : ℕ) (bytes : List ℕ) (below : StaysBelow M states) (known : first < states) (small : (i : ℕ) → get_or bytes i 0 < 256) where
   known_after : (n : ℕ) → n ≤ length bytes → walk M first (take n bytes) < states
   known_after zero le = known
@@ -73,14 +80,14 @@ module _ (M : Machine) (states first : ℕ) (bytes : List ℕ) (below : StaysBel
       subst (λ s. s < states) (sym (walk_more M first bytes n (omega (arith, le))) ∙ ap (λ k. walk M first (take k bytes)) e)
       (below.next (walk M first (take n bytes)) (get_or bytes n 0) (known_after n (omega (arith, le))) (small n))
 
-  pub two_before : (before earlier : ℕ) → 2 ≤ length bytes → before ≡ walk M first (take (length bytes - 1) bytes) → OnlyBefore M states before earlier →
-      (earlier ≡ walk M first (take (length bytes - 2) bytes)) × (earlier < states)
-  two_before before earlier some is only =
-      let n : ℕ = length bytes - 2 in
+  pub one_before : (count state earlier : ℕ) → 1 ≤ count → count ≤ length bytes → state ≡ walk M first (take count bytes) → OnlyBefore M states state earlier →
+      (earlier ≡ walk M first (take (count - 1) bytes)) × (earlier < states)
+  one_before count state earlier some inside is only =
+      let n : ℕ = count - 1 in
       let s : ℕ = walk M first (take n bytes) in
-      let e : n + 1 ≡ length bytes - 1 = omega (arith, some) in
-      let low : s < states = known_after n (omega arith) in
-      let same : s ≡ earlier = only s (get_or bytes n 0) low (small n) (sym (walk_more M first bytes n (omega (arith, some))) ∙ ap (λ k. walk M first (take k bytes)) e ∙ sym is) in
+      let e : n + 1 ≡ count = omega (arith, some) in
+      let low : s < states = known_after n (omega (arith, inside)) in
+      let same : s ≡ earlier = only s (get_or bytes n 0) low (small n) (sym (walk_more M first bytes n (omega (arith, some, inside))) ∙ ap (λ k. walk M first (take k bytes)) e ∙ sym is) in
       (sym same, subst (λ k. k < states) same low)
 
 -- the statements that are told are simple

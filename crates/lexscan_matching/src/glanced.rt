@@ -57,8 +57,8 @@ fn longest_part<M: Machine>(machine: &M, first: u32, bytes: &[u8]) -> LongestPar
     longest
 }
 
-/// The same, where no rule takes all of the walk or all but one byte of it. The state before the last byte may tell it:
-/// by the only one that leads there. Else the walk is gone over again.
+/// The same, where no rule takes all of the walk or all but one byte of it. It is looked for backwards, as long as only
+/// one state leads to the one before. Else the walk is gone over again.
 #[inline(never)]
 fn farther_part<M: Machine>(machine: &M, first: u32, bytes: &[u8], before: u32) -> LongestPart
     requires first { first < M.states machine.now }
@@ -69,12 +69,16 @@ fn farther_part<M: Machine>(machine: &M, first: u32, bytes: &[u8], before: u32) 
     ensures part { IsLongestPart (M.machine machine.now) first bytes.now result }
     ensures known { result.state < M.states machine.now }
 {
-    if let Some(earlier) = machine.only_before(before) {
-        if !machine.accepts(earlier).is_empty() {
-            return LongestPart {
-                keep: bytes.len() - 2,
-                state: earlier,
-            };
+    let mut state = before;
+    let mut keep = bytes.len() - 1;
+    'back: while 1 < keep {
+        let Some(earlier) = machine.only_before(state) else {
+            break 'back;
+        };
+        state = earlier;
+        keep -= 1;
+        if !machine.accepts(state).is_empty() {
+            return LongestPart { keep, state };
         }
     }
     longest_part(machine, first, bytes)

@@ -2,10 +2,9 @@
 use Rattle.std.specs.Prelude.{◌≡◌, ℕ, ◌+◌, ◌*◌, ◌<◌, length, nat_lt, slice_index}
 use Rattle.std.proofs.Common.{List, sym, ap, subst, ◌∙◌, arith}
 use Rattle.std.proofs.lemmas.Bool.{cond-true, lt-ltb}
-use Rattle.lex_semantics.specs.Spec as S
 use Rattle.lexauto_dfa.specs.Alike.{moves}
 use Rattle.lexauto_dfa.specs.Invariant.{IsAutomaton}
-use Rattle.lexauto_dfa.specs.Parts.{conditions, states, next}
+use Rattle.lexauto_dfa.specs.Parts.{states, next}
 use Rattle.lexauto_dfa.specs.declared.dfa.Parts.{Parts}
 use Rattle.lextab.specs.Columns.{Packing, IsPacking, GoesAs}
 use Rattle.lextab.proofs.Unique.{same_size}

@@ -1,6 +1,6 @@
 -- Rows of slots by classes of neighbours make a table that goes as the automaton does.
-use Rattle.std.specs.Prelude.{◌≡◌, ◌≢◌, ℕ, zero, suc, ◌+◌, ◌-◌, ◌*◌, ◌<◌, ◌≤◌, ◌⊎◌, ◌==◌, ◌++◌, ◌∷◌, [], cond, List, length, replicate, take, slice_index}
-use Rattle.std.specs.Int.Bits.{bit_or, bit_xor, bit_and, xor_add_and}
+use Rattle.std.specs.Prelude.{◌≡◌, ℕ, zero, suc, ◌+◌, ◌-◌, ◌*◌, ◌<◌, ◌≤◌, ◌⊎◌, ◌==◌, ◌++◌, ◌∷◌, [], cond, List, length, replicate, take, slice_index}
+use Rattle.std.specs.Int.Bits.{bit_or, bit_xor, xor_add_and}
 use Rattle.std.proofs.Common.{inl, inr, refl, sym, ◌∙◌, ap, subst, arith}
 use Rattle.std.proofs.lemmas.List.{length-append, length-replicate, get_or-replicate, get_or_append_left, get_or-append_right, get_or_push, take_all}
 use Rattle.std.proofs.lemmas.Nat.{row_fits, mul-le, le_or_l, le_or_r, and_le_l, and_le_r}

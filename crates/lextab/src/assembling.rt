@@ -68,7 +68,7 @@ pub(crate) fn table_rows(
     ensures { IfOk result (λ v. map row_of v.items
         ≡ rows_with defaults.now bases.now (map (λ l. l.value.items) lists.now)) }
 {
-    let mut rows = Vec::new(alloc);
+    let mut rows = Vec::with_capacity(alloc, defaults.len())?;
     for i in 0..defaults.len() {
         let rules = Vec::from_slice(alloc, &lists[i])?;
         rows.push(Row {

@@ -11,7 +11,7 @@
 //! - `packing`: these together.
 //! - `assembling`: the conditions, rules and rows of a table.
 //! - `unpacked`: for a scan the columns of a table whose states each have a row of slots of their own.
-//! - `tables`: `pack`, and `pack_flat` for a scan.
+//! - `tables`: `pack`, and `pack_flat` and `into_flat` for a scan.
 //! - `plain`: the automaton as it was built, with the actions of its specification, and `plain_machine`: what it
 //!   answers. Tests use it alone.
 //! - `laws`: an automaton has one packing, which goes as it does and keeps the limits; a worked example.
@@ -60,4 +60,4 @@ pub use lextab_file::{
 };
 pub use lextab_packed::{Flat, Tables};
 pub use plain::Plain;
-pub use tables::{pack, pack_flat};
+pub use tables::{into_flat, pack, pack_flat};

@@ -7,7 +7,7 @@ ghost use Rattle.lexauto_dfa.specs.Automata.{machine_of, conditions_of, states_o
 ghost use Rattle.lexspec.specs.Views.{spec_of, conditions_in};
 ghost use Rattle.lextab_packed.specs.Views.{table_of};
 ghost use Rattle.lextab_packed.specs.FlatViews.{tables_of};
-ghost use Rattle.lextab_packed.specs.Machines.{table_machine, table_parts};
+ghost use Rattle.lextab_packed.specs.Machines.{table_machine, table_parts, table_states};
 ghost use Rattle.lextab.specs.Assembled.{assembled, HasTexts};
 ghost use Rattle.lextab.specs.Columns.{GoesAs, packing_in};
 ghost use Rattle.lextab.specs.Packing.{IsPacked};
@@ -78,14 +78,34 @@ pub fn pack(alloc: Global, dfa: &Dfa, spec: &Spec) -> Result<Tables, OutOfMemory
     Ok(tables)
 }
 
+/// The tables of a scan by an automaton that is one for the specification. They are made at once, and not packed.
+fn scan_tables(alloc: Global, dfa: &Dfa, spec: &Spec) -> Result<Tables, OutOfMemory>
+    requires conditions { conditions_of dfa.now ≡ length (conditions_in (spec_of spec.now)) }
+    requires table { TableFor (machine_of dfa.now (spec_of spec.now)) (spec_of spec.now) }
+    ensures states { IfOk result (λ t. table_states t ≡ states_of dfa.now) }
+    ensures machine { IfOk result (λ t. table_machine t ≡ machine_of dfa.now (spec_of spec.now)) }
+{
+    let parts = dfa.parts();
+    let columns = unpacked(alloc, &parts.next, parts.goes_on.len())?;
+    Ok(tables_by(alloc, dfa, spec, columns)?)
+}
+
 /// The machine of a scan by an automaton that is one for the specification. Its tables are made at once, and not packed.
 pub fn pack_flat(alloc: Global, dfa: &Dfa, spec: &Spec) -> Result<Flat, OutOfMemory>
     requires conditions { conditions_of dfa.now ≡ length (conditions_in (spec_of spec.now)) }
     requires table { TableFor (machine_of dfa.now (spec_of spec.now)) (spec_of spec.now) }
     ensures { IfOk result (λ f. table_machine (tables_of f) ≡ machine_of dfa.now (spec_of spec.now)) }
 {
-    let parts = dfa.parts();
-    let columns = unpacked(alloc, &parts.next, parts.goes_on.len())?;
-    let tables = tables_by(alloc, dfa, spec, columns)?;
+    let tables = scan_tables(alloc, dfa, spec)?;
     Ok(Flat::new(alloc, tables)?)
+}
+
+/// The same by an automaton that is given up. Its rows become those of the scan, and are not laid out again.
+pub fn into_flat(alloc: Global, dfa: Dfa, spec: &Spec) -> Result<Flat, OutOfMemory>
+    requires conditions { conditions_of dfa ≡ length (conditions_in (spec_of spec.now)) }
+    requires table { TableFor (machine_of dfa (spec_of spec.now)) (spec_of spec.now) }
+    ensures { IfOk result (λ f. table_machine (tables_of f) ≡ machine_of dfa (spec_of spec.now)) }
+{
+    let tables = scan_tables(alloc, &dfa, spec)?;
+    Ok(Flat::of_rows(alloc, tables, dfa.into_parts().next)?)
 }

@@ -16,4 +16,5 @@ pub mod Spreading
 pub mod Passes
 pub mod Rejections
 pub mod Predecessors
+pub mod Mores
 pub mod Quiets

@@ -8,6 +8,7 @@ ghost use Rattle.lextab_packed.specs.Checks.{IsTable};
 ghost use Rattle.lextab_packed.specs.Flats.{as_target, marked_target, kind_of};
 ghost use Rattle.lex_machine.specs.Singles.{IsDropped, IsCopied};
 ghost use Rattle.lextab_packed.specs.Leaps.{OthersStay};
+ghost use Rattle.lextab_packed.specs.Mores.{TellMore};
 ghost use Rattle.lextab_packed.specs.Predecessors.{IsSource};
 ghost use Rattle.lextab_packed.specs.Singles.{OthersDrop, AllTellSingles, AllTellSingles-prop, FirstAre};
 ghost use Rattle.lextab_packed.specs.Runs.{Stays, IsRun};
@@ -19,6 +20,7 @@ ghost use Rattle.lextab_packed.specs.Machines.{table_machine, table_parts, table
 use crate::kinds::{Kind, kinds_of};
 use crate::laying::laid_out;
 use crate::leaps::{Leavers, leaps_of, pass_over};
+use crate::mores::mores_of;
 use crate::parts::TableParts;
 use crate::passes::going_on_soon;
 use crate::predecessors::{Sources, sources_of};
@@ -41,6 +43,7 @@ pub struct Flat {
     leaps: Vec<Option<Leavers>>,
     most: Vec<Most>,
     sources: Vec<Sources>,
+    mores: Vec<bool>,
     ghost sizes: { length rows.items ≡ 256 * length tables.parts.rows.items },
     ghost targets: { (s b : ℕ) → s < length tables.parts.rows.items → b < 256
         → slice_index rows.items (256 * s + b) ≡ marked_target tables s b },
@@ -56,6 +59,8 @@ pub struct Flat {
     ghost source_column: { length sources.items ≡ length tables.parts.rows.items },
     ghost source_told: { (s b : ℕ) → s < length tables.parts.rows.items → b < 256
         → IsSource sources.items (step_of (table_of tables.parts) s b) s },
+    ghost more_column: { length mores.items ≡ length tables.parts.rows.items },
+    ghost more_told: { TellMore (table_machine tables) mores.items },
 }
 
 impl Flat {
@@ -124,6 +129,7 @@ impl Flat {
         let leaps = leaps_of(alloc, &rows, kinds.len())?;
         let most = most_of(alloc, &tables, &rows)?;
         let sources = sources_of(alloc, &tables.parts)?;
+        let mores = mores_of(alloc, &tables, &kinds)?;
         Ok(Flat {
             tables,
             rows,
@@ -131,6 +137,7 @@ impl Flat {
             leaps,
             most,
             sources,
+            mores,
         })
     }
 
@@ -207,12 +214,12 @@ impl Flat {
 
     /// How many of the first bytes are dropped, each where a match starts in this state.
     #[inline(never)]
-    fn first_dropped(&self, first: u32, kept: Option<Leavers>, bytes: &[u8]) -> usize
+    fn first_dropped(&self, first: u32, kept: &Option<Leavers>, bytes: &[u8]) -> usize
         requires first { first < table_states self.now.tables }
-        requires kept { ForSome kept (λ l. OthersDrop self.now.rows.items (256 * first) l) }
+        requires kept { ForSome kept.now (λ l. OthersDrop self.now.rows.items (256 * first) l) }
         ensures { FirstAre (IsDropped (table_machine self.now.tables) first) bytes.now result }
     {
-        let mut count = self.leap_dropped(first, kept, bytes);
+        let mut count = self.leap_dropped(first, *kept, bytes);
         'run: while count < bytes.len()
             && is_dropped(self.target(256 * first as usize, bytes[count]))
         {
@@ -359,6 +366,12 @@ impl Machine for Flat {
         }
     }
 
+    /// Whether it was seen that the first rule that the state accepts keeps all of a match, and does yymore alone.
+    #[inline(always)]
+    fn does_more(&self, state: u32) -> bool {
+        self.mores[state as usize]
+    }
+
     /// What is told at a glance of what the first rule does that the state accepts.
     #[inline(always)]
     fn gist(&self, state: u32) -> Gist<'_> {
@@ -376,8 +389,8 @@ impl Machine for Flat {
 
     /// How many of the first bytes are dropped, where a match of the condition starts, if most are dropped there.
     fn dropped(&self, condition: u8, first: u32, bytes: &[u8]) -> usize {
-        match self.most[usize::from(condition)] {
-            Most::Dropped(start, kept) if start == first => self.first_dropped(first, kept, bytes),
+        match &self.most[usize::from(condition)] {
+            Most::Dropped(start, kept) if *start == first => self.first_dropped(first, kept, bytes),
             _ => 0,
         }
     }

@@ -16,6 +16,7 @@
 //! - `leaps`: states that at most three bytes lead away from; runs of the others are passed 16 bytes at a time.
 //! - `singles`: conditions in which most bytes of a text are matches by themselves, which are dropped or copied.
 //! - `predecessors`: of each state the only one that leads to it by a byte, where no other does.
+//! - `mores`: the states whose first rule does yymore alone.
 //! - `flat`: a table with a row of 256 marked targets for each state, so that a step is one look-up. It is the machine
 //!   of a scan.
 //! - `quiet`: a flat table in which rules that do nothing but REJECT fit no text, so that their matches are not looked
@@ -23,8 +24,8 @@
 //!
 //! It promises that a table keeps to `IsTable`, and is a machine by its laws; and that the flat one is the same
 //! machine. How live states are found may change alone. So may the marks of `flat`, the kinds, and what is told of
-//! singles and predecessors, under the trait's contract: they are how a scan sees at a glance what a match does. The
-//! parts may not: they are the fields of the file.
+//! singles, predecessors and yymore, under the trait's contract: they are how a scan sees at a glance what a match does.
+//! The parts may not: they are the fields of the file.
 //!
 //! Decided here:
 //! - Which states are live is found backwards: from the states that accept to those that lead to them, each taken once.
@@ -47,6 +48,7 @@ mod laying;
 mod leaps;
 mod live;
 mod machine;
+mod mores;
 mod parts;
 mod passes;
 mod predecessors;

@@ -182,6 +182,12 @@ impl Machine for Quiet<'_> {
         self.flat.only_before(state)
     }
 
+    /// Whether the first rule that the state accepts keeps all of a match, and does yymore alone, as the table tells it.
+    #[inline(always)]
+    fn does_more(&self, state: u32) -> bool {
+        self.flat.does_more(state)
+    }
+
     /// What is told at a glance of what the first rule does that the state accepts, as the table tells it.
     #[inline(always)]
     fn gist(&self, state: u32) -> Gist<'_> {

@@ -117,6 +117,12 @@ impl Machine for Rules {
         self.flat().only_before(state)
     }
 
+    /// Whether it is known that the first rule that the state accepts keeps all of a match, and does yymore alone.
+    #[inline(always)]
+    fn does_more(&self, state: u32) -> bool {
+        self.flat().does_more(state)
+    }
+
     /// What is told at a glance of what the first rule does that the state accepts.
     #[inline(always)]
     fn gist(&self, state: u32) -> Gist<'_> {

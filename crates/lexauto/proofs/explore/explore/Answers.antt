@@ -97,9 +97,9 @@ work-preserved g c =
     ] in
     let found : Found keys (step (key_at keys (n / 256)) (n % 256)) new = subst (λ (k : Key). Found keys k new) key c.in_ok-place.ensures.found in
     let filled = c.resize.new.self.items in
-    let after = c.next_change-end.ensures.after in
-    let within = c.next_change-end.ensures.within in
-    let size : length filled ≡ n / 256 * 256 + c.next_change-end.result = search rules in
+    let after = c.first_after-end.ensures.after in
+    let within = c.first_after-end.ensures.within in
+    let size : length filled ≡ n / 256 * 256 + c.first_after-end.result = search rules in
     let full : c.work.next.len ≡ n = search rules in
     let fills : Fills c.work.next.items c.in_ok-place.place filled = record {
       more = omega (arith, size, after, byte);
@@ -110,8 +110,8 @@ work-preserved g c =
     let alike : (j : ℕ) → n ≤ j → j < length filled → step (key_at keys (n / 256)) (j % 256) ≡ step (key_at keys (n / 256)) (n % 256) = λ j h top.
     let last : n % 256 + (j - n) ≡ j % 256 = omega (arith, size, within, h, top) in
     let read = λ (b : ℕ). g.M.Moves.read c.args.moves.now (follow (key_at keys (n / 256))) b in
-    let one = unchanged (g.M.Moves.read c.args.moves.now) c.if-byte-eq0.following.list.items (c.len-in-work-2.result % 256) c.next_change-end.result
-    c.next_change-end.ensures.same (j - n) (omega (arith, byte, size, h, top)) in
+    let one = unchanged (g.M.Moves.read c.args.moves.now) c.if-byte-eq0.following.list.items (c.len-in-work-2.result % 256) c.first_after-end.result
+    (λ b past low. changes b (omega (arith, past)) (omega (arith, low, within)) (c.first_after-end.ensures.none b past low)) (j - n) (omega (arith, byte, size, h, top)) in
     sym (ap read last) ∙ subst (λ (k : Key). g.M.Moves.read c.args.moves.now k (n % 256 + (j - n)) ≡ g.M.Moves.read c.args.moves.now k (n % 256)) held
     (subst (λ (m : ℕ). g.M.Moves.read c.args.moves.now c.if-byte-eq0.following.list.items (m % 256 + (j - n)) ≡ g.M.Moves.read c.args.moves.now c.if-byte-eq0.following.list.items (m % 256)) byte one) in
     record {
@@ -158,11 +158,3 @@ returns-in_err-place-clause-too_many g c = λ e.
     let full = c.in_err-place.ensures.full (ap Err same) in
     too_many step roots (look_kept c.work.table.places) keys c.work.next.items c.args.limit c.work.invariant.exploring n refl (rw kept_length low)
     (subst (λ (k : Key). Absent keys k) key full.0) (rw kept_length full.1)
-
-pub next_change-end-requires-clause-changes : goal.next_change-end-requires-clause-changes
-next_change-end-requires-clause-changes g c = elim c.if-byte-eq0.branch [
-  | then-byte-eq0+in_ok-following w ↦ subst (λ (f : Following). Changes (g.M.Moves.read c.args.moves.now) f.list.items f.changes) (sym w.following-is) w.in_ok-following.ensures.changes
-  | else-byte-eq0 w ↦
-      (let some : 0 < length c.work.next.items % 256 = (let f = w.if-byte-eq0.false in search (rules, f)) in
-      subst (λ (f : Following). Changes (g.M.Moves.read c.args.moves.now) f.list.items f.changes) (sym w.following-is) (c.work.invariant.changes some))
-]

@@ -20,7 +20,7 @@ returns-in-Err-run_table-clause-told g c =
     let made = c.in-Ok.ensures.made in
     let h = c.in-Err-run_table.ensures.ran in
     stopped_at _ _ _ _ _ _ _ _ _ _ c.args.limits S (spec_is_sound S c.args.spec.now.sound) made.within
-    _ (laws_of (tables_of c.in-Ok-pack_flat.machine)) (subst (λ M. TableFor M S) (sym c.in-Ok-pack_flat.ensures) made.table) h.0 h.1 h.2 h.3 h.5 _ h.4
+    _ (laws_of (tables_of c.in-Ok-into_flat.machine)) (subst (λ M. TableFor M S) (sym c.in-Ok-into_flat.ensures) made.table) h.0 h.1 h.2 h.3 h.5 _ h.4
 
 pub returns-clause-told : goal.returns-clause-told
 returns-clause-told g c =
@@ -28,4 +28,4 @@ returns-clause-told g c =
     let made = c.in-Ok.ensures.made in
     let h = c.in-Ok-run_table.ensures.ran in
     came_to _ _ _ _ _ _ _ _ _ _ c.args.limits S (spec_is_sound S c.args.spec.now.sound) made.within
-    _ (laws_of (tables_of c.in-Ok-pack_flat.machine)) (subst (λ M. TableFor M S) (sym c.in-Ok-pack_flat.ensures) made.table) h.0 h.1 h.2 h.3 h.5 _ h.4
+    _ (laws_of (tables_of c.in-Ok-into_flat.machine)) (subst (λ M. TableFor M S) (sym c.in-Ok-into_flat.ensures) made.table) h.0 h.1 h.2 h.3 h.5 _ h.4

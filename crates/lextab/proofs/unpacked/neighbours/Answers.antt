@@ -1,4 +1,4 @@
-use Rattle.std.proofs.Common.{rules, ◌≡◌, ◌≤◌, ◌<◌, ◌+◌, ◌-◌, ◌++◌, ◌∷◌, [], ℕ, List, length, slice_index, ap, ◌∙◌, arith, Vec, Global}
+use Rattle.std.proofs.Common.{rules, ◌≡◌, ◌<◌, ◌+◌, ◌-◌, ◌++◌, ◌∷◌, [], ℕ, length, ap, ◌∙◌, arith, Vec, Global}
 use Rattle.std.proofs.lemmas.List.{length-append}
 use Rattle.lextab.proofs.RowByRow.{one_byte_more, one_class_more, same_neighbours}
 use Rattle.lextab.proofs.unpacked.neighbours.Goals.{then-byte-eq0+in_ok-push, else-byte-eq0+else-changes-byte-ne0}

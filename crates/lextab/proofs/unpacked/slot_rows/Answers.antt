@@ -1,4 +1,4 @@
-use Rattle.std.proofs.Common.{rules, ◌≡◌, ◌+◌, ◌-◌, ◌++◌, List, ℕ, length, take, ap, ap₂, ◌∙◌, subst, sym, arith, replicate, slice_index}
+use Rattle.std.proofs.Common.{rules, ◌≡◌, List, ℕ, length, ap, ◌∙◌, slice_index}
 use Rattle.lextab.specs.Searching.{by_head}
 use Rattle.lextab.proofs.RowByRow.{one_row_more, resized}
 use Rattle.lextab.proofs.unpacked.slot_rows.Goals as goal

@@ -17,4 +17,6 @@ invariant_of-result c = record {
   most_told = λ k m is. subst (λ r. TellsSingles (table_machine c.args.tables) r k m) c.deref-2.ensures.value (c.in_ok-most.ensures.each k m is);
   source_column = c.in_ok-sources.ensures.len;
   source_told = c.in_ok-sources.ensures.each;
+  more_column = c.in_ok-mores.ensures.len;
+  more_told = c.in_ok-mores.ensures.told;
 }

@@ -1,8 +1,0 @@
-use Rattle.std.proofs.Common.{ap, ◌∙◌}
-use Rattle.std.specs.Prelude.{slice_get}
-use Rattle.lexscan.proofs.Chaining.{among_first}
-use Rattle.lexscan.proofs.texts.does_more.Goals as goal
-
-pub rule-cut-requires : goal.rule-cut-requires
-rule-cut-requires g c =
-    (g.M.Machine.laws c.args.machine.now).in_range c.args.state c.in-Some.rule.now (among_first _ c.in-Some.rule.now (c.in-Some.ensures.value ∙ ap (λ l. slice_get l 0) c.accepts.ensures))
