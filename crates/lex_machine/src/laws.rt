@@ -3,6 +3,7 @@ ghost use Rattle.lex_semantics.specs.Machine.{Machine, rules_of_machine};
 ghost use Rattle.lex_semantics.specs.MachineLaws.{MachineLaws};
 ghost use Rattle.lex_semantics.specs.ScanLaws.{SameScan};
 ghost use Rattle.lex_machine.specs.Quiets.{quiet};
+ghost use Rattle.lex_machine.specs.GlanceExamples.{GlanceExamples};
 ghost use Rattle.lex_machine.specs.QuietExamples.{QuietExamples};
 ghost use Rattle.lex_machine.specs.SingleExamples.{SingleExamples};
 
@@ -20,4 +21,9 @@ pub fn examples_of_quiet()
 /// Worked examples: which bytes are dropped or copied by a machine of five rules, and how many of them together.
 pub fn examples_of_singles()
     ensures { SingleExamples }
+{}
+
+/// A worked example: of a machine of two rules, which states only one other leads to.
+pub fn examples_of_glances()
+    ensures { GlanceExamples }
 {}
