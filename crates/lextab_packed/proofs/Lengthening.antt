@@ -3,7 +3,6 @@ use Rattle.std.proofs.Common.{◌≡◌, ℕ, ◌<◌, Bool, true, false, List, 
 use Rattle.std.proofs.lemmas.Bool.{false≢true}
 use Rattle.lex_semantics.specs.Spec as S
 use Rattle.lex_semantics.specs.Machine.{Machine}
-use Rattle.lex_semantics.specs.Text.{flag}
 use Rattle.lex_machine.specs.Glances.{FirstDoes}
 use Rattle.lextab_packed.specs.Mores.{is_more, more_keeping, more_first, does_more, TellMore}
 use Rattle.lextab_packed.proofs.Passing.{none_set}

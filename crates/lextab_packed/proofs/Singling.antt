@@ -1,8 +1,9 @@
 -- Bytes that are matches by themselves.
-use Rattle.std.proofs.Common.{◌≡◌, ℕ, zero, suc, ◌+◌, ◌*◌, ◌<◌, ◌≤◌, List, [], ◌∷◌, ◌++◌, length, get_or, ◌⊎◌, inl, inr, refl, ap, subst, ◌∙◌, arith}
+use Rattle.std.proofs.Common.{◌≡◌, ℕ, zero, suc, ◌+◌, ◌-◌, ◌*◌, ◌<◌, ◌≤◌, List, [], ◌∷◌, ◌++◌, length, take, drop, get_or, ◌⊎◌, inl, inr, refl, ap, subst, ◌∙◌, arith}
 use Rattle.std.specs.Prelude.{slice_get, nat_eq}
 use Rattle.std.specs.Option.{ForSome}
 use Rattle.std.proofs.lemmas.Bool.{cases_lt}
+use Rattle.std.proofs.lemmas.List.{length-take-le, length-drop, get_or-take, get_or-drop, take_rest}
 use Rattle.std.proofs.lemmas.Option.{slice_get_read}
 use Rattle.lex_semantics.proofs.Once.{some_inj}
 use Rattle.lex_semantics.specs.Text.{flag}
@@ -63,6 +64,30 @@ one_more P bytes n before lt here = record {
     | inr high ↦ (let e : n ≡ i = omega (arith, less, high) in subst (λ k. P (get_or bytes k 0)) e here)
   ];
 }
+
+-- those of the first few are the first
+pub of_front : (P : ℕ → Type 0) (bytes : List ℕ) (few n : ℕ) → few ≤ length bytes → FirstAre P (take few bytes) n → FirstAre P bytes n
+of_front P bytes few n le are =
+    let inside : n ≤ few = omega (arith, are.inside, length-take-le few bytes le) in
+    record {
+      inside = omega (arith, inside, le);
+      each = λ i lt. subst P (get_or-take few bytes i 0 (omega (arith, lt, inside))) (are.each i lt);
+    }
+
+-- some of what is left follow them
+pub and_then : (P : ℕ → Type 0) (bytes : List ℕ) (n m : ℕ) → FirstAre P bytes n → FirstAre P (take (length bytes - n) (drop n bytes)) m → FirstAre P bytes (n + m)
+and_then P bytes n m before after =
+    let left : FirstAre P (drop n bytes) m = subst (λ l. FirstAre P l m) (take_rest bytes n) after in
+    record {
+      inside = omega (arith, before.inside, left.inside, length-drop n bytes);
+      each = λ i lt. elim (cases_lt i n) [
+        | inl low ↦ before.each i low
+        | inr high ↦ (
+            let e : n + (i - n) ≡ i = omega (arith, high) in
+            subst (λ k. P (get_or bytes k 0)) e (subst P (get_or-drop n bytes (i - n) 0) (left.each (i - n) (omega (arith, lt, high))))
+            )
+      ];
+    }
 
 -- bytes that are none of the three are dropped
 pub others_dropped : (f : Flat) (s : ℕ) (bytes : List ℕ) (n : ℕ) (l : Leavers) → s < table_states f.tables → OthersDrop f.rows.items (256 * s) l → ((i : ℕ) → get_or bytes i 0 < 256) → AllOthers l bytes 0 n → FirstAre (IsDropped (table_machine f.tables) s) bytes n

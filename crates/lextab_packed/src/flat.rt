@@ -34,6 +34,9 @@ use std::alloc::{AllocError, Global};
 /// How many bytes of a run are tried one by one.
 const NEAR: usize = 16;
 
+/// How many dropped bytes are found one by one.
+const NEAR_DROPPED: usize = 4;
+
 /// Packed tables, and 1 KB of marked targets for each state. It is the same machine. No reader takes memory.
 #[derive(Drop)]
 pub struct Flat {
@@ -212,20 +215,35 @@ impl Flat {
         }
     }
 
-    /// How many of the first bytes are dropped, each where a match starts in this state.
-    #[inline(never)]
-    fn first_dropped(&self, first: u32, kept: &Option<Leavers>, bytes: &[u8]) -> usize
-        requires first { first < table_states self.now.tables }
-        requires kept { ForSome kept.now (λ l. OthersDrop self.now.rows.items (256 * first) l) }
+    /// How many of the first bytes are dropped, found one by one, each where a match starts in this state.
+    #[inline(always)]
+    fn dropped_singly(&self, first: u32, bytes: &[u8]) -> usize
+        requires { first < table_states self.now.tables }
         ensures { FirstAre (IsDropped (table_machine self.now.tables) first) bytes.now result }
     {
-        let mut count = self.leap_dropped(first, *kept, bytes);
+        let mut count = 0usize;
         'run: while count < bytes.len()
             && is_dropped(self.target(256 * first as usize, bytes[count]))
         {
             count += 1;
         }
         count
+    }
+
+    /// The same, found many at a time after the first few.
+    #[inline(never)]
+    fn first_dropped(&self, first: u32, kept: &Option<Leavers>, bytes: &[u8]) -> usize
+        requires first { first < table_states self.now.tables }
+        requires kept { ForSome kept.now (λ l. OthersDrop self.now.rows.items (256 * first) l) }
+        ensures { FirstAre (IsDropped (table_machine self.now.tables) first) bytes.now result }
+    {
+        let near = self.dropped_singly(first, &bytes[..bytes.len().min(NEAR_DROPPED)]);
+        if near < NEAR_DROPPED {
+            return near;
+        }
+        let far = &bytes[near..];
+        let count = self.leap_dropped(first, *kept, far);
+        near + count + self.dropped_singly(first, &far[count..])
     }
 
     /// How many of the first bytes are copied, each where a match starts in this state.

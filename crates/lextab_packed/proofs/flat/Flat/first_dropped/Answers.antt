@@ -1,14 +1,20 @@
-use Rattle.std.proofs.Common.{◌<◌, length, get_or, refl, arith}
+use Rattle.std.proofs.Common.{◌+◌, ◌-◌, length, take, drop, subst, arith}
 use Rattle.lex_machine.specs.Singles.{IsDropped}
-use Rattle.lextab_packed.specs.declared.tables.Tables.{Tables}
 use Rattle.lextab_packed.specs.Machines.{table_machine}
-use Rattle.lextab_packed.proofs.Singling.{one_more, dropped_by}
+use Rattle.lextab_packed.specs.Singles.{FirstAre}
+use Rattle.lextab_packed.proofs.Singling.{of_front, and_then}
 use Rattle.lextab_packed.proofs.flat.Flat.first_dropped.Goals as goal
 
-pub run-preserved : goal.run-preserved
-run-preserved c =
-    let t : Tables = c.args.self.now.tables in
-    let lt : c.run.count < length c.args.bytes.now = omega (arith, c.run-test.true) in
-    let small : get_or c.args.bytes.now c.run.count 0 < 256 = let f = c.type_inv.bytes c.run.count in omega (arith, f) in
-    one_more (IsDropped (table_machine t) c.args.first) c.args.bytes.now c.run.count c.run.invariant lt
-    (dropped_by t c.args.first (get_or c.args.bytes.now c.run.count 0) c.target.result c.requires.first small (c.target.ensures c.args.first refl c.requires.first) (c.is_dropped.ensures.yes c.if-is_dropped.true))
+pub returns-then-near-lt-NEAR_DROPPED : goal.returns-then-near-lt-NEAR_DROPPED
+returns-then-near-lt-NEAR_DROPPED c =
+    of_front (IsDropped (table_machine c.args.self.now.tables) c.args.first) c.args.bytes.now c.min.result c.dropped_singly-near.result (omega (arith, c.min.ensures)) c.dropped_singly-near.ensures
+
+pub returns : goal.returns
+returns c =
+    let P = IsDropped (table_machine c.args.self.now.tables) c.args.first in
+    let bytes = c.args.bytes.now in
+    let near = c.dropped_singly-near.result in
+    let count = c.leap_dropped-count.result in
+    let few = of_front P bytes c.min.result near (omega (arith, c.min.ensures)) c.dropped_singly-near.ensures in
+    let far = and_then P (take (length bytes - near) (drop near bytes)) count c.dropped_singly.result c.leap_dropped-count.ensures c.dropped_singly.ensures in
+    subst (FirstAre P bytes) (omega arith) (and_then P bytes near (count + c.dropped_singly.result) few far)
