@@ -36,13 +36,26 @@ pub fn command_words(rt: &HostRuntime) -> Result<Vec<String>, Failure> {
     Ok(words)
 }
 
+/// How many bytes of a file there is room for at once. More is asked for as it is read.
+const MOST_AT_ONCE: u64 = 1_048_576;
+
+/// The size that is told of a file, or 0 where none is told. It may have more bytes or fewer.
+fn size_of(file: &File) -> u64 {
+    match file.metadata() {
+        Ok(told) => told.len(),
+        Err(_) => 0,
+    }
+}
+
 /// Reads a file on until the text has this many bytes. `-` is standard input.
 pub fn read_more(rt: &HostRuntime, name: &str, most: u64, text: &mut Vec<u8>) -> io::Result<()> {
     let room = most.saturating_sub(text.len() as u64);
     if name == "-" {
         rt.reader().take(room).read_to_end(text)?;
     } else {
-        File::open(rt, name)?.take(room).read_to_end(text)?;
+        let file = File::open(rt, name)?;
+        text.reserve(size_of(&file).min(room).min(MOST_AT_ONCE) as usize + 1)?;
+        file.take(room).read_to_end(text)?;
     }
     Ok(())
 }

@@ -215,21 +215,6 @@ fn near_burst<M: Machine, K: Sink>(
     burst_by(machine, outlet, text, held, place, true, MOST_NEAR)
 }
 
-/// The same burst, of which each part is read by itself: a load of several would wait for all of them to be stored.
-#[inline(always)]
-fn by_fields(burst: &Burst) -> Burst
-    ensures { result ≡ burst.now }
-{
-    Burst {
-        done: burst.done,
-        asked: burst.asked,
-        line_start: burst.line_start,
-        condition: burst.condition,
-        fault: burst.fault,
-        runs: burst.runs,
-    }
-}
-
 /// The same, as it is asked for. Runs are passed where they are looked for, and most bytes are one-byte matches in the
 /// first condition.
 pub fn burst_over<M: Machine, K: Sink>(
@@ -246,12 +231,11 @@ pub fn burst_over<M: Machine, K: Sink>(
 
     ensures { BurstMade (M.machine machine.now) outlet.old outlet.new text.now held 0 place result 0 }
 {
-    let burst = if matches!(wanted, Wanted::Near) {
-        near_burst(machine, outlet, text, held, place)
-    } else if matches!(wanted, Wanted::Runs) && machine.has_singles(place.condition) {
-        passing_burst(machine, outlet, text, held, place)
-    } else {
-        plain_burst(machine, outlet, text, held, place)
-    };
-    by_fields(&burst)
+    if matches!(wanted, Wanted::Near) {
+        return near_burst(machine, outlet, text, held, place);
+    }
+    if matches!(wanted, Wanted::Runs) && machine.has_singles(place.condition) {
+        return passing_burst(machine, outlet, text, held, place);
+    }
+    plain_burst(machine, outlet, text, held, place)
 }

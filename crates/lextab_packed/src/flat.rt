@@ -154,6 +154,17 @@ impl Flat {
         self.rows[place + usize::from(byte)]
     }
 
+    /// The marked states after each byte, from the state whose row is at this place.
+    #[inline(always)]
+    fn row(&self, place: usize) -> &[u32]
+        requires { (s : ℕ) × (s < table_states self.now.tables) × (place ≡ 256 * s) }
+        ensures len { length result.now ≡ 256 }
+        ensures each { (s : ℕ) → place ≡ 256 * s → s < table_states self.now.tables → (b : ℕ) → b < 256
+            → slice_index result.now b ≡ marked_target self.now.tables s b }
+    {
+        &self.rows[place..place + 256]
+    }
+
     /// The end of the run of bytes, from `start` on, that lead from the state whose row is at this place to itself.
     #[inline(always)]
     fn run_end(&self, place: u32, bytes: &[u8], start: usize) -> usize
@@ -163,8 +174,9 @@ impl Flat {
             → IsRun (table_machine self.now.tables) s bytes.now start result }
     {
         let near = start + (bytes.len() - start).min(NEAR);
+        let row = self.row(place as usize);
         let mut end = start;
-        'run: while end < near && self.target(place as usize, bytes[end]) == place {
+        'run: while end < near && row[usize::from(bytes[end])] == place {
             end += 1;
         }
         if end < near {
