@@ -234,8 +234,8 @@ pub fn burst_over<M: Machine, K: Sink>(
     if matches!(wanted, Wanted::Near) {
         return near_burst(machine, outlet, text, held, place);
     }
-    if matches!(wanted, Wanted::Runs) && machine.has_singles(place.condition) {
-        return passing_burst(machine, outlet, text, held, place);
+    if !matches!(wanted, Wanted::Runs) || !machine.has_singles(place.condition) {
+        return plain_burst(machine, outlet, text, held, place);
     }
-    plain_burst(machine, outlet, text, held, place)
+    passing_burst(machine, outlet, text, held, place)
 }
