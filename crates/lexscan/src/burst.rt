@@ -217,6 +217,7 @@ fn near_burst<M: Machine, K: Sink>(
 
 /// The same, as it is asked for. Runs are passed where they are looked for, and most bytes are one-byte matches in the
 /// first condition.
+#[inline(always)]
 pub fn burst_over<M: Machine, K: Sink>(
     machine: &M,
     outlet: &mut Outlet<'_, K>,
