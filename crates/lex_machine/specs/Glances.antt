@@ -26,6 +26,14 @@ pub record FirstDoes (M : Machine) (s : ℕ) (ss : List S.Statement) : Type 0 wh
   pub whole : M.cut rule ≡ S.Whole
   pub does : M.statements rule ≡ ss
 
+-- The first rule that a state accepts keeps this of a match, sets a start condition, and does yymore, and no more.
+pub record FirstBegins (M : Machine) (s : ℕ) (cut : S.Cut) (condition : ℕ) : Type 0 where
+  pub rule : ℕ
+  pub others : List ℕ
+  pub accepts : M.accepts s ≡ rule ∷ others
+  pub cut_is : M.cut rule ≡ cut
+  pub does : M.statements rule ≡ S.Begin condition ∷ S.More ∷ []
+
 abbrev pub Gists : Machine → ℕ → Gist → Type 0
 Gists M s Any = ⊤
 Gists M s NoRule = M.accepts s ≡ []

@@ -4,6 +4,7 @@ ghost use Rattle.lex_machine.specs.Views.{statement_of};
 ghost use Rattle.lex_machine.specs.Glances.{is_simple, are_simple};
 
 use crate::action::Statement;
+use crate::cut::Cut;
 
 /// A walk over bytes up to the first after which the machine goes on no more: how many they are, the state after them,
 /// the one before the last of them, and what is known of the first rule that the last state accepts.
@@ -33,6 +34,13 @@ pub enum Gist<'a> {
     Begin(u8),
     /// It does these one after another, and each writes the text or a literal, or sets the start condition.
     Several(&'a [Statement]),
+}
+
+/// What a rule keeps of a match that sets a start condition and does yymore, and that condition.
+#[derive(Clone, Copy)]
+pub struct BegunMore {
+    pub cut: Cut,
+    pub condition: u8,
 }
 
 /// Whether the statement writes the text or a literal, or sets the start condition.

@@ -20,7 +20,7 @@
 //!
 //! - A machine need not tell anything at a glance: `way` and `gist` may answer that nothing is known. Then a scan
 //!   makes each turn by itself. Nor need it know which state leads to another (`only_before`), or which rules do yymore
-//!   alone (`does_more`).
+//!   alone, or behind BEGIN (`does_more`, `begins_more`).
 //! - A gist says what a rule does only where it keeps the whole match and each statement is ECHO, a literal or BEGIN.
 //!   These change nothing but the output and the condition.
 #![tactic(auto)]
@@ -35,6 +35,6 @@ mod machine;
 pub use action::{EndAction, Statement, has_reject, only_rejects};
 pub use copying::{copy_end, copy_statements};
 pub use cut::Cut;
-pub use glance::{Gist, Way, are_simple};
+pub use glance::{BegunMore, Gist, Way, are_simple};
 pub use laws::{examples_of_quiet, quiet_scan};
 pub use machine::Machine;

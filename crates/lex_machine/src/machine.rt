@@ -3,14 +3,14 @@ ghost use Rattle.std.specs.Prelude.{◌≡◌, ℕ, ◌<◌, [], ◌∷◌, map,
 ghost use Rattle.lex_semantics.specs.Machine.{Machine as MachineModel};
 ghost use Rattle.lex_semantics.specs.Spec.{More};
 ghost use Rattle.lex_machine.specs.Views.{statement_of, end_action_of, cut_of};
-ghost use Rattle.lex_machine.specs.Glances.{Leads, Gists, FirstDoes, OnlyBefore};
+ghost use Rattle.lex_machine.specs.Glances.{Leads, Gists, FirstDoes, FirstBegins, OnlyBefore};
 ghost use Rattle.lex_machine.specs.Quiets.{NoneFits};
 ghost use Rattle.lex_machine.specs.Singles.{IsDropped, IsCopied, Singles};
 ghost use Rattle.lex_semantics.specs.MachineLaws.{MachineLaws, StaysBelow, NoReject, SomeReject};
 
 use crate::action::{EndAction, Statement};
 use crate::cut::Cut;
-use crate::glance::{Gist, Way};
+use crate::glance::{BegunMore, Gist, Way};
 
 /// States, the rules that they accept, and what these do.
 pub trait Machine {
@@ -114,6 +114,16 @@ pub trait Machine {
     {
         let _state = state;
         false
+    }
+
+    /// What the first rule that the state accepts keeps of a match, and the condition that it sets, where it is known that
+    /// it does yymore then, and no more.
+    fn begins_more(&self, state: u32) -> Option<BegunMore>
+        requires { state < states self.now }
+        ensures { IfSome result (λ begun. FirstBegins (machine self.now) state (cut_of begun.cut) begun.condition) }
+    {
+        let _state = state;
+        None
     }
 
     /// Whether most bytes are matches by themselves in a condition, which a scan drops or copies. It is asked before the

@@ -7,7 +7,7 @@ use Rattle.std.proofs.lemmas.Bool.{cases_lt, le-leb, lt-leb}
 use Rattle.std.proofs.lemmas.Nat.{shr-shr, xor_lt}
 use Rattle.std.proofs.lemmas.Nat.Bits.{bit_at-lt, bit_at-suc, bit_at-trailing_zeros, bit_at-zero, bit_at_above, bit_at_cat_low, bit_at_lowest, bit_at_or, bit_at_xor, bit_at_mask_inside, bit_at_mask_below, bit_at_mask_above}
 use Rattle.lex_semantics.specs.ByteSets.{has, within, range_set}
-use Rattle.lexre_bytes.specs.Changes.{differ}
+use Rattle.std.proofs.Math.Bool.{xor}
 use Rattle.lexre_bytes.specs.Halves.{joined}
 use Rattle.lexre_bytes.proofs.SetLaws.{joined_is, has-joined_low, has-joined_high}
 
@@ -76,7 +76,8 @@ bit_up_first n = bit_at_lowest (n * 2 ^ 1 % 2 ^ 128) ∙ omega arith
 
 -- just one of two bits
 
-xor_test : (x y : ℕ) → x < 2 → y < 2 → ((x + y) % 2 == 1) ≡ differ (y == 1) (x == 1)
+xor_test : (x y : ℕ) → x < 2 → y < 2 → ((x + y) % 2 == 1) ≡ xor (y == 1) (x == 1)
+unfolding xor
 xor_test zero zero h k = refl
 xor_test zero (suc zero) h k = refl
 xor_test (suc zero) zero h k = refl
@@ -85,7 +86,7 @@ xor_test (suc (suc x)) y h k = absurd (omega arith)
 xor_test zero (suc (suc y)) h k = absurd (omega arith)
 xor_test (suc zero) (suc (suc y)) h k = absurd (omega arith)
 
-xor_bits : (a b i : ℕ) → (bit_at (bit_xor a b) i == 1) ≡ differ (bit_at b i == 1) (bit_at a i == 1)
+xor_bits : (a b i : ℕ) → (bit_at (bit_xor a b) i == 1) ≡ xor (bit_at b i == 1) (bit_at a i == 1)
 xor_bits a b i = ap (λ x. x == 1) (bit_at_xor a b i) ∙ xor_test (bit_at a i) (bit_at b i) (bit_at-lt a i) (bit_at-lt b i)
 
 -- the lowest bit that is set
@@ -118,8 +119,13 @@ high_in high low b fits h e = has-joined_high high low b fits h ∙ ap (λ x. x 
 
 -- the bytes at which a set begins or ends, as two words
 
-first_bits : (x y : ℕ) → y ≡ 0 → differ (y == 1) (x == 1) ≡ (x == 1)
-first_bits x y e = rw e refl
+xor_false : (x : Bool) → xor false x ≡ x
+unfolding xor
+xor_false false = refl
+xor_false true = refl
+
+first_bits : (x y : ℕ) → y ≡ 0 → xor (y == 1) (x == 1) ≡ (x == 1)
+first_bits x y e = ap (λ y. xor (y == 1) (x == 1)) e ∙ xor_false (x == 1)
 
 up_by_one : (l b : ℕ) → 1 ≤ b → b < 128 → bit_at (l * 2 ^ 1 % 2 ^ 128) b ≡ bit_at l (b - 1)
 up_by_one l b some fits = let e : b ≡ b - 1 + 1 = omega (arith, some) in ap (bit_at (l * 2 ^ 1 % 2 ^ 128)) e ∙ bit_up l (b - 1) (omega (arith, some, fits))
@@ -137,7 +143,7 @@ carried_in h l =
     let last : bit_at (l / 2 ^ 127) 0 ≡ bit_at l 127 = bit_at_lowest (l / 2 ^ 127) in
     omega (arith, bit_at_or (h * 2 ^ 1 % 2 ^ 128) (l / 2 ^ 127) 0, none, last)
 
-alike : (x x' y y' : Bool) → x ≡ x' → y ≡ y' → differ x y ≡ differ x' y'
+alike : (x x' y y' : Bool) → x ≡ x' → y ≡ y' → xor x y ≡ xor x' y'
 alike x x' y y' e f = rw (e, f) refl
 
 pub changes_first : (high h l : ℕ) → has (joined high (bit_xor l (l * 2 ^ 1 % 2 ^ 128))) 0 ≡ has (joined h l) 0
@@ -147,7 +153,7 @@ changes_first high h l = has-joined_low high (bit_xor l (l * 2 ^ 1 % 2 ^ 128)) 0
     ∙ sym (has-joined_low h l 0 (omega arith))
 
 changes_low : (high h l b : ℕ) → 1 ≤ b → b < 128
-    → has (joined high (bit_xor l (l * 2 ^ 1 % 2 ^ 128))) b ≡ differ (has (joined h l) (b - 1)) (has (joined h l) b)
+    → has (joined high (bit_xor l (l * 2 ^ 1 % 2 ^ 128))) b ≡ xor (has (joined h l) (b - 1)) (has (joined h l) b)
 changes_low high h l b some fits = has-joined_low high (bit_xor l (l * 2 ^ 1 % 2 ^ 128)) b fits
     ∙ xor_bits l (l * 2 ^ 1 % 2 ^ 128) b
     ∙ alike _ _ _ _
@@ -170,7 +176,7 @@ before_high h l b fits large byte = ⊎_elim
 
 pub changes_later : (h l b : ℕ) → l < 2 ^ 128 → 1 ≤ b → b < 256
     → has (joined (bit_xor h (bit_or (h * 2 ^ 1 % 2 ^ 128) (l / 2 ^ 127))) (bit_xor l (l * 2 ^ 1 % 2 ^ 128))) b
-    ≡ differ (has (joined h l) (b - 1)) (has (joined h l) b)
+    ≡ xor (has (joined h l) (b - 1)) (has (joined h l) b)
 changes_later h l b fits some byte = ⊎_elim
     (λ low. changes_low _ h l b some low)
     (λ large. has-joined_high (bit_xor h (bit_or (h * 2 ^ 1 % 2 ^ 128) (l / 2 ^ 127))) (bit_xor l (l * 2 ^ 1 % 2 ^ 128)) b

@@ -1,7 +1,6 @@
 pub mod ClassSets
 pub mod BraceSteps
 pub mod Brackets
-pub mod Changes
 pub mod Classes
 pub mod Elements
 pub mod EscapeSteps

@@ -2,7 +2,7 @@
 ghost use Rattle.std.specs.Prelude.{◌≡◌, ℕ, ◌-◌, ◌<◌, ◌≤◌, ◌↔◌, Bool, false, true, IsTrue};
 ghost use Rattle.lex_semantics.specs.ByteSets.{has, set_of, empty_set, single, range_set};
 ghost use Rattle.lex_semantics.specs.ByteSets.{union, complement, fold_case, named_set};
-ghost use Rattle.lexre_bytes.specs.Changes.{differ};
+ghost use Rattle.std.proofs.Math.Bool.{xor};
 
 use crate::classes::{Class, other_case};
 use crate::words::{first_one, next_one, ones_between};
@@ -138,7 +138,7 @@ impl ByteSet {
     /// The bytes of which the set has just one, that or the byte before. No byte is before the first.
     pub fn changes(&self) -> ByteSet
         ensures first { has result 0 ≡ has self.now 0 }
-        ensures later { (b : ℕ) → 1 ≤ b → b < 256 → has result b ≡ differ (has self.now (b - 1)) (has self.now b) }
+        ensures later { (b : ℕ) → 1 ≤ b → b < 256 → has result b ≡ xor (has self.now (b - 1)) (has self.now b) }
     {
         ByteSet {
             low: self.low ^ (self.low << 1),
