@@ -36,7 +36,8 @@ use std::alloc::AllocError;
 use std::io;
 use std::process::ExitCode;
 
-/// What the command line asks for.
+/// What the command line asks for. It stands by itself, so that its room on the stack is given back.
+#[inline(never)]
 fn job_of(rt: &HostRuntime) -> Result<Job, Failure> {
     let words = command_words(rt)?;
     match read_args(rt.alloc(), words.as_slice()) {
@@ -59,7 +60,7 @@ enum By<'a> {
 
 /// Scans standard input to standard output.
 fn scan(rt: &HostRuntime, by: By<'_>) -> Result<u8, Failure> {
-    let mut source = FromBytes::new(ByteReader::new(rt.alloc(), rt.reader())?);
+    let mut source = FromBytes::new(ByteReader::new(rt.alloc(), rt.stdin())?);
     let mut sink = ToBytes::new(ByteWriter::new(rt.alloc(), io::writer(rt))?);
     let result = match by {
         By::Spec(text, patterns) => {

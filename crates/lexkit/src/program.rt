@@ -39,7 +39,9 @@ pub fn command_words(rt: &HostRuntime) -> Result<Vec<String>, Failure> {
 /// How many bytes of a file there is room for at once. More is asked for as it is read.
 const MOST_AT_ONCE: u64 = 1_048_576;
 
-/// The size that is told of a file, or 0 where none is told. It may have more bytes or fewer.
+/// The size that is told of a file, or 0 where none is told. It may have more bytes or fewer. It stands by itself, so that
+/// what it asks for takes no room on the stack while the file is read.
+#[inline(never)]
 fn size_of(file: &File) -> u64 {
     match file.metadata() {
         Ok(told) => told.len(),
@@ -51,7 +53,7 @@ fn size_of(file: &File) -> u64 {
 pub fn read_more(rt: &HostRuntime, name: &str, most: u64, text: &mut Vec<u8>) -> io::Result<()> {
     let room = most.saturating_sub(text.len() as u64);
     if name == "-" {
-        rt.reader().take(room).read_to_end(text)?;
+        rt.stdin().take(room).read_to_end(text)?;
     } else {
         let file = File::open(rt, name)?;
         text.reserve(size_of(&file).min(room).min(MOST_AT_ONCE) as usize + 1)?;

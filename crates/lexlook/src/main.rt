@@ -178,7 +178,7 @@ fn show_trace(
     requires few_positions { options.limits.positions ≤ MAX_POSITIONS }
     requires few_states { options.limits.states ≤ MAX_STATES }
 {
-    let mut source = FromBytes::new(ByteReader::new(rt.alloc(), rt.reader())?);
+    let mut source = FromBytes::new(ByteReader::new(rt.alloc(), rt.stdin())?);
     let mut sink = ToBytes::new(ByteWriter::new(rt.alloc(), io::writer(rt))?);
     let result = if offsets {
         tell_places(rt.alloc(), text, options, &mut source, &mut sink)
@@ -203,7 +203,7 @@ fn count_input(
     requires few_positions { options.limits.positions ≤ MAX_POSITIONS }
     requires few_states { options.limits.states ≤ MAX_STATES }
 {
-    let reader = Watched::new(rt, progress, rt.reader());
+    let reader = Watched::new(rt, progress, rt.stdin());
     let mut source = FromBytes::new(ByteReader::new(rt.alloc(), reader)?);
     let mut sink = ToBytes::new(ByteWriter::new(rt.alloc(), io::writer(rt))?);
     let status = tell_counts(rt.alloc(), text, options, form, &mut source, &mut sink)?;

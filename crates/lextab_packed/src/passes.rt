@@ -18,14 +18,18 @@ use std::alloc::{AllocError, Global};
 /// How many passes there are at most.
 const PASSES: usize = 8;
 
-/// The first byte of each class that has one.
+/// The byte that is looked at first, and after it those behind it: from most states a digit or a letter leads on.
+const FIRST: usize = 48;
+
+/// The first byte of each class that has one, in this order.
 fn bytes_of_classes(alloc: Global, class_of: &[u8]) -> Result<Vec<u8>, AllocError>
     requires { length class_of.now ≡ 256 }
     ensures { IfOk result (λ v. (b : ℕ) → b < 256 → HasClass class_of.now v.items (slice_index class_of.now b)) }
 {
     let mut bytes = Vec::with_capacity(alloc, 256)?;
     let mut seen = [false; 256];
-    for byte in 0..256 {
+    for place in 0..256usize {
+        let byte = (FIRST + place) % 256;
         let class = class_of[byte] as usize;
         if !seen[class] {
             seen[class] = true;
@@ -36,6 +40,7 @@ fn bytes_of_classes(alloc: Global, class_of: &[u8]) -> Result<Vec<u8>, AllocErro
 }
 
 /// Whether one of the bytes leads from the state to one that accepts, or is known to go on.
+#[inline(always)]
 fn leads(parts: &TableParts, bytes: &[u8], accepting: &[bool], live: &[bool], state: u32) -> bool
     requires table { IsTable (table_of parts.now) }
     requires state { state < length parts.now.rows.items }
@@ -54,7 +59,8 @@ fn leads(parts: &TableParts, bytes: &[u8], accepting: &[bool], live: &[bool], st
 }
 
 /// Goes over the states from the last to the first, and marks those that go on by what is known so far. It tells how
-/// many were marked.
+/// many were marked. It stands by itself, so that its loop is small.
+#[inline(never)]
 fn pass(parts: &TableParts, bytes: &[u8], accepting: &[bool], live: &mut Vec<bool>) -> usize
     requires table { IsTable (table_of parts.now) }
     requires accepting { accepting.now ≡ map (λ r. nat_lt 0 (length r.rules.items)) parts.now.rows.items }
