@@ -49,9 +49,9 @@ pub struct TableParts {
     /// The states, by number.
     pub rows: Vec<Row>,
     /// For each slot the state whose target stands there, and 0 where it is unused.
-    pub checks: Vec<u32>,
+    pub checks: Vec<u16>,
     /// For each slot the target that stands there.
-    pub nexts: Vec<u32>,
+    pub nexts: Vec<u16>,
 }
 
 /// Whether the slot of this state may lead to a target, where there are so many states: it is one of them, and 0 in an

@@ -59,7 +59,11 @@ fn add_slots(parts: &TableParts, sources: &mut Vec<Sources>)
 {
     let slots = parts.checks.len().min(parts.nexts.len());
     for place in 0..slots {
-        add_source(sources, parts.nexts[place], parts.checks[place]);
+        add_source(
+            sources,
+            u32::from(parts.nexts[place]),
+            u32::from(parts.checks[place]),
+        );
     }
 }
 

@@ -25,8 +25,8 @@ fn turn_to(parts: &TableParts, alike: &Alike, marks: &[u32], state: u32, row: &m
     let base = packed.base as usize;
     let default = marks[packed.default_target as usize];
     for class in 0..parts.classes as usize {
-        let mark = if parts.checks[base + class] == state {
-            marks[parts.nexts[base + class] as usize]
+        let mark = if u32::from(parts.checks[base + class]) == state {
+            marks[usize::from(parts.nexts[base + class])]
         } else {
             default
         };

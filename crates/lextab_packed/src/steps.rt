@@ -22,8 +22,8 @@ pub(crate) fn target(parts: &TableParts, state: u32, byte: u8) -> u32
 {
     let row = &parts.rows[state as usize];
     let slot = row.base as usize + usize::from(parts.class_of[usize::from(byte)]);
-    if parts.checks[slot] == state {
-        parts.nexts[slot]
+    if u32::from(parts.checks[slot]) == state {
+        u32::from(parts.nexts[slot])
     } else {
         row.default_target
     }

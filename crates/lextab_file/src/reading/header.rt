@@ -3,7 +3,7 @@ ghost use Rattle.std.specs.Prelude.{◌≡◌, ◌≤◌, ◌==◌, ◌||◌, �
 ghost use Rattle.std.specs.Int.{w16};
 ghost use Rattle.lextab_file.specs.Reading.{judged, read_number, read_bytes, is_magic, read_sizes};
 ghost use Rattle.lextab_file.specs.Views.{Gives, sizes_in, is_memory};
-ghost use Rattle.lex_semantics.specs.Limits.{max_classes};
+ghost use Rattle.lex_semantics.specs.Limits.{max_classes, max_states};
 
 use super::fields::{long_within, short};
 use crate::error::ReadError;
@@ -61,6 +61,7 @@ pub fn version(bytes: &[u8]) -> Result<(u16, &[u8]), ReadError>
 #[tactic(auto, unfolding(crate::specs::Reading::read_sizes))]
 pub fn sizes(bytes: &[u8]) -> Result<(Counts, &[u8]), ReadError>
     ensures gives { Gives (λ x. (sizes_in x.0, x.1.now)) result (read_sizes bytes.now) }
+    ensures states { IfOk result (λ x. x.0.states ≤ max_states) }
     ensures classes { IfOk result (λ x. x.0.classes ≤ max_classes) }
 {
     let (conditions, rest) = long_within(bytes, 1, MAX_CONDITIONS as u32)?;

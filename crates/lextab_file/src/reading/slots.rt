@@ -1,6 +1,7 @@
 //! Reads the slots.
-ghost use Rattle.std.specs.Prelude.{◌≡◌, ◌+◌, ◌<◌, ◌&&◌, nat_lt, map, length, slice_index, IfOk};
+ghost use Rattle.std.specs.Prelude.{◌≡◌, ◌+◌, ◌<◌, ◌≤◌, ◌&&◌, nat_lt, map, length, slice_index, IfOk};
 ghost use Rattle.std.specs.Int.{w32};
+ghost use Rattle.lex_semantics.specs.Limits.{max_states};
 ghost use Rattle.lextab_packed.specs.Checks.{bases_of, none_at_0};
 ghost use Rattle.lextab_packed.specs.Views.{row_of, slots_of};
 ghost use Rattle.lextab_file.specs.Seen.{following};
@@ -28,15 +29,16 @@ fn check_of<'a>(
     counts: Counts,
     rows: &[Row],
     place: u32,
-) -> Result<(u32, &'a [u8]), ReadError>
-    requires { length rows.now ≡ counts.states }
+) -> Result<(u16, &'a [u8]), ReadError>
+    requires rows { length rows.now ≡ counts.states }
+    requires few { counts.states ≤ max_states }
     ensures gives { Gives (λ x. (x.0, x.1.now)) result
         (only_if (good_check (sizes_in counts) (bases_of (map row_of rows.now)) place) (read_number w32) bytes.now) }
     ensures rest { IfOk result (λ x. length x.1.now + 4 ≡ length bytes.now) }
 {
     let (check, rest) = long(bytes)?;
     if check == 0 {
-        return Ok((check, rest));
+        return Ok((0, rest));
     }
     if check >= counts.states {
         return Err(ReadError::BadField(bytes.len()));
@@ -45,20 +47,21 @@ fn check_of<'a>(
     if place < base || u64::from(place) >= u64::from(base) + u64::from(counts.classes) {
         return Err(ReadError::BadField(bytes.len()));
     }
-    Ok((check, rest))
+    Ok((check as u16, rest))
 }
 
 /// The target in a slot for this state.
-fn next_of(bytes: &[u8], states: u32, check: u32) -> Result<(u32, &[u8]), ReadError>
+fn next_of(bytes: &[u8], states: u32, check: u16) -> Result<(u16, &[u8]), ReadError>
+    requires { states ≤ max_states }
     ensures gives { Gives (λ x. (x.0, x.1.now)) result
         (only_if (λ n. nat_lt n states && none_at_0 check n) (read_number w32) bytes.now) }
     ensures rest { IfOk result (λ x. length x.1.now + 4 ≡ length bytes.now) }
 {
     let (next, rest) = long(bytes)?;
-    if !may_lead(check, next, states) {
+    if !may_lead(u32::from(check), next, states) {
         return Err(ReadError::BadField(bytes.len()));
     }
-    Ok((next, rest))
+    Ok((next as u16, rest))
 }
 
 /// A slot: the state that has it, and the target that stands there.
@@ -68,8 +71,9 @@ fn slot<'a>(
     counts: Counts,
     rows: &[Row],
     place: u32,
-) -> Result<((u32, u32), &'a [u8]), ReadError>
-    requires { length rows.now ≡ counts.states }
+) -> Result<((u16, u16), &'a [u8]), ReadError>
+    requires rows { length rows.now ≡ counts.states }
+    requires few { counts.states ≤ max_states }
     ensures gives { Gives (λ x. (slot_from (x.0.0, x.0.1), x.1.now)) result
         (read_slot (sizes_in counts) (bases_of (map row_of rows.now)) place bytes.now) }
     ensures rest { IfOk result (λ x. length x.1.now + 8 ≡ length bytes.now) }
@@ -85,8 +89,9 @@ pub fn slots<'a>(
     bytes: &'a [u8],
     counts: Counts,
     rows: &[Row],
-) -> Result<((Vec<u32>, Vec<u32>), &'a [u8]), ReadError>
-    requires { length rows.now ≡ counts.states }
+) -> Result<((Vec<u16>, Vec<u16>), &'a [u8]), ReadError>
+    requires rows { length rows.now ≡ counts.states }
+    requires few { counts.states ≤ max_states }
     ensures { Gives (λ x. (slots_of x.0.0.items x.0.1.items, x.1.now)) result
         (many (read_slot (sizes_in counts) (bases_of (map row_of rows.now))) following counts.slots 0 bytes.now) }
 {

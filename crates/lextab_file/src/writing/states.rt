@@ -39,17 +39,17 @@ pub fn put_rows<K: Sink>(sink: &mut K, rows: &[Row]) -> Result<(), WriteFault>
 }
 
 /// Writes a slot: the state that has it, and the target that stands there.
-fn put_slot<K: Sink>(sink: &mut K, check: u32, next: u32) -> Result<(), WriteFault>
+fn put_slot<K: Sink>(sink: &mut K, check: u16, next: u16) -> Result<(), WriteFault>
     requires few { K.failures sink.old < 2 ^ 64 - 1 }
     ensures bytes { Appended (λ xs. K.wrote sink.old xs sink.new) (slot_text (slot_from (check, next))) result }
     ensures failures { K.failures sink.new ≡ K.failures sink.old + fault_count result }
 {
-    put_long(sink, check)?;
-    put_long(sink, next)
+    put_long(sink, u32::from(check))?;
+    put_long(sink, u32::from(next))
 }
 
 /// The slots of these columns.
-pub fn put_slots<K: Sink>(sink: &mut K, checks: &[u32], nexts: &[u32]) -> Result<(), WriteFault>
+pub fn put_slots<K: Sink>(sink: &mut K, checks: &[u16], nexts: &[u16]) -> Result<(), WriteFault>
     requires few { K.failures sink.old < 2 ^ 64 - 1 }
     ensures bytes { Appended (λ xs. K.wrote sink.old xs sink.new)
         (flat_map slot_text (slots_of checks.now nexts.now)) result }

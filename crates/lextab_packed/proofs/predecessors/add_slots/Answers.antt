@@ -21,7 +21,7 @@ add_source-requires c =
     let read = get_or_read p.nexts.items place c.index.result.now in_nexts c.index.ensures 0 in
     let known = subst (λ (l : T.Slot). l.next < length (map row_of p.rows.items)) (slots_at p.checks.items p.nexts.items place low) (slot_is (table_of p) c.requires.table place low).next in
     let rows = length-map p.rows.items row_of in
-    omega (arith, read, known, rows, c.loop-place.invariant.len)
+    omega (arith, c.from.ensures, read, known, rows, c.loop-place.invariant.len)
 
 pub loop-place-preserved : goal.loop-place-preserved
 loop-place-preserved c =
@@ -32,10 +32,10 @@ loop-place-preserved c =
     let in_checks : place < length p.checks.items = omega (arith, c.loop-place-test.true, c.min-slots.ensures, c.len.ensures, c.len-2.ensures, p.checks.ok.0) in
     let in_nexts : place < length p.nexts.items = omega (arith, c.loop-place-test.true, c.min-slots.ensures, c.len.ensures, c.len-2.ensures, p.nexts.ok.0) in
     let low = slots_high p.checks.items p.nexts.items place in_checks in_nexts in
-    let next = get_or_read p.nexts.items place c.index.result.now in_nexts c.index.ensures 0 in
-    let check = get_or_read p.checks.items place c.index-in-loop-place.result.now in_checks c.index-in-loop-place.ensures 0 in
+    let next = c.from.ensures ∙ get_or_read p.nexts.items place c.index.result.now in_nexts c.index.ensures 0 in
+    let check = c.from-in-loop-place.ensures ∙ get_or_read p.checks.items place c.index-in-loop-place.result.now in_checks c.index-in-loop-place.ensures 0 in
     let read : IsSource new (slice_index p.nexts.items place) (slice_index p.checks.items place) =
-    subst (λ n. IsSource new n (slice_index p.checks.items place)) next (subst (λ s. IsSource new c.index.result.now s) check c.add_source.ensures.added) in
+    subst (λ n. IsSource new n (slice_index p.checks.items place)) next (subst (λ s. IsSource new c.from.result s) check c.add_source.ensures.added) in
     let here : IsSource new (slot_at t place).next (slot_at t place).check = subst (λ (l : T.Slot). IsSource new l.next l.check) (sym (slots_at p.checks.items p.nexts.items place low)) read in
     record {
       len = c.add_source.ensures.len ∙ c.loop-place.invariant.len;

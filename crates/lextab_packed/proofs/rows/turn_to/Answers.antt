@@ -9,7 +9,7 @@ use Rattle.lextab_packed.specs.declared.parts.TableParts.{TableParts}
 use Rattle.lextab_packed.specs.Views.{table_of}
 use Rattle.lextab_packed.proofs.Places.{class_below}
 use Rattle.lextab_packed.proofs.Stepping.{class_target, default_known, class_next_known, class_check_low, class_next_low, class_by_slot, class_by_default, step_by_class}
-use Rattle.lextab_packed.proofs.rows.turn_to.Goals.{then-index-state, else-index-state}
+use Rattle.lextab_packed.proofs.rows.turn_to.Goals.{then-from-state, else-from-state}
 use Rattle.lextab_packed.proofs.rows.turn_to.Goals as goal
 
 pub bounds-marks-packed : goal.bounds-marks-packed
@@ -23,21 +23,21 @@ index-requires c =
     let p = c.args.parts.now in
     omega (arith, class_check_low p c.requires.table c.args.state c.requires.state c.index-packed.result.now c.index-packed.ensures c.loop-class.class (omega (arith, c.loop-class-test.true)), p.checks.ok.0)
 
-pub index-requires-then-index-state : goal.index-requires-then-index-state
-index-requires-then-index-state c =
+pub index-requires-then-from-state : goal.index-requires-then-from-state
+index-requires-then-from-state c =
     let p = c.args.parts.now in
     omega (arith, class_next_low p c.requires.table c.args.state c.requires.state c.index-packed.result.now c.index-packed.ensures c.loop-class.class (omega (arith, c.loop-class-test.true)), p.nexts.ok.0)
 
-pub bounds-marks-index : goal.bounds-marks-index
-bounds-marks-index c =
+pub bounds-marks-from : goal.bounds-marks-from
+bounds-marks-from c =
     let p = c.args.parts.now in
     let row = c.index-packed.result.now in
     let k = c.loop-class.class in
     let known : k < p.classes = omega (arith, c.loop-class-test.true) in
     let low = class_next_low p c.requires.table c.args.state c.requires.state row c.index-packed.ensures k known in
-    let read = get_or_read p.nexts.items (row.base + k) c.index-then-index-state.result.now low c.index-then-index-state.ensures 0 in
+    let read = get_or_read p.nexts.items (row.base + k) c.index-then-from-state.result.now low c.index-then-from-state.ensures 0 in
     let below = class_next_known p c.requires.table c.args.state c.requires.state row c.index-packed.ensures k known in
-    omega (arith, read, below, c.requires.marks)
+    omega (arith, c.from-then-from-state.ensures, read, below, c.requires.marks)
 
 pub loop-class-preserved : goal.loop-class-preserved
 loop-class-preserved c = (
@@ -81,16 +81,16 @@ loop-class-preserved c = (
     known : k < p.classes
     known = omega (arith, c.loop-class-test.true)
 
-    check : c.index.result.now ≡ slice_index p.checks.items (row.base + k)
-    check = get_or_read p.checks.items (row.base + k) c.index.result.now (class_check_low p ok s low row is k known) c.index.ensures 0
+    check : c.from.result ≡ slice_index p.checks.items (row.base + k)
+    check = c.from.ensures ∙ get_or_read p.checks.items (row.base + k) c.index.result.now (class_check_low p ok s low row is k known) c.index.ensures 0
 
-    mark : c.if-index-state.mark ≡ slice_index marks (class_target t s k)
-    mark = elim c.if-index-state.branch [
-      | then-index-state w ↦ (
-          let next = get_or_read p.nexts.items (row.base + k) w.index-then-index-state.result.now (class_next_low p ok s low row is k known) w.index-then-index-state.ensures 0 in
-          w.mark-is ∙ ap (λ (x : ℕ). slice_index marks x) (next ∙ class_by_slot p ok s low row is k known (sym check ∙ w.if-index-state.true))
+    mark : c.if-from-state.mark ≡ slice_index marks (class_target t s k)
+    mark = elim c.if-from-state.branch [
+      | then-from-state w ↦ (
+          let next = w.from-then-from-state.ensures ∙ get_or_read p.nexts.items (row.base + k) w.index-then-from-state.result.now (class_next_low p ok s low row is k known) w.index-then-from-state.ensures 0 in
+          w.mark-is ∙ ap (λ (x : ℕ). slice_index marks x) (next ∙ class_by_slot p ok s low row is k known (sym check ∙ w.if-from-state.true))
           )
-      | else-index-state w ↦ w.mark-is ∙ ap (λ (x : ℕ). slice_index marks x) (class_by_default p ok s low row is k known (λ e. w.if-index-state.false (check ∙ e)))
+      | else-from-state w ↦ w.mark-is ∙ ap (λ (x : ℕ). slice_index marks x) (class_by_default p ok s low row is k known (λ e. w.if-from-state.false (check ∙ e)))
     ]
 
 pub returns-clause-each : goal.returns-clause-each
