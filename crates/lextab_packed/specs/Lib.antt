@@ -17,4 +17,5 @@ pub mod Passes
 pub mod Rejections
 pub mod Predecessors
 pub mod Mores
+pub mod Begun
 pub mod Quiets

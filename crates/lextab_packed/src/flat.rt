@@ -8,6 +8,7 @@ ghost use Rattle.lextab_packed.specs.Checks.{IsTable};
 ghost use Rattle.lextab_packed.specs.Flats.{as_target, marked_target, kind_of};
 ghost use Rattle.lex_machine.specs.Singles.{IsDropped, IsCopied};
 ghost use Rattle.lextab_packed.specs.Leaps.{OthersStay};
+ghost use Rattle.lextab_packed.specs.Begun.{TellBegun, TellBegun-prop};
 ghost use Rattle.lextab_packed.specs.Mores.{TellMore};
 ghost use Rattle.lextab_packed.specs.Predecessors.{IsSource};
 ghost use Rattle.lextab_packed.specs.Singles.{OthersDrop, AllTellSingles, AllTellSingles-prop, FirstAre};
@@ -17,6 +18,7 @@ ghost use Rattle.lextab_packed.specs.Steps.{step_of};
 ghost use Rattle.lextab_packed.specs.Views.{table_of};
 ghost use Rattle.lextab_packed.specs.Machines.{table_machine, table_parts, table_states, laws_of, below_of};
 
+use crate::begun::begun_of;
 use crate::kinds::{Kind, kinds_of};
 use crate::laying::laid_out;
 use crate::leaps::{Leavers, leaps_of, pass_over};
@@ -28,7 +30,7 @@ use crate::rows::marked_rows;
 use crate::singles::{Most, is_copied, is_dropped, most_of};
 use crate::steps::{STOP, STOP_ECHO, STOP_OTHER, STOP_SILENT, mark_rows, marks_of};
 use crate::tables::Tables;
-use lex_machine::{Cut, EndAction, Gist, Machine, Statement, Way};
+use lex_machine::{BegunMore, Cut, EndAction, Gist, Machine, Statement, Way};
 use std::alloc::{AllocError, Global};
 
 /// How many bytes of a run are tried one by one.
@@ -47,6 +49,7 @@ pub struct Flat {
     most: Vec<Most>,
     sources: Vec<Sources>,
     mores: Vec<bool>,
+    begun: Vec<Option<BegunMore>>,
     ghost sizes: { length rows.items ≡ 256 * length tables.parts.rows.items },
     ghost targets: { (s b : ℕ) → s < length tables.parts.rows.items → b < 256
         → slice_index rows.items (256 * s + b) ≡ marked_target tables s b },
@@ -64,6 +67,8 @@ pub struct Flat {
         → IsSource sources.items (step_of (table_of tables.parts) s b) s },
     ghost more_column: { length mores.items ≡ length tables.parts.rows.items },
     ghost more_told: { TellMore (table_machine tables) mores.items },
+    ghost begun_told: { TellBegun (table_machine tables) begun.items } by { TellBegun-prop (table_machine tables)
+        begun.items },
 }
 
 impl Flat {
@@ -133,6 +138,7 @@ impl Flat {
         let most = most_of(alloc, &tables, &rows)?;
         let sources = sources_of(alloc, &tables.parts)?;
         let mores = mores_of(alloc, &tables, &kinds)?;
+        let begun = begun_of(alloc, &tables, &kinds)?;
         Ok(Flat {
             tables,
             rows,
@@ -141,6 +147,7 @@ impl Flat {
             most,
             sources,
             mores,
+            begun,
         })
     }
 
@@ -400,6 +407,16 @@ impl Machine for Flat {
     #[inline(always)]
     fn does_more(&self, state: u32) -> bool {
         self.mores[state as usize]
+    }
+
+    /// What the first rule that the state accepts keeps of a match, and the condition that it sets, where it was seen that
+    /// it does yymore then, and no more.
+    #[inline(always)]
+    fn begins_more(&self, state: u32) -> Option<BegunMore> {
+        match self.begun.get(state as usize) {
+            Some(begun) => *begun,
+            None => None,
+        }
     }
 
     /// What is told at a glance of what the first rule does that the state accepts.

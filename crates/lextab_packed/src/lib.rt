@@ -17,6 +17,7 @@
 //! - `singles`: conditions in which most bytes of a text are matches by themselves, which are dropped or copied.
 //! - `predecessors`: of each state the only one that leads to it by a byte, where no other does.
 //! - `mores`: the states whose first rule does yymore alone.
+//! - `begun`: the states whose first rule sets a start condition and then does yymore.
 //! - `flat`: a table with a row of 256 marked targets for each state, so that a step is one look-up. It is the machine
 //!   of a scan.
 //! - `quiet`: a flat table in which rules that do nothing but REJECT fit no text, so that their matches are not looked
@@ -41,6 +42,7 @@
 #![tactic(auto)]
 
 mod alike;
+mod begun;
 mod flat;
 mod inverse;
 mod kinds;

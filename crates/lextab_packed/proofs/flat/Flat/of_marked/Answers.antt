@@ -19,4 +19,5 @@ invariant_of-result c = record {
   source_told = c.in_ok-sources.ensures.each;
   more_column = c.in_ok-mores.ensures.len;
   more_told = c.in_ok-mores.ensures.told;
+  begun_told = c.in_ok-begun.ensures;
 }
