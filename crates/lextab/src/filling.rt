@@ -27,11 +27,12 @@ fn fill(
     heads: &[u8],
     default: u32,
     base: usize,
-    state: u32,
-    check: &mut [u32],
-    targets: &mut [u32],
+    state: u16,
+    check: &mut [u16],
+    targets: &mut [u16],
 )
     requires block { length block.now ≡ 256 }
+    requires few { (b : ℕ) → b < 256 → slice_index block.now b < 2 ^ 16 }
     requires low { base < 2 ^ 40 }
     requires within { base + length heads.now ≤ length check.old }
     requires same { length targets.old ≡ length check.old }
@@ -42,7 +43,7 @@ fn fill(
         let target = block[*head as usize];
         if target != default {
             check[base + k] = state;
-            targets[base + k] = target;
+            targets[base + k] = target as u16;
         }
     }
 }
@@ -53,10 +54,11 @@ fn fill_all(
     heads: &[u8],
     defaults: &[u32],
     bases: &[u32],
-    check: &mut [u32],
-    targets: &mut [u32],
+    check: &mut [u16],
+    targets: &mut [u16],
 )
     requires laid { HasRows next.now heads.now (length bases.now) }
+    requires below { (i : ℕ) → i < length next.now → slice_index next.now i < length bases.now }
     requires states { length bases.now ≤ max_states }
     requires defaults { length defaults.now ≡ length bases.now }
     requires placed { (s : ℕ) → s < length bases.now
@@ -73,7 +75,7 @@ fn fill_all(
             heads,
             defaults[state],
             bases[state] as usize,
-            state as u32,
+            state as u16,
             check,
             targets,
         );
@@ -83,8 +85,8 @@ fn fill_all(
 /// The slots of a packed table.
 #[derive(Drop)]
 pub(crate) struct Slots {
-    pub(crate) check: Vec<u32>,
-    pub(crate) targets: Vec<u32>,
+    pub(crate) check: Vec<u16>,
+    pub(crate) targets: Vec<u16>,
 }
 
 /// The slots of all states.
@@ -97,6 +99,7 @@ pub(crate) fn slots_of(
 ) -> Result<Slots, AllocError>
     requires some { 0 < length bases.now }
     requires laid { HasRows next.now heads.now (length bases.now) }
+    requires below { (i : ℕ) → i < length next.now → slice_index next.now i < length bases.now }
     requires states { length bases.now ≤ max_states }
     requires defaults { length defaults.now ≡ length bases.now }
     requires placed { (s : ℕ) → s < length bases.now
@@ -108,8 +111,8 @@ pub(crate) fn slots_of(
         (length heads.now) defaults.now bases.now t.check.items t.targets.items) }
 {
     let size = size_of(bases, heads.len());
-    let mut check = vec![in alloc; 0u32; size]?;
-    let mut targets = vec![in alloc; 0u32; size]?;
+    let mut check = vec![in alloc; 0u16; size]?;
+    let mut targets = vec![in alloc; 0u16; size]?;
     fill_all(next, heads, defaults, bases, &mut check, &mut targets);
     Ok(Slots { check, targets })
 }

@@ -18,8 +18,8 @@ pub(crate) struct Packed {
     pub(crate) class_count: usize,
     pub(crate) defaults: Vec<u32>,
     pub(crate) bases: Vec<u32>,
-    pub(crate) check: Vec<u32>,
-    pub(crate) next: Vec<u32>,
+    pub(crate) check: Vec<u16>,
+    pub(crate) next: Vec<u16>,
 }
 
 /// Packs an automaton of this many states, given the targets of each state, 256 to a state.

@@ -19,6 +19,20 @@ fn pick(block: &[u32], heads: &[u8], row: &mut [u32])
     }
 }
 
+/// Writes the targets of the bytes, in 16 bits each.
+fn pick_short(block: &[u32], heads: &[u8], row: &mut [u16])
+    requires block { length block.now ≡ 256 }
+    requires few { (b : ℕ) → b < 256 → slice_index block.now b < 2 ^ 16 }
+    requires len { length row.old ≡ length heads.now }
+    ensures len { length row.new ≡ length heads.now }
+    ensures each { (k : ℕ) → k < length heads.now
+        → slice_index row.new k ≡ slice_index block.now (slice_index heads.now k) }
+{
+    for (k, head) in heads.iter().enumerate() {
+        row[k] = block[*head as usize] as u16;
+    }
+}
+
 /// Counts how often each target stands in the row.
 fn count_up(row: &[u32], counts: &mut [u32])
     requires few { length row.now < 2 ^ 32 }
@@ -135,6 +149,17 @@ pub(crate) fn read_row(next: &[u32], state: usize, heads: &[u8], row: &mut Vec<u
     } else {
         pick(block, heads, row);
     }
+}
+
+/// Writes the targets of a state's classes, in 16 bits each.
+pub(crate) fn read_short_row(next: &[u32], state: usize, heads: &[u8], row: &mut Vec<u16>)
+    requires block { 256 * state + 256 ≤ length next.now }
+    requires few { (i : ℕ) → i < length next.now → slice_index next.now i < 2 ^ 16 }
+    requires len { length row.old.items ≡ length heads.now }
+    ensures len { length row.new.items ≡ length heads.now }
+    ensures each { (k : ℕ) → k < length heads.now → slice_index row.new.items k ≡ by_head next.now heads.now state k }
+{
+    pick_short(&next[256 * state..256 * state + 256], heads, row);
 }
 
 /// The default of each state. The counts are all 0.

@@ -10,7 +10,7 @@ ghost use Rattle.lextab.specs.Unpacked.{TellsNext, TellChanges, AreNeighbours, A
 
 use crate::classes::Classes;
 use crate::packing::Packed;
-use crate::rows::read_row;
+use crate::rows::read_short_row;
 use std::alloc::{AllocError, Global};
 
 /// Not 0 where a state goes elsewhere by the next byte, or some state before did.
@@ -108,8 +108,8 @@ fn neighbours(
 #[derive(Drop)]
 struct SlotRows {
     bases: Vec<u32>,
-    check: Vec<u32>,
-    targets: Vec<u32>,
+    check: Vec<u16>,
+    targets: Vec<u16>,
 }
 
 /// A slot for each state and class, row by row.
@@ -121,18 +121,19 @@ fn slot_rows(
 ) -> Result<SlotRows, AllocError>
     requires laid { HasRows next.now heads.now states }
     requires few { states ≤ max_states }
+    requires below { (i : ℕ) → i < length next.now → slice_index next.now i < states }
     ensures { IfOk result (λ r. AreRowByRow (by_head next.now heads.now) (length heads.now) states
         r.bases.items r.check.items r.targets.items) }
 {
     let count = states * heads.len();
-    let mut row = vec![in alloc; 0u32; heads.len()]?;
+    let mut row = vec![in alloc; 0u16; heads.len()]?;
     let mut bases = Vec::with_capacity(alloc, states)?;
-    let mut check: Vec<u32> = Vec::with_capacity(alloc, count)?;
-    let mut targets: Vec<u32> = Vec::with_capacity(alloc, count)?;
+    let mut check: Vec<u16> = Vec::with_capacity(alloc, count)?;
+    let mut targets: Vec<u16> = Vec::with_capacity(alloc, count)?;
     for state in 0..states {
-        read_row(next, state, heads, &mut row);
+        read_short_row(next, state, heads, &mut row);
         bases.push(check.len() as u32)?;
-        check.resize(check.len() + heads.len(), state as u32)?;
+        check.resize(check.len() + heads.len(), state as u16)?;
         targets.extend_from_slice(&row)?;
     }
     Ok(SlotRows {
