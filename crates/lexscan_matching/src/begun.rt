@@ -6,6 +6,7 @@ ghost use Rattle.lexscan_window.specs.declared.state.TextPlace.{TextPlace};
 ghost use Rattle.lexscan_matching.specs.Begins.{IsBegun, IsBegunFrom};
 
 use crate::descent::kept_length;
+use crate::plan::FEW;
 use lex_machine::{Machine, Way};
 
 /// How many bytes a match keeps whose rule sets a start condition and does yymore then, and that condition.
@@ -15,7 +16,8 @@ pub struct BegunMatch {
     pub condition: u8,
 }
 
-/// The first match of so many bytes, where the first rule that the state after them accepts is told to be such a one.
+/// The first match of so many bytes, where the first rule that the state after them accepts is told to be such a one, and
+/// leaves few of them.
 #[inline(always)]
 fn begun_at<M: Machine>(machine: &M, state: u32, len: usize) -> Option<BegunMatch>
     requires known { state < M.states machine.now }
@@ -24,6 +26,10 @@ fn begun_at<M: Machine>(machine: &M, state: u32, len: usize) -> Option<BegunMatc
 {
     let begun = machine.begins_more(state)?;
     let keep = kept_length(begun.cut, len)?;
+    // What a match leaves of its walk is gone over again. Where that is much, a turn by itself marks it.
+    if FEW < len - keep {
+        return None;
+    }
     Some(BegunMatch {
         keep,
         condition: begun.condition,
