@@ -6,3 +6,4 @@ pub mod Fronting
 pub mod Barrens
 pub mod Telling
 pub mod Planning
+pub mod Beginning

@@ -1,11 +1,11 @@
 -- What is planned of the matches at a place.
-use Rattle.std.proofs.Common.{◌≡◌, ℕ, suc, zero, ◌+◌, ◌-◌, ◌≤◌, ◌<◌, Bool, true, false, List, [], ◌∷◌, ◌++◌, length, take, drop, get_or, inl, inr, Option, Some, None, refl, sym, ◌∙◌, ap, subst, arith}
+use Rattle.std.proofs.Common.{◌≡◌, ℕ, suc, ◌+◌, ◌-◌, ◌≤◌, ◌<◌, Bool, true, false, List, [], ◌∷◌, ◌++◌, length, take, drop, get_or, inl, inr, Option, Some, None, refl, sym, ◌∙◌, ap, subst, arith}
 use Rattle.std.specs.Prelude.{◌==◌, ◌&&◌, filter_map, map, nat_lt, nat_le, IfSome, if◌then◌else◌}
-use Rattle.std.proofs.lemmas.List.{append-nil, append_assoc, drop_more, drop_all, length-drop, map-append, take_rest, take-append-drop}
+use Rattle.std.proofs.lemmas.List.{append-nil, append_assoc, drop_more, drop_all, length-drop, map-append, take-append-drop}
 use Rattle.std.proofs.lemmas.Bool.Decides.{nat_tests}
 use Rattle.lex_semantics.specs.Spec as S
 use Rattle.lex_semantics.specs.Candidates.{Candidate}
-use Rattle.lex_semantics.specs.Machine.{Machine, walk}
+use Rattle.lex_semantics.specs.Machine.{Machine}
 use Rattle.lex_semantics.specs.PlainMachine.{kept_by, match_of}
 use Rattle.lex_semantics.specs.Trail.{falling}
 use Rattle.lex_semantics.specs.ActionResults.{act_result}
@@ -20,12 +20,11 @@ use Rattle.lexscan_window.specs.Acts.{acting_of}
 use Rattle.lexscan_window.proofs.Saying.{left_is}
 use Rattle.lexscan_matching.specs.declared.pick.Pick.{Pick}
 use Rattle.lexscan_matching.specs.declared.plan.Close.{Close}
-use Rattle.lexscan_matching.specs.declared.plan.SimplePart.{SimplePart}
 use Rattle.lexscan_matching.specs.declared.plan.FirstTwo.{FirstTwo}
 use Rattle.lexscan_matching.specs.declared.plan.Plan.{Plan}
 use Rattle.lexscan_matching.specs.Glanced.{all_said, all_begun}
 use Rattle.lexscan_matching.specs.Picks.{IsFirst, HasStatements, path_of, state_at}
-use Rattle.lexscan_matching.specs.Plans.{closing, closing_more, IsClose, IsSimplePart, IsKnown, AreFirstTwo, AreStates, DoesSimply, IsPlan, FollowsAll, PlansAll}
+use Rattle.lexscan_matching.specs.Plans.{closing, closing_more, IsClose, IsKnown, AreFirstTwo, AreStates, IsPlan, FollowsAll, PlansAll}
 use Rattle.lexscan_matching.proofs.Descending.{one_match, no_match}
 use Rattle.lexscan_matching.proofs.Picking.{first_before, first_after, first_same, falling_last}
 
@@ -60,7 +59,7 @@ trail_some false m k h e = absurd (no e)
     no : None ≡ Some k → ⊥
     no q = cc
 
-kept_some : (c : S.Cut) (n k : ℕ) → 1 ≤ n → kept_by c n ≡ Some k → 1 ≤ k
+pub kept_some : (c : S.Cut) (n k : ℕ) → 1 ≤ n → kept_by c n ≡ Some k → 1 ≤ k
 kept_some S.Whole n k some e = let f = some_inj n k e in omega (arith, f, some)
 kept_some (S.Head m) n k some e = head_some (nat_lt 0 m) (nat_le m n) m k (λ h. grind (arith, nat_tests)) e
 kept_some (S.Trail t) n k some e = trail_some (nat_lt t n) (n - t) k (λ h. grind (arith, nat_tests)) e

@@ -2,6 +2,7 @@ pub mod Looks
 pub mod Descends
 pub mod Picks
 pub mod Plans
+pub mod Begins
 pub mod Backs
 pub mod Fronts
 pub mod Glanced

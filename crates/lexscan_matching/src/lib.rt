@@ -8,6 +8,7 @@
 //!   short walk, and what it does.
 //! - `plan`: for `apart` of lexscan: what a match does whose rule has trailing context, does yymore beside simple
 //!   statements, or rejects the match after them.
+//! - `begun`: for `apart` too: a match whose rule sets a start condition and does yymore, as the machine tells it.
 //! - `back`: a match over many bytes that an earlier match has read ahead already; the walk stops where a mark says
 //!   where it leads.
 //! - `front`: the longest match at the front of a text, for callers that walk a machine themselves; no scan uses it.
@@ -35,6 +36,7 @@
 #![tactic(auto)]
 
 mod back;
+mod begun;
 mod descent;
 mod front;
 mod glanced;
@@ -44,6 +46,7 @@ mod pick;
 mod plan;
 
 pub use back::{Ahead, Settled, look};
+pub use begun::{BegunMatch, begun_match};
 pub use descent::descend;
 pub use front::{accepted, longest};
 pub use glanced::{GlancedMatch, do_gist, longest_match, names_rule, near_match, silent_part};

@@ -19,7 +19,7 @@ use lex_machine::{Machine, Statement, Way, are_simple};
 use lexscan_window::{Outlet, RunError};
 
 /// How many bytes a walk has at most whose match is planned: longer ones are left to turns by themselves.
-const FEW: usize = 32;
+pub(crate) const FEW: usize = 32;
 
 /// The statement that some end with, beside simple ones.
 #[derive(Clone, Copy)]
