@@ -265,6 +265,35 @@ pub(crate) fn enter(
     }
 }
 
+/// Adds the positions of a part that come next, as `enter` does. A part that nothing comes of is passed over with no
+/// call.
+#[inline(always)]
+#[cycle(enter)]
+fn enter_part(
+    part: &SizedPattern,
+    last: &[u32],
+    at: usize,
+    base: usize,
+    entered: bool,
+    next: &mut Vec<u32>,
+) -> Result<Passed, AllocError>
+    requires sized { IsSized (plan_of part.now) }
+    requires cursor { IsCursor last.now at base }
+    requires few { base + positions (tree_in (plan_of part.now)) < 2 ^ 32 }
+    requires front { IsFront next.old.items base }
+    ensures left { IfOk result (λ p. p.left ≡ exits (tree_in (plan_of part.now)) (contains last.now) base entered) }
+    ensures cursor { IfOk result (λ p. IsCursor last.now p.at (base + positions (tree_in (plan_of part.now)))) }
+    ensures front { IfOk result (λ _. IsFront next.new.items (base + positions (tree_in (plan_of part.now)))) }
+    ensures next { IfOk result (λ _. (q : ℕ)
+        → contains next.new.items q ≡ (contains next.old.items q || enters (tree_in (plan_of part.now))
+        (contains last.now) q base entered)) }
+{
+    if !entered && is_quiet(last, at, base + part.size() as usize) {
+        return Ok(Passed { left: false, at });
+    }
+    enter(part, last, at, base, entered, next)
+}
+
 /// Adds the positions of a series that come next: each part is entered where the one before it is left.
 #[cycle(enter)]
 fn enter_each(
@@ -292,7 +321,7 @@ fn enter_each(
     let mut passed = Passed { left: entered, at };
     let mut after = base;
     for part in parts {
-        passed = enter(part, last, passed.at, after, passed.left, next)?;
+        passed = enter_part(part, last, passed.at, after, passed.left, next)?;
         after += part.size() as usize;
     }
     Ok(passed)
@@ -326,7 +355,7 @@ fn enter_some(
     let mut cursor = at;
     let mut after = base;
     for part in parts {
-        let passed = enter(part, last, cursor, after, entered, next)?;
+        let passed = enter_part(part, last, cursor, after, entered, next)?;
         left = left || passed.left;
         cursor = passed.at;
         after += part.size() as usize;

@@ -29,6 +29,21 @@ enter-returns-then-is_quiet-clause-next t c = λ q.
     let none : enters tree (contains last) q c.args.base c.args.entered ≡ false = ap (enters tree (contains last) q c.args.base) c.if-not-entered.true ∙ quiet_next last c.args.at c.args.base c.requires.cursor tree quiet q in
     sym (ap (λ (j : Bool). contains c.args.next.now.items q || j) none ∙ or_false (contains c.args.next.now.items q))
 
+pub enter_part-returns-then-is_quiet-clause-left : goal.enter_part-returns-then-is_quiet-clause-left
+enter_part-returns-then-is_quiet-clause-left t c =
+    let tree = tree_in (plan_of c.args.part.now) in
+    let last = c.args.last.now in
+    let quiet = subst (λ (n : ℕ). (length last ≤ c.args.at) ⊎ (c.args.base + n ≤ slice_index last c.args.at)) c.size.ensures (c.is_quiet.ensures.yes c.if-is_quiet.true) in
+    sym (ap (exits tree (contains last) c.args.base) c.if-not-entered.true ∙ quiet_left last c.args.at c.args.base c.requires.cursor tree quiet)
+
+pub enter_part-returns-then-is_quiet-clause-next : goal.enter_part-returns-then-is_quiet-clause-next
+enter_part-returns-then-is_quiet-clause-next t c = λ q.
+    let tree = tree_in (plan_of c.args.part.now) in
+    let last = c.args.last.now in
+    let quiet = subst (λ (n : ℕ). (length last ≤ c.args.at) ⊎ (c.args.base + n ≤ slice_index last c.args.at)) c.size.ensures (c.is_quiet.ensures.yes c.if-is_quiet.true) in
+    let none : enters tree (contains last) q c.args.base c.args.entered ≡ false = ap (enters tree (contains last) q c.args.base) c.if-not-entered.true ∙ quiet_next last c.args.at c.args.base c.requires.cursor tree quiet q in
+    sym (ap (λ (j : Bool). contains c.args.next.now.items q || j) none ∙ or_false (contains c.args.next.now.items q))
+
 pub enter_copy-returns-then-is_quiet-clause-left : goal.enter_copy-returns-then-is_quiet-clause-left
 enter_copy-returns-then-is_quiet-clause-left t c =
     let tree = tree_in (plan_of c.args.inner.now) in
@@ -216,3 +231,6 @@ enter_some-returns-clause-next = grind (arith, common_steps)
 
 pub enter_some-size-requires : goal.enter_some-size-requires
 enter_some-size-requires = grind (arith, common_steps)
+
+pub enter_part-returns-then-is_quiet-clause-front : goal.enter_part-returns-then-is_quiet-clause-front
+enter_part-returns-then-is_quiet-clause-front = grind (arith, common_steps)
