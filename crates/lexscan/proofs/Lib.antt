@@ -8,6 +8,7 @@ pub mod Stepping
 pub mod Bursting
 pub mod Matching
 pub mod Planned
+pub mod Beginning
 pub mod Chaining
 pub mod Joining
 pub mod Passing

@@ -7,10 +7,11 @@ ghost use Rattle.lexscan.specs.Bursts.{BurstMade};
 use crate::texts::{TextBurst, ended, stopped};
 use lex_io::Sink;
 use lex_machine::Machine;
-use lexscan_matching::{do_plan, plan_of};
+use lexscan_matching::{begun_match, do_plan, plan_of};
 use lexscan_window::{Outlet, TextPlace};
 
-/// One turn over a text, where the walk of its match ends there and it is planned what that does. Otherwise none.
+/// One turn over a text, where the walk of its match ends there, and the machine tells that it sets a start condition and
+/// does yymore, or it is planned what it does. Otherwise none.
 #[inline(always)]
 pub fn turn_apart<M: Machine, K: Sink>(
     machine: &M,
@@ -32,10 +33,19 @@ pub fn turn_apart<M: Machine, K: Sink>(
     let Some(way) = machine.way(first, &text[at..]) else {
         return stopped(held, place, false);
     };
+    let asked = held.max(at + way.count);
+    if let Some(begun) = begun_match(machine, way) {
+        let end = at + begun.keep;
+        let next = TextPlace {
+            at: end,
+            line_start: text[end - 1] == b'\n',
+            condition: begun.condition,
+        };
+        return stopped(asked, next, false);
+    }
     let Some(plan) = plan_of(machine, way) else {
         return stopped(held, place, false);
     };
-    let asked = held.max(at + way.count);
     let end = at + plan.keep;
     let Ok(after) = do_plan(outlet, plan, text, at, place.condition) else {
         return stopped(asked, place, true);
