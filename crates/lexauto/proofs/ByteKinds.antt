@@ -92,13 +92,3 @@ module _ (reads : ℕ → ℕ → Bool) (kinds : List Kind) (places : List ℕ) 
               ∙ ap (λ (c : ℕ). reads c q) (sym (ap (first_at (kinds ++ new ∷ [])) last ∙ first_last kinds new ∙ first)))
         ];
       }
-
--- no bytes are of no kind
-pub no_kinds : (reads : ℕ → ℕ → Bool) → AreKinds reads [] []
-no_kinds reads = record {
-  low = λ b h. absurd (omega (arith, h));
-  each = λ b q h. absurd (omega (arith, h));
-  first = λ b h. absurd (omega (arith, h));
-  early = λ i h. absurd (omega (arith, h));
-  same = λ i q h. absurd (omega (arith, h));
-}

@@ -51,17 +51,6 @@ says_key kept k e = ap unpacked e ∙ says k
 pub kept_so : (kept : List ℕ) (k : Key) → kept ≡ packed k → kept ≡ packed (unpacked kept)
 kept_so kept k e = e ∙ ap packed (sym (says_key kept k e))
 
--- keys are the same where they are kept so
-pub kept_same : (k q : Key) → bytes_eq (packed k) (packed q) ≡ bytes_eq k q
-kept_same k q = elim (cases_Bool (bytes_eq k q)) [
-  | inl y ↦ (bytes_decides (packed k) (packed q)).1 (ap packed ((bytes_decides k q).0 y)) ∙ sym y
-  | inr n ↦ elim (cases_Bool (bytes_eq (packed k) (packed q))) [
-    | inl y ↦ absurd (let same : k ≡ q = sym (says k) ∙ ap unpacked ((bytes_decides (packed k) (packed q)).0 y) ∙ says q in
-        let t : bytes_eq k q ≡ true = (bytes_decides k q).1 same in let z : true ≡ false = sym t ∙ n in cc)
-    | inr m ↦ m ∙ sym n
-  ]
-]
-
 pub kept_of_push : (keys : List KeptKey) (k : KeptKey) → kept_in (keys ++ k ∷ []) ≡ kept_in keys ++ unpacked k.key.items ∷ []
 kept_of_push [] k = refl
 kept_of_push (x ∷ keys) k = ap (λ ks. unpacked x.key.items ∷ ks) (kept_of_push keys k)

@@ -179,15 +179,6 @@ none_passes f [] (suc i) h = refl
 none_passes f (x ∷ l) zero h = absurd (omega (arith, h))
 none_passes f (x ∷ l) (suc i) h = none_passes f l i (omega (arith, h))
 
--- a key that is kept as it is, of no positions and of some
-pub cut_plain : (plain l : List ℕ) → plain ≡ 1 ∷ 1 ∷ l → length plain ≡ 2 → take 1 plain ≡ 1 ∷ tagged 1 l
-cut_plain plain [] e two = ap (take 1) e
-cut_plain plain (x ∷ l) e two = absurd (omega (arith, ap (λ (ns : List ℕ). length ns) e, two))
-
-pub whole_plain : (plain l : List ℕ) → plain ≡ 1 ∷ 1 ∷ l → length plain ≢ 2 → plain ≡ 1 ∷ tagged 1 l
-whole_plain plain [] e other = absurd (other (ap (λ (ns : List ℕ). length ns) e))
-whole_plain plain (x ∷ l) e other = e
-
 last_among : (x : ℕ) (l : List ℕ) → Among (x ∷ l) (slice_index (x ∷ l) (length l))
 last_among x [] = inl refl
 last_among x (z ∷ l) = inr (last_among z l)
