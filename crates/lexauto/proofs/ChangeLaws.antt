@@ -1,6 +1,7 @@
 -- The bytes at which what a position reads changes.
 use Rattle.std.proofs.Common.{◌≡◌, ℕ, zero, suc, ◌++◌, ◌+◌, ◌⊎◌, inl, inr, refl, ◌<◌, Bool, true, false, ◌&&◌, ◌||◌, List, [], ◌∷◌, length, sym, ap, ◌∙◌, arith}
 use Rattle.std.specs.Prelude.{◌==◌, slice_index_or}
+use Rattle.std.proofs.Math.Bool.{xor}
 use Rattle.std.proofs.lemmas.Bool.{eqb-true, or_parts}
 use Rattle.lex_semantics.specs.ByteSets.{ByteSet, has, empty_set, union}
 use Rattle.lex_semantics.specs.Text.{flag}
@@ -15,6 +16,14 @@ has_nothing b lt = has-set_of (λ c. false) b lt
 pub in_neither : (s t : ByteSet) (b : ℕ) → b < 256 → has (union s t) b ≡ false → (has s b ≡ false) × (has t b ≡ false)
 unfolding union
 in_neither s t b lt e = or_parts (has s b) (has t b) (sym (has-set_of (λ c. has s c || has t c) b lt) ∙ e)
+
+-- no difference
+pub same_if_none : (x y : Bool) → xor x y ≡ false → x ≡ y
+unfolding xor
+same_if_none true true h = refl
+same_if_none true false h = h
+same_if_none false true h = sym h
+same_if_none false false h = refl
 
 and_same : (x y t : Bool) → (t ≡ true → x ≡ y) → (x && t) ≡ (y && t)
 and_same x y true h = ap (λ (z : Bool). z && true) (h (let e : true ≡ true = cc in e))

@@ -1,10 +1,11 @@
 -- Keys as they are kept say what they are.
-use Rattle.std.proofs.Common.{◌≡◌, ◌&&◌, ℕ, zero, suc, ◌<◌, ◌++◌, List, [], ◌∷◌, length, Bool, true, false, Vec, Global, refl, ap, sym, ◌∙◌, inl, inr, get_or, arith}
+use Rattle.std.proofs.Common.{◌≡◌, ◌&&◌, ℕ, zero, suc, ◌<◌, ◌++◌, List, [], ◌∷◌, length, Bool, true, false, refl, ap, sym, ◌∙◌, inl, inr, get_or, arith}
 use Rattle.std.specs.Prelude.{nat_lt, slice_index_or}
 use Rattle.std.specs.Cmp.Lexicographic.{bytes_decides}
 use Rattle.std.specs.Str.{bytes_eq}
 use Rattle.std.proofs.lemmas.Bool.{cases_Bool, cond-true, cond-false}
 use Rattle.lexauto.specs.Keys.{Key}
+use Rattle.lexauto.specs.declared.interner.KeptKey.{KeptKey}
 use Rattle.lexauto.specs.KeyPacking.{unpacked, word_count, bits_of, packed, kept_in}
 
 both : (a b : Bool) → a ≡ true → b ≡ true → (a && b) ≡ true
@@ -50,26 +51,15 @@ says_key kept k e = ap unpacked e ∙ says k
 pub kept_so : (kept : List ℕ) (k : Key) → kept ≡ packed k → kept ≡ packed (unpacked kept)
 kept_so kept k e = e ∙ ap packed (sym (says_key kept k e))
 
--- keys are the same where they are kept so
-pub kept_same : (k q : Key) → bytes_eq (packed k) (packed q) ≡ bytes_eq k q
-kept_same k q = elim (cases_Bool (bytes_eq k q)) [
-  | inl y ↦ (bytes_decides (packed k) (packed q)).1 (ap packed ((bytes_decides k q).0 y)) ∙ sym y
-  | inr n ↦ elim (cases_Bool (bytes_eq (packed k) (packed q))) [
-    | inl y ↦ absurd (let same : k ≡ q = sym (says k) ∙ ap unpacked ((bytes_decides (packed k) (packed q)).0 y) ∙ says q in
-        let t : bytes_eq k q ≡ true = (bytes_decides k q).1 same in let z : true ≡ false = sym t ∙ n in cc)
-    | inr m ↦ m ∙ sym n
-  ]
-]
+pub kept_of_push : (keys : List KeptKey) (k : KeptKey) → kept_in (keys ++ k ∷ []) ≡ kept_in keys ++ unpacked k.key.items ∷ []
+kept_of_push [] k = refl
+kept_of_push (x ∷ keys) k = ap (λ ks. unpacked x.key.items ∷ ks) (kept_of_push keys k)
 
-pub kept_of_push : (vs : List (Vec ℕ Global)) (v : Vec ℕ Global) → kept_in (vs ++ v ∷ []) ≡ kept_in vs ++ unpacked v.items ∷ []
-kept_of_push [] v = refl
-kept_of_push (x ∷ vs) v = ap (λ ks. unpacked x.items ∷ ks) (kept_of_push vs v)
-
-pub kept_length : (vs : List (Vec ℕ Global)) → length (kept_in vs) ≡ length vs
+pub kept_length : (keys : List KeptKey) → length (kept_in keys) ≡ length keys
 kept_length [] = refl
-kept_length (x ∷ vs) = ap suc (kept_length vs)
+kept_length (x ∷ keys) = ap suc (kept_length keys)
 
-pub kept_at : (vs : List (Vec ℕ Global)) (i : ℕ) (v : Vec ℕ Global) → i < length vs → v ≡ get_or vs i v → slice_index_or (kept_in vs) i [] ≡ unpacked v.items
-kept_at [] i v h e = absurd (omega arith)
-kept_at (x ∷ vs) zero v h e = ap (λ (u : Vec ℕ Global). unpacked u.items) (sym e)
-kept_at (x ∷ vs) (suc i) v h e = kept_at vs i v (omega arith) e
+pub kept_at : (keys : List KeptKey) (i : ℕ) (k : KeptKey) → i < length keys → k ≡ get_or keys i k → slice_index_or (kept_in keys) i [] ≡ unpacked k.key.items
+kept_at [] i k h e = absurd (omega arith)
+kept_at (x ∷ keys) zero k h e = ap (λ (u : KeptKey). unpacked u.key.items) (sym e)
+kept_at (x ∷ keys) (suc i) k h e = kept_at keys i k (omega arith) e

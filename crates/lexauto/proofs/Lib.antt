@@ -1,5 +1,6 @@
 pub mod Places
 pub mod Kept
+pub mod Interning
 pub mod KeyBits
 pub mod Works
 pub mod KeyLaws
@@ -14,3 +15,4 @@ pub mod Built
 pub mod ChangeLaws
 pub mod PositionBits
 pub mod Alphabets
+pub mod ByteKinds

@@ -173,6 +173,12 @@ next_passes f l i h t = next_of f l i h ∙ ap (λ b. cond b (slice_index l i �
 pub next_fails : (f : ℕ → Bool) (l : List ℕ) (i : ℕ) → i < length l → f (slice_index l i) ≡ false → filter f (drop i l) ≡ filter f (drop (i + 1) l)
 next_fails f l i h t = next_of f l i h ∙ ap (λ b. cond b (slice_index l i ∷ filter f (drop (i + 1) l)) (filter f (drop (i + 1) l))) t
 
+pub none_passes : (f : ℕ → Bool) (l : List ℕ) (i : ℕ) → length l ≤ i → filter f (drop i l) ≡ []
+none_passes f [] zero h = refl
+none_passes f [] (suc i) h = refl
+none_passes f (x ∷ l) zero h = absurd (omega (arith, h))
+none_passes f (x ∷ l) (suc i) h = none_passes f l i (omega (arith, h))
+
 last_among : (x : ℕ) (l : List ℕ) → Among (x ∷ l) (slice_index (x ∷ l) (length l))
 last_among x [] = inl refl
 last_among x (z ∷ l) = inr (last_among z l)

@@ -1,6 +1,6 @@
 -- What the code of a step holds, against what a step is.
-use Rattle.std.specs.Prelude.{◌≡◌, ℕ, zero, suc, ◌<◌, ◌≤◌, ◌^◌, ◌&&◌, nat_le, Bool, true, false, List, [], ◌∷◌, cond, length, map, slice_get, slice_index, Some, Vec}
-use Rattle.std.proofs.Common.{refl, ap, sym, ◌∙◌, arith, Global, get_or, replicate}
+use Rattle.std.specs.Prelude.{◌≡◌, ℕ, zero, suc, ◌<◌, ◌≤◌, ◌^◌, ◌&&◌, nat_le, Bool, true, false, List, [], ◌∷◌, cond, length, slice_get, slice_index, Some}
+use Rattle.std.proofs.Common.{refl, ap, sym, ◌∙◌, arith, replicate}
 use Rattle.std.proofs.lemmas.Bool.{leb-true}
 use Rattle.std.proofs.Math.Path.{fun_ext}
 use Rattle.std.proofs.Math.Bool.{beq}
@@ -15,12 +15,11 @@ use Rattle.lexspec.specs.Tests.{is_sound, sound_conditions, sound_rules}
 use Rattle.lexauto_positions.proofs.FlowMeaning.{and_is}
 use Rattle.lexspec.proofs.TestLaws.{spec_is_sound}
 use Rattle.lexauto.specs.Keys.{Key}
-use Rattle.lexauto_positions.proofs.Mapped.{length_map}
 use Rattle.lex_semantics.specs.Text.{Ascending, flag, listed}
 use Rattle.lexauto_positions.proofs.Numbers.{listed_ascends}
 use Rattle.lexauto_positions.specs.RuleFlow.{rules_enter, rules_read}
 use Rattle.lexauto.specs.Sets.{marked, marked_by, tagged, starts_in, lasts_in}
-use Rattle.lexauto.specs.Moving.{masks_in, mask_at, followers_in, reading_in}
+use Rattle.lexauto.specs.Moving.{followers_in, reading_in}
 
 rules_sound : (rules : List Rule) (n : ℕ) → ((i : ℕ) (r : Rule) → slice_get rules i ≡ Some r → IsSoundRule n r) → HaveSoundSides rules
 rules_sound [] n h = tt
@@ -28,19 +27,6 @@ rules_sound (r ∷ rules) n h = (((h 0 r refl).head, (h 0 r refl).trail), rules_
 
 pub tested_rules : (S : Spec) → is_sound S ≡ true → HaveSoundSides S.rules
 tested_rules S h = let s = spec_is_sound S h in rules_sound S.rules (length S.conditions) s.rules
-
-pub mask_from : (vs : List (Vec Bool Global)) (i : ℕ) (v : Vec Bool Global) → i < length vs → v ≡ get_or vs i v → mask_at (map (λ v. v.items) vs) i ≡ v.items
-mask_from [] i v h e = absurd (omega arith)
-mask_from (x ∷ vs) zero v h e = ap (λ (u : Vec Bool Global). u.items) (sym e)
-mask_from (x ∷ vs) (suc i) v h e = mask_from vs i v (omega arith) e
-
--- the mask of a byte that stands in a list of them
-pub mask_tells : (vs : List (Vec Bool Global)) (places : List ℕ) (rules : List Rule) → length (masks_in vs) ≡ 256
-    → ((b q : ℕ) → b < 256 → marked_by places (mask_at (masks_in vs) b) q ≡ rules_read rules b q 0)
-    → (b : ℕ) → b < 256 → (v : Vec Bool Global) → v ≡ get_or vs b v → (q : ℕ) → marked_by places v.items q ≡ rules_read rules b q 0
-mask_tells vs places rules all each b small v here q =
-    let low : b < length vs = omega (arith, length_map (λ (m : Vec Bool Global). m.items) vs, all, small) in
-    ap (λ (m : List Bool). marked_by places m q) (sym (mask_from vs b v low here)) ∙ each b q small
 
 pub reading_is : (rules : List Rule) (followers : List ℕ) (b : ℕ) (reads : ℕ → Bool) → ((q : ℕ) → reads q ≡ rules_read rules b q 0) → tagged 1 (filter reads followers) ≡ reading_in rules followers b
 unfolding reading_in

@@ -1,10 +1,12 @@
 -- Keys as they are kept: as they are, or the bits of the last positions, 32 in a number. The first number says which.
 -- (This project's.)
-use Rattle.std.specs.Prelude.{ℕ, zero, suc, ◌+◌, ◌-◌, ◌*◌, ◌/◌, ◌%◌, ◌^◌, ◌==◌, ◌&&◌, Bool, cond, List, [], ◌∷◌, length, map, min, nat_lt, bit_or, slice_index, slice_set, Option, Vec}
-use Rattle.std.proofs.Common.{Global, replicate}
+use Rattle.std.specs.Prelude.{ℕ, zero, suc, ◌+◌, ◌-◌, ◌*◌, ◌/◌, ◌%◌, ◌^◌, ◌==◌, ◌&&◌, Bool, cond, List, [], ◌∷◌, length, map, min, nat_lt, bit_or, slice_index, slice_index_or, slice_set, Option}
+use Rattle.std.proofs.Common.{replicate}
 use Rattle.std.specs.Str.{bytes_eq}
-use Rattle.std.specs.BTreeMap.{BTreeMap}
-use Rattle.lexauto.specs.Keys.{Key, look}
+use Rattle.lexauto.specs.Keys.{Key}
+use Rattle.lexauto.specs.Interned.{found, no_key, row_of}
+use Rattle.lexauto.specs.declared.interner.Interner.{Interner}
+use Rattle.lexauto.specs.declared.interner.KeptKey.{KeptKey}
 use Rattle.lexauto.specs.Sets.{lasts_in}
 use Rattle.lex_semantics.specs.Text.{listed}
 
@@ -44,9 +46,9 @@ bits_of k = 0 ∷ with_bits (replicate (word_count k) 0) (lasts_in k)
 unfoldable pub packed : Key → List ℕ
 packed k = cond (nat_lt (word_count k) (length k) && bytes_eq (unpacked (bits_of k)) k) (bits_of k) (1 ∷ k)
 
-abbrev pub kept_in : List (Vec ℕ Global) → List Key
-kept_in vs = map (λ v. unpacked v.items) vs
+abbrev pub kept_in : List KeptKey → List Key
+kept_in keys = map (λ k. unpacked k.key.items) keys
 
--- what the map has at a key
-abbrev pub look_kept : BTreeMap (Vec ℕ Global) ℕ → Key → Option ℕ
-look_kept m k = look m (packed k)
+-- where the table finds a key
+abbrev pub look_kept : Interner → Key → Option ℕ
+look_kept t k = found t.keys.items (slice_index_or t.lasts.items (row_of (packed k)) no_key) (packed k)

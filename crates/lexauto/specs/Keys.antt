@@ -1,9 +1,6 @@
 -- Keys in order of their first finding.
 use Rattle.std.specs.Prelude.{◌≡◌, ◌≢◌, ℕ, ◌⊎◌, List, [], ◌∷◌, ◌++◌, map, Option, Some, slice_get, Vec}
 use Rattle.std.proofs.Common.{Global}
-use Rattle.std.specs.BTreeMap.{BTreeMap, get_by}
-use Rattle.std.specs.Cmp.Lexicographic.{slice_cmp}
-use Rattle.std.specs.Ordering.{nat_cmp}
 use Rattle.std.specs.declared.rc.Rc.{Rc}
 
 abbrev pub Key : Type 0
@@ -26,10 +23,6 @@ Found old k new = ((i : ℕ) × At old i k × (new ≡ old)) ⊎ (Absent old k �
 
 abbrev pub keys_in : List (Rc (Vec ℕ Global) Global) → List Key
 keys_in vs = map (λ v. v.value.items) vs
-
--- what the map has at a list
-abbrev pub look : BTreeMap (Vec ℕ Global) ℕ → Key → Option ℕ
-look m k = get_by (λ v. slice_cmp nat_cmp k v.items) m
 
 -- the look-up finds just the places
 pub record Finds (find : Key → Option ℕ) (keys : List Key) : Type 0 where

@@ -6,6 +6,7 @@ pub use Rattle.lexauto_positions.specs.RuleFlow
 pub mod Keys
 pub mod Explored
 pub mod Sets
+pub mod Interned
 pub mod KeyPacking
 pub mod Moving
 pub mod WordKeys

@@ -9,11 +9,11 @@ ghost use Rattle.lexauto.specs.Explored.{Changes, GoOn, IsExplored, MoreThan, Re
 ghost use Rattle.lexauto.specs.Keys.{At, Absent, Found, Finds, keys_in};
 ghost use Rattle.lexauto.specs.KeyPacking.{look_kept, kept_in, packed, unpacked};
 
-use crate::key_packing::{is_bits, pack_key, unpack_key};
+use crate::interner::{Interner, KeptKey, row_of};
+use crate::key_packing::{is_bits, pack_key, plain_key, unpack_key};
 use lexauto_positions::Walked;
 use lexre_bytes::ByteSet;
 use std::alloc::{AllocError, AllocFailed, Global};
-use std::collections::BTreeMap;
 use std::rc::Rc;
 
 /// The targets that there is room for at once: the rows of 256 states. So few rows are copied to a larger room.
@@ -44,13 +44,6 @@ impl<T: Drop> From<AllocFailed<T>> for ExploreError {
     }
 }
 
-/// Keys as they are kept, each once, in order of their first finding.
-#[derive(Drop)]
-pub(crate) struct Interner {
-    pub keys: Vec<Vec<u32>>,
-    pub places: BTreeMap<Vec<u32>, u32>,
-}
-
 /// The place of a key, which is added if it is new and there is room.
 pub(crate) fn intern(
     alloc: Global,
@@ -58,8 +51,8 @@ pub(crate) fn intern(
     key: Vec<u32>,
     limit: u32,
 ) -> Result<u32, ExploreError>
-    requires { Finds (look_kept table.old.places) (kept_in table.old.keys.items) }
-    ensures finds { OnOk result (Finds (look_kept table.new.places) (kept_in table.new.keys.items)) }
+    requires { Finds (look_kept table.old) (kept_in table.old.keys.items) }
+    ensures finds { OnOk result (Finds (look_kept table.new) (kept_in table.new.keys.items)) }
     ensures place { IfOk result (λ i. At (kept_in table.new.keys.items) i key.items) }
     ensures found { OnOk result (Found (kept_in table.old.keys.items) key.items (kept_in table.new.keys.items)) }
     ensures room { OnOk result (length table.old.keys.items ≤ limit → length table.new.keys.items ≤ limit) }
@@ -67,19 +60,14 @@ pub(crate) fn intern(
         × (limit ≤ length table.old.keys.items) }
 {
     let kept = pack_key(alloc, &key)?;
-    intern_kept(alloc, table, kept, limit)
+    intern_kept(table, kept, limit)
 }
 
 /// The place of a key that is kept so, which is added if it is new and there is room.
-fn intern_kept(
-    alloc: Global,
-    table: &mut Interner,
-    kept: Vec<u32>,
-    limit: u32,
-) -> Result<u32, ExploreError>
-    requires finds { Finds (look_kept table.old.places) (kept_in table.old.keys.items) }
+fn intern_kept(table: &mut Interner, kept: Vec<u32>, limit: u32) -> Result<u32, ExploreError>
+    requires finds { Finds (look_kept table.old) (kept_in table.old.keys.items) }
     requires kept { kept.items ≡ packed (unpacked kept.items) }
-    ensures finds { OnOk result (Finds (look_kept table.new.places) (kept_in table.new.keys.items)) }
+    ensures finds { OnOk result (Finds (look_kept table.new) (kept_in table.new.keys.items)) }
     ensures place { IfOk result (λ i. At (kept_in table.new.keys.items) i (unpacked kept.items)) }
     ensures found { OnOk result (Found (kept_in table.old.keys.items) (unpacked kept.items)
         (kept_in table.new.keys.items)) }
@@ -87,16 +75,15 @@ fn intern_kept(
     ensures full { IsErrOf result ExploreError.TooMany → Absent (kept_in table.old.keys.items) (unpacked kept.items)
         × (limit ≤ length table.old.keys.items) }
 {
-    if let Some(place) = table.places.get(&kept) {
-        return Ok(*place);
+    let row = row_of(&kept);
+    if let Some(place) = table.find(row, &kept) {
+        return Ok(place);
     }
     let place = table.keys.len();
     if place >= limit as usize {
         return Err(ExploreError::TooMany);
     }
-    let copy = Vec::from_slice(alloc, &kept)?;
-    table.places.insert(copy, place as u32)?;
-    table.keys.push(kept)?;
+    table.add(row, kept)?;
     Ok(place as u32)
 }
 
@@ -152,9 +139,9 @@ fn read_target<M: Moves>(
     byte: u8,
     limit: u32,
 ) -> Result<u32, ExploreError>
-    requires finds { Finds (look_kept table.old.places) (kept_in table.old.keys.items) }
+    requires finds { Finds (look_kept table.old) (kept_in table.old.keys.items) }
     requires ascending { Ascending followers.now }
-    ensures finds { OnOk result (Finds (look_kept table.new.places) (kept_in table.new.keys.items)) }
+    ensures finds { OnOk result (Finds (look_kept table.new) (kept_in table.new.keys.items)) }
     ensures place { IfOk result (λ i. At (kept_in table.new.keys.items) i (M.read moves.now followers.now byte)) }
     ensures found { OnOk result (Found (kept_in table.old.keys.items) (M.read moves.now followers.now byte)
         (kept_in table.new.keys.items)) }
@@ -164,21 +151,15 @@ fn read_target<M: Moves>(
         × (limit ≤ length table.old.keys.items) }
 {
     let kept = moves.reading(alloc, followers, byte)?;
-    intern_kept(alloc, table, kept, limit)
+    intern_kept(table, kept, limit)
 }
 
 /// Whether the key at this place is the one that a byte makes of what follows. It may be told not though it is.
-fn is_target<M: Moves>(
-    moves: &M,
-    keys: &[Vec<u32>],
-    followers: &[u32],
-    byte: u8,
-    place: u32,
-) -> bool
+fn is_target<M: Moves>(moves: &M, keys: &[KeptKey], followers: &[u32], byte: u8, place: u32) -> bool
     ensures { result ≡ true → At (kept_in keys.now) place (M.read moves.now followers.now byte) }
 {
     match keys.get(place as usize) {
-        Some(kept) => moves.is_reading(kept, followers, byte),
+        Some(here) => moves.is_reading(&here.key, followers, byte),
         None => false,
     }
 }
@@ -195,12 +176,12 @@ fn target<M: Moves>(
     byte: u8,
     limit: u32,
 ) -> Result<u32, ExploreError>
-    requires finds { Finds (look_kept table.old.places) (kept_in table.old.keys.items) }
+    requires finds { Finds (look_kept table.old) (kept_in table.old.keys.items) }
     requires ascending { Ascending followers.now }
     requires len { length row.now ≡ byte }
     requires row { (b : ℕ) → b < byte
         → At (kept_in table.old.keys.items) (slice_index row.now b) (M.read moves.now followers.now b) }
-    ensures finds { OnOk result (Finds (look_kept table.new.places) (kept_in table.new.keys.items)) }
+    ensures finds { OnOk result (Finds (look_kept table.new) (kept_in table.new.keys.items)) }
     ensures place { IfOk result (λ i. At (kept_in table.new.keys.items) i (M.read moves.now followers.now byte)) }
     ensures found { OnOk result (Found (kept_in table.old.keys.items) (M.read moves.now followers.now byte)
         (kept_in table.new.keys.items)) }
@@ -243,6 +224,19 @@ fn kept_list(
     Ok(Rc::new(alloc, list)?)
 }
 
+/// What a key tells that is kept so.
+fn walk_kept<M: Moves>(alloc: Global, moves: &M, kept: &[u32]) -> Result<Walked, AllocError>
+    ensures followers { IfOk result (λ w. w.followers.items ≡ M.follow moves.now (unpacked kept.now)) }
+    ensures ascending { IfOk result (λ w. Ascending w.followers.items) }
+    ensures accepted { IfOk result (λ w. w.accepted.items ≡ M.accept moves.now (unpacked kept.now)) }
+{
+    if let Some(key) = plain_key(kept) {
+        return moves.walk(alloc, key, false);
+    }
+    let key = unpack_key(alloc, kept)?;
+    moves.walk(alloc, &key, is_bits(kept))
+}
+
 /// What keys tell, in their order: the rules that each accepts, and whether something follows it.
 #[derive(Drop)]
 struct Told {
@@ -266,8 +260,7 @@ impl Told {
         ensures goes_on { OnOk result (self.new.goes_on.items
             ≡ self.old.goes_on.items ++ goes_by (M.follow moves.now) (unpacked kept.now) ∷ []) }
     {
-        let key = unpack_key(alloc, kept)?;
-        let walked = moves.walk(alloc, &key, is_bits(kept))?;
+        let walked = walk_kept(alloc, moves, kept)?;
         let accepted = kept_list(alloc, &self.accepts, walked.accepted)?;
         self.accepts.push(accepted)?;
         self.goes_on.push(!walked.followers.is_empty())?;
@@ -282,7 +275,7 @@ impl Told {
 /// follows it.
 #[derive(Drop)]
 pub(crate) struct Explored {
-    pub keys: Vec<Vec<u32>>,
+    pub keys: Vec<KeptKey>,
     pub next: Vec<u32>,
     pub accepts: Vec<Rc<Vec<u32>>>,
     pub goes_on: Vec<bool>,
@@ -296,7 +289,7 @@ pub(crate) fn explore<M: Moves>(
     roots: Interner,
     limit: u32,
 ) -> Result<Explored, ExploreError>
-    requires finds { Finds (look_kept roots.places) (kept_in roots.keys.items) }
+    requires finds { Finds (look_kept roots) (kept_in roots.keys.items) }
     requires room { length roots.keys.items ≤ limit }
     ensures ok { IfOk result (λ t. IsExplored (step_by (M.follow moves.now) (M.read moves.now))
         (kept_in roots.keys.items) (kept_in t.keys.items) t.next.items) }
@@ -321,7 +314,7 @@ pub(crate) fn explore<M: Moves>(
         let at = next.len() / 256;
         let byte = (next.len() % 256) as u8;
         if byte == 0 {
-            following = told.add(alloc, moves, &table.keys[at])?;
+            following = told.add(alloc, moves, &table.keys[at].key)?;
         }
         let row = &next[at * 256..];
         let guess = target_above(&next);

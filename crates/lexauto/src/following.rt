@@ -1,12 +1,13 @@
 //! What follows the key of a state, and the rules that it accepts.
-ghost use Rattle.std.specs.Prelude.{◌≡◌, [], true, IfOk};
+ghost use Rattle.std.specs.Prelude.{◌≡◌, ℕ, [], true, IfOk};
+ghost use Rattle.lex_semantics.specs.Active.{contains};
 ghost use Rattle.lexspec.specs.Views.{spec_of, rules_in};
 ghost use Rattle.lexauto_positions.specs.Cursors.{Increases};
 ghost use Rattle.lexauto.specs.Moving.{followers_in};
-ghost use Rattle.lexauto.specs.Sets.{starts_in, lasts_in};
+ghost use Rattle.lexauto.specs.Sets.{marked, starts_in, lasts_in};
 ghost use Rattle.lexauto.specs.Facts.{accepted_by};
 
-use crate::sets::{in_order, lasts_in, marks_of, starts_in};
+use crate::sets::{in_order, is_in_order, lasts_in, marks_of, starts_in};
 use crate::stepping::RuleMoves;
 use lexauto_positions::{Walked, enter_rules, pass_rules};
 use std::alloc::{AllocError, Global};
@@ -26,6 +27,21 @@ fn walk_starts(alloc: Global, moves: &RuleMoves, key: &[u32]) -> Result<Walked, 
     })
 }
 
+/// What the last positions of a state's key tell, which ascend. The rules that are accepted are those that are left at
+/// their ends, or the first of them if no rule has REJECT.
+fn pass(alloc: Global, moves: &RuleMoves, key: &[u32], last: &[u32]) -> Result<Walked, AllocError>
+    requires starts { starts_in key.now ≡ [] }
+    requires increases { Increases last.now }
+    requires same { (i : ℕ) → contains last.now i ≡ marked moves.now.count (lasts_in key.now) i }
+    ensures followers { IfOk result (λ w. w.followers.items
+        ≡ followers_in (rules_in (spec_of moves.now.spec.now)) moves.now.count key.now) }
+    ensures accepted { IfOk result (λ w. w.accepted.items ≡ accepted_by (spec_of moves.now.spec.now) key.now) }
+{
+    let mut walked = pass_rules(alloc, &moves.rules, &moves.owners, last)?;
+    walked.choose(moves.accepts_all);
+    Ok(walked)
+}
+
 /// What another state's key tells. The rules that are accepted are those that are left at their ends, or the first of
 /// them if no rule has REJECT.
 fn walk_lasts(
@@ -40,10 +56,12 @@ fn walk_lasts(
         ≡ followers_in (rules_in (spec_of moves.now.spec.now)) moves.now.count key.now) }
     ensures accepted { IfOk result (λ w. w.accepted.items ≡ accepted_by (spec_of moves.now.spec.now) key.now) }
 {
-    let last = in_order(alloc, moves.count, lasts_in(key), ascends)?;
-    let mut walked = pass_rules(alloc, &moves.rules, &moves.owners, &last)?;
-    walked.choose(moves.accepts_all);
-    Ok(walked)
+    let lasts = lasts_in(key);
+    if is_in_order(moves.count, lasts, ascends) {
+        return pass(alloc, moves, key, lasts);
+    }
+    let last = in_order(alloc, moves.count, lasts)?;
+    pass(alloc, moves, key, &last)
 }
 
 /// What a key tells. It may be told that the last positions in the key ascend.

@@ -1,6 +1,6 @@
 //! Keys as they are kept: a key of many positions as bits.
 ghost use Rattle.std.specs.Prelude.{◌≡◌, ℕ, ◌<◌, ◌*◌, ◌/◌, ◌%◌, ◌^◌, ◌∷◌, ◌++◌, true, length, bit_or, slice_index};
-ghost use Rattle.std.specs.Prelude.{IfOk, OnOk};
+ghost use Rattle.std.specs.Prelude.{IfOk, OnOk, IfSome, List};
 ghost use Rattle.std.proofs.Common.{replicate};
 ghost use Rattle.std.specs.List.{filter};
 ghost use Rattle.lexauto_positions.specs.Cursors.{Increases};
@@ -9,7 +9,7 @@ ghost use Rattle.lex_semantics.specs.Text.{Ascending, listed};
 ghost use Rattle.lexauto.specs.KeyPacking.{bit_at, word_bits, with_bit, with_bits, bit_count, unpacked, word_count};
 ghost use Rattle.lexauto.specs.KeyPacking.{packed};
 
-use crate::sets::{KeyKind, is_last_key, is_marked_by, last_key, lasts_in};
+use crate::sets::{KeyKind, is_last_key, is_marked_by, lasts_in};
 use std::alloc::{AllocError, Global};
 
 /// What stands before the bits of positions.
@@ -17,6 +17,9 @@ const BITS: u32 = 0;
 
 /// What stands before a key that is kept as it is.
 const PLAIN: u32 = 1;
+
+/// How many numbers there is room for at first in a key that is kept as it is.
+const SHORT: usize = 6;
 
 /// The most words of bits that are read: those of 16,384 positions.
 const MOST_WORDS: usize = 512;
@@ -39,17 +42,35 @@ fn add_word(words: &[u32], at: usize, key: &mut Vec<u32>) -> Result<(), AllocErr
     Ok(())
 }
 
+/// Adds the positions whose bits are set.
+fn add_words(words: &[u32], key: &mut Vec<u32>) -> Result<(), AllocError>
+    ensures { OnOk result (key.new.items ≡ key.old.items ++ listed (bit_at words.now) 0 (bit_count words.now)) }
+{
+    for at in 0..words.len().min(MOST_WORDS) {
+        add_word(words, at, key)?;
+    }
+    Ok(())
+}
+
 /// The key of the positions whose bits are set.
 fn key_of_bits(alloc: Global, words: &[u32]) -> Result<Vec<u32>, AllocError>
     ensures { IfOk result (λ v. v.items ≡ 1 ∷ listed (bit_at words.now) 0 (bit_count words.now)) }
 {
-    let count = words.len().min(MOST_WORDS);
-    let mut key = Vec::with_capacity(alloc, count * 32 + 1)?;
+    let mut key = Vec::with_capacity(alloc, words.len().min(MOST_WORDS) * 32 + 1)?;
     key.push(KeyKind::LastPositions.number())?;
-    for at in 0..count {
-        add_word(words, at, &mut key)?;
-    }
+    add_words(words, &mut key)?;
     Ok(key)
+}
+
+/// The key of the positions whose bits are set, as it is kept where it is not kept as bits, with room for so many.
+fn plain_of_bits(alloc: Global, room: usize, words: &[u32]) -> Result<Vec<u32>, AllocError>
+    ensures { IfOk result (λ v. v.items ≡ 1 ∷ 1 ∷ listed (bit_at words.now) 0 (bit_count words.now)) }
+{
+    let mut plain = Vec::with_capacity(alloc, room.saturating_add(2))?;
+    plain.push(PLAIN)?;
+    plain.push(KeyKind::LastPositions.number())?;
+    add_words(words, &mut plain)?;
+    Ok(plain)
 }
 
 /// This many words, with the bits of these positions.
@@ -80,7 +101,7 @@ fn word_count(key: &[u32]) -> usize
 fn behind(alloc: Global, first: u32, numbers: &[u32]) -> Result<Vec<u32>, AllocError>
     ensures { IfOk result (λ v. v.items ≡ first ∷ numbers.now) }
 {
-    let mut all = Vec::new(alloc);
+    let mut all = Vec::with_capacity(alloc, numbers.len() + 1)?;
     all.push(first)?;
     all.extend_from_slice(numbers)?;
     Ok(all)
@@ -94,6 +115,16 @@ pub(crate) fn unpack_key(alloc: Global, kept: &[u32]) -> Result<Vec<u32>, AllocE
         Some((form, words)) if *form == BITS => key_of_bits(alloc, words),
         Some((_, key)) => Vec::from_slice(alloc, key),
         None => Ok(Vec::new(alloc)),
+    }
+}
+
+/// The key that is kept as it is.
+pub(crate) fn plain_key(kept: &[u32]) -> Option<&[u32]>
+    ensures { IfSome result (λ k. k.now ≡ unpacked kept.now) }
+{
+    match kept.split_first() {
+        Some((form, key)) if *form == PLAIN => Some(key),
+        _ => None,
     }
 }
 
@@ -172,6 +203,39 @@ fn marked_in(
     })
 }
 
+/// The key of those positions of the list that are marked, as it is kept where it is not kept as bits.
+fn plain_marked(
+    alloc: Global,
+    positions: &[u32],
+    places: &[usize],
+    marks: &[bool],
+) -> Result<Vec<u32>, AllocError>
+    ensures { IfOk result (λ v. v.items ≡ 1 ∷ tagged 1 (filter (marked_by places.now marks.now) positions.now)) }
+{
+    let mut plain = Vec::with_capacity(alloc, SHORT)?;
+    plain.push(PLAIN)?;
+    plain.push(KeyKind::LastPositions.number())?;
+    for position in positions {
+        if is_marked_by(places, marks, *position as usize) {
+            plain.push(*position)?;
+        }
+    }
+    if plain.len() == 2 {
+        plain.truncate(1);
+    }
+    Ok(plain)
+}
+
+/// How a key is kept that stands behind the first of these numbers, which are those of one that is kept as it is.
+fn packed_again(alloc: Global, plain: Vec<u32>) -> Result<Vec<u32>, AllocError>
+    ensures { (k : List ℕ) → plain.items ≡ 1 ∷ k → IfOk result (λ v. v.items ≡ packed k) }
+{
+    if plain.len() > 1 && word_count(&plain[1..]) < plain.len() - 1 {
+        return pack_key(alloc, &plain[1..]);
+    }
+    Ok(plain)
+}
+
 /// How the key of those last positions of the list that are marked is kept. Where many of the positions up to the last
 /// one are listed, their bits are set at once.
 pub(crate) fn pack_marked(
@@ -184,9 +248,12 @@ pub(crate) fn pack_marked(
     ensures { IfOk result (λ v. v.items ≡ packed (tagged 1 (filter (marked_by places.now marks.now) positions.now))) }
 {
     let count = word_count(positions);
-    if marks.is_empty() || count > positions.len() / 4 || count > MOST_WORDS {
-        let key = last_key(alloc, positions, places, marks)?;
-        return pack_key(alloc, &key);
+    if marks.is_empty() {
+        return behind(alloc, PLAIN, &[]);
+    }
+    if count > positions.len() / 4 || count > MOST_WORDS {
+        let plain = plain_marked(alloc, positions, places, marks)?;
+        return packed_again(alloc, plain);
     }
     let marked = marked_in(alloc, count, positions, places, marks)?;
     if marked.number == 0 {
@@ -196,8 +263,7 @@ pub(crate) fn pack_marked(
     if used <= marked.number {
         return behind(alloc, BITS, &marked.words[..used]);
     }
-    let key = key_of_bits(alloc, &marked.words)?;
-    behind(alloc, PLAIN, &key)
+    plain_of_bits(alloc, marked.number, &marked.words)
 }
 
 /// Whether a key is kept as it is, and is that of those last positions of the list that are marked.

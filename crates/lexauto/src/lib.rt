@@ -7,8 +7,10 @@
 //! - `key_packing`: keys as they are kept, those of many positions as bits.
 //! - `alphabet`: the letters that positions read, each but a few times.
 //! - `changing`: the bytes at which what a letter reads changes.
+//! - `kinds`: the bytes that the same letters have.
 //! - `stepping`: how the keys of a specification lead to one another.
 //! - `following`: what follows a key, and the rules that it accepts.
+//! - `interner`: keys as they are kept, each once, and where they are found again.
 //! - `explore`: a work list over keys, for whatever leads from one to another.
 //! - `starts`: the active rules of each condition.
 //! - `subsets`: `build`.
@@ -25,6 +27,8 @@
 //!   state, and a start with none is the dead state.
 //! - A key of many positions is kept as bits, where they take fewer numbers and read back as the key. The reading back
 //!   is a test at run time, so that nothing need be known of keys.
+//! - A key is found again by the upper bits of a hash of its numbers. The keys that have the same bits are chained, in
+//!   1,024 rows, so no key is kept twice, and few are compared.
 //! - Bytes that the same positions read are one class, named by its first byte. A state's row is worked out for the
 //!   first bytes and copied for the others, and for a byte that each position that follows reads just where it reads
 //!   the byte before. A byte that no position reads has no marks, and no key is made for it.
@@ -35,7 +39,9 @@ mod changing;
 mod error;
 mod explore;
 mod following;
+mod interner;
 mod key_packing;
+mod kinds;
 mod laws;
 mod sets;
 mod starts;

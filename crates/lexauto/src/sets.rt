@@ -91,7 +91,7 @@ fn is_below(count: usize, numbers: &[u32]) -> bool
 }
 
 /// Whether the numbers ascend, of which it may be told, and are below `count`.
-fn is_in_order(count: usize, numbers: &[u32], ascends: bool) -> bool
+pub(crate) fn is_in_order(count: usize, numbers: &[u32], ascends: bool) -> bool
     requires { ascends ≡ true → Increases numbers.now }
     ensures increases { result ≡ true → Increases numbers.now }
     ensures below { result ≡ true → (j : ℕ) → j < length numbers.now → slice_index numbers.now j < count }
@@ -110,40 +110,15 @@ fn is_in_order(count: usize, numbers: &[u32], ascends: bool) -> bool
     true
 }
 
-/// The numbers of the list that are below `count`, ascending, each once. It may be told that the list ascends.
-pub(crate) fn in_order(
-    alloc: Global,
-    count: usize,
-    numbers: &[u32],
-    ascends: bool,
-) -> Result<Vec<u32>, AllocError>
+/// The numbers of the list that are below `count`, ascending, each once.
+pub(crate) fn in_order(alloc: Global, count: usize, numbers: &[u32]) -> Result<Vec<u32>, AllocError>
     requires few { count < 2 ^ 32 }
-    requires order { ascends ≡ true → Increases numbers.now }
     ensures increases { IfOk result (λ v. Increases v.items) }
     ensures same { IfOk result (λ v. (i : ℕ) → contains v.items i ≡ marked count numbers.now i) }
 {
-    if is_in_order(count, numbers, ascends) {
-        return Vec::from_slice(alloc, numbers);
-    }
     let marks = marks_of(alloc, count, numbers)?;
     let numbers = numbers_of(alloc, &marks)?;
     Ok(numbers)
-}
-
-/// The numbers of the list that are marked.
-fn keep_marked(
-    alloc: Global,
-    numbers: &[u32],
-    places: &[usize],
-    marks: &[bool],
-) -> Result<Vec<u32>, AllocError>
-    ensures { IfOk result (λ v. v.items ≡ filter (marked_by places.now marks.now) numbers.now) }
-{
-    numbers
-        .iter()
-        .copied()
-        .filter(|number| is_marked_by(places, marks, *number as usize))
-        .collect(alloc)
 }
 
 /// Whether those numbers of the list that are marked are just these.
@@ -166,28 +141,13 @@ fn are_marked(kept: &[u32], numbers: &[u32], places: &[usize], marks: &[bool]) -
 pub(crate) fn key_of(alloc: Global, kind: KeyKind, numbers: &[u32]) -> Result<Vec<u32>, AllocError>
     ensures { IfOk result (λ v. v.items ≡ tagged (number_of kind) numbers.now) }
 {
-    let mut key = Vec::new(alloc);
-    if !numbers.is_empty() {
-        key.push(kind.number())?;
-        key.extend_from_slice(numbers)?;
-    }
-    Ok(key)
-}
-
-/// The key of those last positions of the list that are marked.
-pub(crate) fn last_key(
-    alloc: Global,
-    numbers: &[u32],
-    places: &[usize],
-    marks: &[bool],
-) -> Result<Vec<u32>, AllocError>
-    ensures { IfOk result (λ v. v.items ≡ tagged 1 (filter (marked_by places.now marks.now) numbers.now)) }
-{
-    if marks.is_empty() {
+    if numbers.is_empty() {
         return Ok(Vec::new(alloc));
     }
-    let numbers = keep_marked(alloc, numbers, places, marks)?;
-    key_of(alloc, KeyKind::LastPositions, &numbers)
+    let mut key = Vec::with_capacity(alloc, numbers.len() + 1)?;
+    key.push(kind.number())?;
+    key.extend_from_slice(numbers)?;
+    Ok(key)
 }
 
 /// Whether a key is that of those last positions of the list that are marked.

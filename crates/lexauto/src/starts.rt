@@ -9,11 +9,11 @@ ghost use Rattle.lexauto.specs.KeyPacking.{look_kept, kept_in};
 ghost use Rattle.lexauto.specs.Explored.{MoreThan};
 ghost use Rattle.lexauto.specs.WordKeys.{start_key, IsRoot, AreRoots, AreStartPlaces, Grows};
 
-use crate::explore::{ExploreError, Interner, intern};
+use crate::explore::{ExploreError, intern};
+use crate::interner::Interner;
 use crate::sets::{KeyKind, key_of};
 use lexspec::{Condition, Rule, Spec};
 use std::alloc::{AllocError, Global};
-use std::collections::BTreeMap;
 
 /// Whether a number is in the list.
 fn contains(numbers: &[u8], number: usize) -> bool
@@ -62,15 +62,12 @@ fn start_key(
 
 /// A table that has only the dead state's key.
 pub(crate) fn dead_root(alloc: Global, limit: u32) -> Result<Interner, ExploreError>
-    ensures finds { IfOk result (λ t. Finds (look_kept t.places) (kept_in t.keys.items)) }
+    ensures finds { IfOk result (λ t. Finds (look_kept t) (kept_in t.keys.items)) }
     ensures keys { IfOk result (λ t. kept_in t.keys.items ≡ [] ∷ []) }
     ensures room { IfOk result (λ t. length t.keys.items ≤ limit) }
     ensures too_many { IsErrOf result ExploreError.TooMany → limit ≡ 0 }
 {
-    let mut table = Interner {
-        keys: Vec::new(alloc),
-        places: BTreeMap::new(alloc),
-    };
+    let mut table = Interner::new(alloc);
     intern(alloc, &mut table, Vec::new(alloc), limit)?;
     Ok(table)
 }
@@ -83,8 +80,8 @@ pub(crate) fn add_starts(
     table: &mut Interner,
     limit: u32,
 ) -> Result<Vec<u32>, ExploreError>
-    requires { AreRoots (spec_of spec.now) (look_kept table.old.places) (kept_in table.old.keys.items) }
-    ensures roots { OnOk result (AreRoots (spec_of spec.now) (look_kept table.new.places)
+    requires { AreRoots (spec_of spec.now) (look_kept table.old) (kept_in table.old.keys.items) }
+    ensures roots { OnOk result (AreRoots (spec_of spec.now) (look_kept table.new)
         (kept_in table.new.keys.items)) }
     ensures grows { OnOk result (Grows (kept_in table.old.keys.items) (kept_in table.new.keys.items)) }
     ensures places { IfOk result (λ v. AreStartPlaces (spec_of spec.now) line_start

@@ -5,22 +5,20 @@ ghost use Rattle.lex_semantics.specs.ByteSets.{has, empty_set};
 ghost use Rattle.lex_semantics.specs.Spec.{rejects};
 ghost use Rattle.lex_semantics.specs.Subsets.{all_positions};
 ghost use Rattle.lexspec.specs.Views.{spec_of, rules_in};
-ghost use Rattle.lex_semantics.specs.Text.{flag};
 ghost use Rattle.lexauto.specs.Facts.{accepted_by};
 ghost use Rattle.lexauto_positions.specs.Laid.{shape_of, HaveSized, HaveSized-prop};
-ghost use Rattle.lexauto_positions.specs.Letters.{reads_at};
 ghost use Rattle.lexauto_positions.specs.Owners.{AreOwners};
 ghost use Rattle.lexauto_positions.specs.RuleFlow.{rules_enter, rules_left, rules_read};
 ghost use Rattle.lexauto.specs.Sets.{marked_by};
-ghost use Rattle.lexauto.specs.Moving.{AreChanges, AreChangesBy, AreMasks, AreTwins};
-ghost use Rattle.lexauto.specs.Moving.{masks_in, mask_at, place_at, followers_in, reading_in};
+ghost use Rattle.lexauto.specs.Moving.{AreChangesBy, AreKindsBy, place_at, followers_in, reading_in};
 
 use crate::alphabet::alphabet_of;
-use crate::changing::{changes_of, united};
+use crate::changing::changes_of;
 use crate::explore::Moves;
 use crate::following::walk;
 use crate::key_packing::{keeps_marked, pack_marked};
-use lexauto_positions::{LaidRule, Owner, Walked, lay_rules, letters_of, mask_of, owners_of};
+use crate::kinds::{Kind, Kinds, kinds_of};
+use lexauto_positions::{LaidRule, Owner, Walked, lay_rules, letters_of, owners_of};
 use lexre_bytes::ByteSet;
 use lexspec::Spec;
 use std::alloc::{AllocError, Global};
@@ -36,9 +34,8 @@ pub(crate) struct RuleMoves<'a> {
     pub accepts_all: bool,
     /// For each position the place of its letter.
     places: Vec<usize>,
-    /// For each byte the letters that have it.
-    masks: Vec<Vec<bool>>,
-    twins: Vec<u8>,
+    /// The kinds of bytes, with the letters that have them.
+    kinds: Kinds,
     /// For each letter the bytes of which it has just one, that or the byte before.
     changes: Vec<ByteSet>,
     ghost within: { all_positions (rules_in (spec_of spec.now)) ≡ count },
@@ -53,107 +50,10 @@ pub(crate) struct RuleMoves<'a> {
     ghost whole: { accepts_all ≡ rejects (spec_of spec.now) },
     ghost owned: { length owners.items ≡ count },
     ghost owners_are: { AreOwners (map shape_of rules.items) owners.items },
-    ghost all: { length (masks_in masks.items) ≡ 256 },
-    ghost each: { (b q : ℕ) → b < 256 → marked_by places.items (mask_at (masks_in masks.items) b) q
-        ≡ rules_read (rules_in (spec_of spec.now)) b q 0 },
-    ghost alike: { AreTwins (masks_in masks.items) twins.items },
+    ghost all: { length kinds.places.items ≡ 256 },
+    ghost each: { AreKindsBy (λ b q. rules_read (rules_in (spec_of spec.now)) b q 0) places.items kinds.kinds.items
+        kinds.places.items },
     ghost changing: { AreChangesBy (λ b q. rules_read (rules_in (spec_of spec.now)) b q 0) places.items changes.items },
-}
-
-/// The marks, or none where nothing is marked.
-fn marks_or_none(alloc: Global, marks: Vec<bool>) -> Vec<bool>
-    ensures { (q : ℕ) → flag result.items q ≡ flag marks.items q }
-{
-    if marks.iter().any(|is_marked| *is_marked) {
-        return marks;
-    }
-    Vec::new(alloc)
-}
-
-/// The positions that read a byte, after those of the bytes before. Where none of them changes there, they are the same
-/// again.
-fn next_mask(
-    alloc: Global,
-    letters: &[ByteSet],
-    masks: &[Vec<bool>],
-    changing: &ByteSet,
-) -> Result<Vec<bool>, AllocError>
-    requires few { length masks.now < 256 }
-    requires masks { (b q : ℕ) → b < length masks.now → flag (mask_at (masks_in masks.now) b) q ≡ reads_at letters.now b q 0 }
-    requires changing { (b q : ℕ) → 1 ≤ b → b < 256 → has changing.now b ≡ false
-        → reads_at letters.now (b - 1) q 0 ≡ reads_at letters.now b q 0 }
-    ensures { IfOk result (λ v. (q : ℕ) → flag v.items q ≡ reads_at letters.now (length masks.now) q 0) }
-{
-    let byte = masks.len();
-    if byte > 0 && !changing.contains(byte as u8) {
-        return Vec::from_slice(alloc, &masks[byte - 1]);
-    }
-    let mask = mask_of(alloc, letters, byte as u8)?;
-    Ok(marks_or_none(alloc, mask))
-}
-
-/// For each byte the positions that read it, by the bytes that each one reads, and where that changes.
-fn masks_of(
-    alloc: Global,
-    letters: &[ByteSet],
-    changes: &[ByteSet],
-) -> Result<Vec<Vec<bool>>, AllocError>
-    requires { AreChanges (λ b q. reads_at letters.now b q 0) changes.now }
-    ensures { IfOk result (λ v. AreMasks letters.now (masks_in v.items)) }
-{
-    let changing = united(changes);
-    let mut masks = Vec::with_capacity(alloc, 256)?;
-    for byte in 0..256usize {
-        let mask = next_mask(alloc, letters, &masks, &changing)?;
-        masks.push(mask)?;
-    }
-    Ok(masks)
-}
-
-/// A number that equal masks have in common, and others mostly not: the sum of what is marked.
-fn digest_of(mask: &[bool]) -> u64 {
-    let mut sum: u64 = 0;
-    for (i, is_marked) in mask.iter().enumerate() {
-        if *is_marked {
-            sum = sum.wrapping_add(i as u64);
-        }
-    }
-    sum
-}
-
-/// The first of the masks that is the one of this byte.
-fn first_like(masks: &[Vec<bool>], digests: &[u64], byte: usize) -> usize
-    requires within { byte < length masks.now }
-    requires digests { length digests.now ≡ length masks.now }
-    ensures first { result ≤ byte }
-    ensures same { mask_at (masks_in masks.now) result ≡ mask_at (masks_in masks.now) byte }
-{
-    for other in 0..byte {
-        if digests[other] == digests[byte] && masks[other] == masks[byte] {
-            return other;
-        }
-    }
-    byte
-}
-
-/// The digest of each of the masks.
-fn digests_of(alloc: Global, masks: &[Vec<bool>]) -> Result<Vec<u64>, AllocError>
-    ensures { IfOk result (λ v. length v.items ≡ length masks.now) }
-{
-    masks.iter().map(|mask| digest_of(mask)).collect(alloc)
-}
-
-/// For each byte the first one that the same positions read.
-fn twins_of(alloc: Global, masks: &[Vec<bool>]) -> Result<Vec<u8>, AllocError>
-    requires { length (masks_in masks.now) ≡ 256 }
-    ensures { IfOk result (λ v. AreTwins (masks_in masks.now) v.items) }
-{
-    let digests = digests_of(alloc, masks)?;
-    let mut twins = Vec::new(alloc);
-    for byte in 0..256usize {
-        twins.push(first_like(masks, &digests, byte) as u8)?;
-    }
-    Ok(twins)
 }
 
 impl<'a> RuleMoves<'a> {
@@ -172,8 +72,7 @@ impl<'a> RuleMoves<'a> {
         let read = letters_of(alloc, &rules)?;
         let alphabet = alphabet_of(alloc, &read)?;
         let changes = changes_of(alloc, &alphabet.letters)?;
-        let masks = masks_of(alloc, &alphabet.letters, &changes)?;
-        let twins = twins_of(alloc, &masks)?;
+        let kinds = kinds_of(alloc, &alphabet.letters, &changes)?;
         Ok(RuleMoves {
             spec,
             count,
@@ -181,8 +80,7 @@ impl<'a> RuleMoves<'a> {
             owners,
             accepts_all: spec.rejects(),
             places: alphabet.places,
-            masks,
-            twins,
+            kinds,
             changes,
         })
     }
@@ -197,6 +95,17 @@ impl RuleMoves<'_> {
             .get(position)
             .copied()
             .unwrap_or(self.changes.len())
+    }
+
+    /// The kind of a byte.
+    fn kind(&self, byte: u8) -> &Kind
+        ensures first { result.now.first ≤ byte }
+        ensures same { (q : ℕ) → rules_read (rules_in (spec_of self.now.spec.now)) result.now.first q 0
+            ≡ rules_read (rules_in (spec_of self.now.spec.now)) byte q 0 }
+        ensures marks { (q : ℕ) → marked_by self.now.places.items result.now.marks.items q
+            ≡ rules_read (rules_in (spec_of self.now.spec.now)) byte q 0 }
+    {
+        &self.kinds.kinds[self.kinds.places[byte as usize] as usize]
     }
 
     /// The set, and with it the changes of the letter at a place.
@@ -226,7 +135,7 @@ impl Moves for RuleMoves<'_> {
 
     /// The key of those followers that read the byte, as it is kept.
     fn reading(&self, alloc: Global, followers: &[u32], byte: u8) -> Result<Vec<u32>, AllocError> {
-        pack_marked(alloc, followers, &self.places, &self.masks[byte as usize])
+        pack_marked(alloc, followers, &self.places, &self.kind(byte).marks)
     }
 
     /// The bytes at which what one of the followers reads changes, united.
@@ -245,11 +154,11 @@ impl Moves for RuleMoves<'_> {
 
     /// Whether a key that is kept as it is has just those of the followers that read the byte.
     fn is_reading(&self, kept: &[u32], followers: &[u32], byte: u8) -> bool {
-        keeps_marked(kept, followers, &self.places, &self.masks[byte as usize])
+        keeps_marked(kept, followers, &self.places, &self.kind(byte).marks)
     }
 
     /// The first byte that the same positions read.
     fn twin(&self, byte: u8) -> u8 {
-        self.twins[byte as usize]
+        self.kind(byte).first
     }
 }

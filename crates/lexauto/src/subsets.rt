@@ -15,6 +15,7 @@ ghost use Rattle.lexauto_dfa.specs.Automata.{machine_of, states_of, conditions_o
 
 use crate::error::BuildError;
 use crate::explore::{ExploreError, explore};
+use crate::interner::KeptKey;
 use crate::starts::{add_starts, dead_root};
 use crate::stepping::RuleMoves;
 use lexauto_dfa::{Dfa, Parts};
@@ -35,7 +36,7 @@ pub struct Limits {
 /// The keys of an automaton's states, how they lead to one another, which rules they accept, and which of them go on.
 #[derive(Drop)]
 struct Survey {
-    keys: Vec<Vec<u32>>,
+    keys: Vec<KeptKey>,
     next: Vec<u32>,
     accepts: Vec<Rc<Vec<u32>>>,
     goes_on: Vec<bool>,

@@ -16,20 +16,20 @@ pub returns-clause-ok : goal.returns-clause-ok
 returns-clause-ok g c =
     let done : length (kept_in c.work.table.keys.items) ≤ length c.work.next.items / 256 =
     rw kept_length (search rules) in
-    finished (step_by (g.M.Moves.follow c.args.moves.now) (g.M.Moves.read c.args.moves.now)) (kept_in c.args.roots.keys.items) (look_kept c.work.table.places) (kept_in c.work.table.keys.items) c.work.next.items c.args.limit c.work.invariant.exploring done
+    finished (step_by (g.M.Moves.follow c.args.moves.now) (g.M.Moves.read c.args.moves.now)) (kept_in c.args.roots.keys.items) (look_kept c.work.table) (kept_in c.work.table.keys.items) c.work.next.items c.args.limit c.work.invariant.exploring done
 
 pub returns-clause-goes_on : goal.returns-clause-goes_on
 returns-clause-goes_on g c =
     let done : length (kept_in c.work.table.keys.items) ≤ length c.work.next.items / 256 =
     rw kept_length (search rules) in
-    told_done (step_by (g.M.Moves.follow c.args.moves.now) (g.M.Moves.read c.args.moves.now)) (kept_in c.args.roots.keys.items) (look_kept c.work.table.places) (kept_in c.work.table.keys.items) c.work.next.items c.args.limit c.work.invariant.exploring
+    told_done (step_by (g.M.Moves.follow c.args.moves.now) (g.M.Moves.read c.args.moves.now)) (kept_in c.args.roots.keys.items) (look_kept c.work.table) (kept_in c.work.table.keys.items) c.work.next.items c.args.limit c.work.invariant.exploring
     false (goes_by (g.M.Moves.follow c.args.moves.now)) c.work.told.goes_on.items done c.work.invariant.on
 
 pub returns-clause-accepts : goal.returns-clause-accepts
 returns-clause-accepts g c =
     let done : length (kept_in c.work.table.keys.items) ≤ length c.work.next.items / 256 =
     rw kept_length (search rules) in
-    told_done (step_by (g.M.Moves.follow c.args.moves.now) (g.M.Moves.read c.args.moves.now)) (kept_in c.args.roots.keys.items) (look_kept c.work.table.places) (kept_in c.work.table.keys.items) c.work.next.items c.args.limit c.work.invariant.exploring
+    told_done (step_by (g.M.Moves.follow c.args.moves.now) (g.M.Moves.read c.args.moves.now)) (kept_in c.args.roots.keys.items) (look_kept c.work.table) (kept_in c.work.table.keys.items) c.work.next.items c.args.limit c.work.invariant.exploring
     [] (g.M.Moves.accept c.args.moves.now) (keys_in c.work.told.accepts.items) done c.work.invariant.accepted
 
 pub target-requires-clause-ascending : goal.target-requires-clause-ascending
@@ -70,11 +70,11 @@ work-preserved g c =
           let zero : n % 256 ≡ 0 = (let f = w.if-byte-eq0.true in search (rules, f)) in
           subst (λ (gs : List Bool). ToldAt false (goes_by follow) keys (n / 256) gs)
           (sym (ap (λ (t : Told). t.goes_on.items) w.told-is ∙ w.in_ok-following.ensures.goes_on ∙ ap (λ (k : Key). c.work.told.goes_on.items ++ goes_by follow k ∷ []) kept))
-          (told_first step roots (look_kept c.work.table.places) keys c.work.next.items c.args.limit c.work.invariant.exploring false (goes_by follow) n c.work.told.goes_on.items (goes_by follow (key_at keys (n / 256))) refl zero c.work.invariant.on refl))
+          (told_first step roots (look_kept c.work.table) keys c.work.next.items c.args.limit c.work.invariant.exploring false (goes_by follow) n c.work.told.goes_on.items (goes_by follow (key_at keys (n / 256))) refl zero c.work.invariant.on refl))
       | else-byte-eq0 w ↦
           (let some : 0 < n % 256 = (let f = w.if-byte-eq0.false in search (rules, f)) in
           subst (λ (gs : List Bool). ToldAt false (goes_by follow) keys (n / 256) gs) (sym (ap (λ (t : Told). t.goes_on.items) w.told-is))
-          (told_further step roots (look_kept c.work.table.places) keys c.work.next.items c.args.limit c.work.invariant.exploring false (goes_by follow) n c.work.told.goes_on.items refl some c.work.invariant.on))
+          (told_further step roots (look_kept c.work.table) keys c.work.next.items c.args.limit c.work.invariant.exploring false (goes_by follow) n c.work.told.goes_on.items refl some c.work.invariant.on))
     ] in
     let accepted : ToldAt [] accept keys (n / 256) (keys_in c.if-byte-eq0.told.accepts.items) = elim c.if-byte-eq0.branch [
       | then-byte-eq0+in_ok-following w ↦
@@ -83,11 +83,11 @@ work-preserved g c =
           let zero : n % 256 ≡ 0 = (let f = w.if-byte-eq0.true in search (rules, f)) in
           subst (λ (ls : List Key). ToldAt [] accept keys (n / 256) ls)
           (sym (ap (λ (t : Told). keys_in t.accepts.items) w.told-is ∙ w.in_ok-following.ensures.accepts ∙ ap (λ (k : Key). keys_in c.work.told.accepts.items ++ accept k ∷ []) kept))
-          (told_first step roots (look_kept c.work.table.places) keys c.work.next.items c.args.limit c.work.invariant.exploring [] accept n (keys_in c.work.told.accepts.items) (accept (key_at keys (n / 256))) refl zero c.work.invariant.accepted refl))
+          (told_first step roots (look_kept c.work.table) keys c.work.next.items c.args.limit c.work.invariant.exploring [] accept n (keys_in c.work.told.accepts.items) (accept (key_at keys (n / 256))) refl zero c.work.invariant.accepted refl))
       | else-byte-eq0 w ↦
           (let some : 0 < n % 256 = (let f = w.if-byte-eq0.false in search (rules, f)) in
           subst (λ (ls : List Key). ToldAt [] accept keys (n / 256) ls) (sym (ap (λ (t : Told). keys_in t.accepts.items) w.told-is))
-          (told_further step roots (look_kept c.work.table.places) keys c.work.next.items c.args.limit c.work.invariant.exploring [] accept n (keys_in c.work.told.accepts.items) refl some c.work.invariant.accepted))
+          (told_further step roots (look_kept c.work.table) keys c.work.next.items c.args.limit c.work.invariant.exploring [] accept n (keys_in c.work.told.accepts.items) refl some c.work.invariant.accepted))
     ] in
     let changes : Changes (g.M.Moves.read c.args.moves.now) c.if-byte-eq0.following.list.items c.if-byte-eq0.following.changes = elim c.if-byte-eq0.branch [
       | then-byte-eq0+in_ok-following w ↦ subst (λ (f : Following). Changes (g.M.Moves.read c.args.moves.now) f.list.items f.changes) (sym w.following-is) w.in_ok-following.ensures.changes
@@ -115,20 +115,20 @@ work-preserved g c =
     sym (ap read last) ∙ subst (λ (k : Key). g.M.Moves.read c.args.moves.now k (n % 256 + (j - n)) ≡ g.M.Moves.read c.args.moves.now k (n % 256)) held
     (subst (λ (m : ℕ). g.M.Moves.read c.args.moves.now c.if-byte-eq0.following.list.items (m % 256 + (j - n)) ≡ g.M.Moves.read c.args.moves.now c.if-byte-eq0.following.list.items (m % 256)) byte one) in
     record {
-      exploring = advance step roots (look_kept c.work.table.places) keys c.work.next.items c.args.limit c.work.invariant.exploring
-          (look_kept c.target.new.table.places) new filled c.in_ok-place.place n refl (rw kept_length low)
+      exploring = advance step roots (look_kept c.work.table) keys c.work.next.items c.args.limit c.work.invariant.exploring
+          (look_kept c.target.new.table) new filled c.in_ok-place.place n refl (rw kept_length low)
           c.in_ok-place.ensures.finds found
           (subst (λ (k : Key). At new c.in_ok-place.place k) key c.in_ok-place.ensures.place)
           (rw kept_length (c.in_ok-place.ensures.room (rw kept_length at c.work.invariant.exploring.room))) fills alike;
-      held = held_on step roots (look_kept c.work.table.places) keys c.work.next.items c.args.limit c.work.invariant.exploring
+      held = held_on step roots (look_kept c.work.table) keys c.work.next.items c.args.limit c.work.invariant.exploring
           follow new filled c.in_ok-place.place n c.if-byte-eq0.following.list.items (step (key_at keys (n / 256)) (n % 256)) refl (rw kept_length low) found fills held;
       ascending = elim c.if-byte-eq0.branch [
         | then-byte-eq0+in_ok-following w ↦ subst (λ (f : Following). Ascending f.list.items) (sym w.following-is) w.in_ok-following.ensures.ascending
         | else-byte-eq0 w ↦ subst (λ (f : Following). Ascending f.list.items) (sym w.following-is) c.work.invariant.ascending
       ];
       changes = λ some. changes;
-      on = told_longer step roots (look_kept c.work.table.places) keys c.work.next.items c.args.limit c.work.invariant.exploring false (goes_by follow) new filled c.in_ok-place.place n (step (key_at keys (n / 256)) (n % 256)) c.if-byte-eq0.told.goes_on.items refl (rw kept_length low) found fills goes;
-      accepted = told_longer step roots (look_kept c.work.table.places) keys c.work.next.items c.args.limit c.work.invariant.exploring [] accept new filled c.in_ok-place.place n (step (key_at keys (n / 256)) (n % 256)) (keys_in c.if-byte-eq0.told.accepts.items) refl (rw kept_length low) found fills accepted;
+      on = told_longer step roots (look_kept c.work.table) keys c.work.next.items c.args.limit c.work.invariant.exploring false (goes_by follow) new filled c.in_ok-place.place n (step (key_at keys (n / 256)) (n % 256)) c.if-byte-eq0.told.goes_on.items refl (rw kept_length low) found fills goes;
+      accepted = told_longer step roots (look_kept c.work.table) keys c.work.next.items c.args.limit c.work.invariant.exploring [] accept new filled c.in_ok-place.place n (step (key_at keys (n / 256)) (n % 256)) (keys_in c.if-byte-eq0.told.accepts.items) refl (rw kept_length low) found fills accepted;
     }
 
 pub returns-in_err-place-clause-too_many : goal.returns-in_err-place-clause-too_many
@@ -156,5 +156,5 @@ returns-in_err-place-clause-too_many g c = λ e.
     let told = rw (p.1, p.2) at e in
     let same : c.in_err-place.field-0.0 ≡ TooMany = cc in
     let full = c.in_err-place.ensures.full (ap Err same) in
-    too_many step roots (look_kept c.work.table.places) keys c.work.next.items c.args.limit c.work.invariant.exploring n refl (rw kept_length low)
+    too_many step roots (look_kept c.work.table) keys c.work.next.items c.args.limit c.work.invariant.exploring n refl (rw kept_length low)
     (subst (λ (k : Key). Absent keys k) key full.0) (rw kept_length full.1)

@@ -7,7 +7,7 @@ use Rattle.lexauto.proofs.explore.explore.Given as goal
 
 abbrev pub invariant-work : goal.invariant-work
 invariant-work g l = record {
-  exploring : Exploring (step_by (g.M.Moves.follow l.moves) (g.M.Moves.read l.moves)) (kept_in l.fn.roots.keys.items) (look_kept l.table.places) (kept_in l.table.keys.items) l.next.items l.limit;
+  exploring : Exploring (step_by (g.M.Moves.follow l.moves) (g.M.Moves.read l.moves)) (kept_in l.fn.roots.keys.items) (look_kept l.table) (kept_in l.table.keys.items) l.next.items l.limit;
   held : Held (g.M.Moves.follow l.moves) (kept_in l.table.keys.items) l.next.items l.following.list.items;
   ascending : Ascending l.following.list.items;
   changes : 0 < length l.next.items % 256 → Changes (g.M.Moves.read l.moves) l.following.list.items l.following.changes;

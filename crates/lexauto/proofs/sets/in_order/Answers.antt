@@ -1,17 +1,12 @@
-use Rattle.std.proofs.Common.{rules, ◌≡◌, ℕ, ◌<◌, Bool, List, length, true, arith, sym, ap, subst, ◌∙◌}
+use Rattle.std.proofs.Common.{◌≡◌, ℕ, ◌<◌, Bool, List, length, true, arith, sym, ap, subst, ◌∙◌}
 use Rattle.lex_semantics.specs.Active.{contains}
 use Rattle.lex_semantics.specs.Text.{flag, listed}
 use Rattle.lexauto_positions.specs.Cursors.{Increases}
 use Rattle.lexauto.specs.Sets.{marked}
 use Rattle.lexauto_positions.proofs.CursorLaws.{increases}
 use Rattle.lexauto_positions.proofs.Numbers.{listed_ascends}
-use Rattle.lexauto.proofs.KeyLaws.{all_marked, listed_flags, marked_is}
+use Rattle.lexauto.proofs.KeyLaws.{listed_flags, marked_is}
 use Rattle.lexauto.proofs.sets.in_order.Goals as goal
-
-pub returns-then-is_in_order-clause-same : goal.returns-then-is_in_order-clause-same
-returns-then-is_in_order-clause-same c =
-    let h = all_marked c.args.count c.args.numbers.now (c.is_in_order.ensures.below c.if-is_in_order.true) in
-    search (rules, h)
 
 pub returns-clause-increases : goal.returns-clause-increases
 returns-clause-increases c =

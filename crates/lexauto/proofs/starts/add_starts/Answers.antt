@@ -23,7 +23,7 @@ returns-in_err-place-clause-too_many c = λ e.
     let told = rw (p.1, p.2) at e in
     let same : c.in_err-place.field-0.0 ≡ TooMany = cc in
     let full = c.in_err-place.ensures.full (ap Err same) in
-    too_many_roots S (look_kept c.loop-number.table.places) keys c.in_ok-key.key.items c.args.limit c.loop-number.invariant.roots full.0 (inr (number, c.args.line_start, low, c.in_ok-key.ensures)) (rw kept_length full.1)
+    too_many_roots S (look_kept c.loop-number.table) keys c.in_ok-key.key.items c.args.limit c.loop-number.invariant.roots full.0 (inr (number, c.args.line_start, low, c.in_ok-key.ensures)) (rw kept_length full.1)
 
 pub loop-number-preserved : goal.loop-number-preserved
 loop-number-preserved c =
@@ -37,7 +37,7 @@ loop-number-preserved c =
     let grows = grown keys new c.in_ok-key.key.items c.in_ok-place.ensures.found in
     let before = c.loop-number.invariant in
     record {
-      roots = more_roots S (look_kept c.loop-number.table.places) (look_kept c.intern.new.table.places) keys new c.in_ok-key.key.items before.roots c.in_ok-place.ensures.finds c.in_ok-place.ensures.found (inr (number, c.args.line_start, low, c.in_ok-key.ensures));
+      roots = more_roots S (look_kept c.loop-number.table) (look_kept c.intern.new.table) keys new c.in_ok-key.key.items before.roots c.in_ok-place.ensures.finds c.in_ok-place.ensures.found (inr (number, c.args.line_start, low, c.in_ok-key.ensures));
       grows = λ i k a. grows i k (before.grows i k a);
       places = subst (λ (ps : List ℕ). AreStartPlaces S c.args.line_start new ps) (sym c.in_ok-push.ensures.items)
           (more_places S c.args.line_start keys new c.loop-number.places.items c.in_ok-place.place number before.len grows before.places

@@ -6,7 +6,7 @@ use Rattle.lexauto.proofs.starts.add_starts.Given as goal
 
 abbrev pub invariant-loop-number : goal.invariant-loop-number
 invariant-loop-number l = record {
-  roots : AreRoots (spec_of l.spec) (look_kept l.table.places) (kept_in l.table.keys.items);
+  roots : AreRoots (spec_of l.spec) (look_kept l.table) (kept_in l.table.keys.items);
   grows : Grows (kept_in l.fn.table.keys.items) (kept_in l.table.keys.items);
   places : AreStartPlaces (spec_of l.spec) l.line_start (kept_in l.table.keys.items) l.places.items;
   len : length l.places.items ≡ l.number;

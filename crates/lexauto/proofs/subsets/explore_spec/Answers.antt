@@ -36,7 +36,7 @@ returns-in_err-explored-clause-too_many c = λ e n s.
 
 pub returns-clause-ok : goal.returns-clause-ok
 returns-clause-ok c =
-    surveyed (spec_of c.args.moves.now.spec.now) c.args.moves.now.count c.args.moves.now.within (look_kept c.add_starts-2.new.table.places)
+    surveyed (spec_of c.args.moves.now.spec.now) c.args.moves.now.count c.args.moves.now.within (look_kept c.add_starts-2.new.table)
     (kept_in c.add_starts.new.table.keys.items) (kept_in c.add_starts-2.new.table.keys.items) (kept_in c.in_ok-explored.explored.keys.items)
     c.in_ok-explored.explored.next.items c.in_ok-starts.starts.items c.in_ok-line_starts.line_starts.items
     c.in_ok-line_starts.ensures.roots c.in_ok-explored.ensures.ok c.in_ok-starts.ensures.places c.in_ok-line_starts.ensures.grows c.in_ok-starts.ensures.len

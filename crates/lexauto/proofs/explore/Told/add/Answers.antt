@@ -1,16 +1,11 @@
-use Rattle.std.proofs.Common.{rules, ◌≡◌, ◌==◌, not, Bool, [], ◌∷◌, ◌++◌, length, sym, subst, ap, ◌∙◌}
+use Rattle.std.proofs.Common.{rules, ◌≡◌, ◌==◌, not, Bool, [], ◌∷◌, ◌++◌, length, ap, ◌∙◌}
 use Rattle.lex_semantics.specs.Reading.{is_empty}
-use Rattle.lexauto_positions.specs.Cursors.{Increases}
-use Rattle.lexauto.specs.Sets.{lasts_in}
 use Rattle.lexauto.specs.Explored.{goes_by}
 use Rattle.lexauto.specs.Keys.{Key, keys_in}
 use Rattle.lexauto.specs.KeyPacking.{unpacked}
 use Rattle.lexauto.proofs.Places.{keys_of_push}
 use Rattle.lexauto.proofs.Works.{some_is}
 use Rattle.lexauto.proofs.explore.Told.add.Goals as goal
-
-pub walk-requires : goal.walk-requires
-walk-requires g c = λ h. subst (λ (k : Key). Increases (lasts_in k)) (sym (c.deref.ensures.value ∙ c.in_ok-key.ensures)) (c.is_bits.ensures h)
 
 pub returns : goal.returns
 returns g c =
@@ -19,9 +14,8 @@ returns g c =
     let kept = unpacked c.args.kept.now in
     let followers = c.in_ok-walked.walked.followers.items in
     let accepts = c.args.self.now.accepts.items in
-    let key : c.deref.result.now ≡ kept = c.deref.ensures.value ∙ c.in_ok-key.ensures in
-    let next : followers ≡ follow kept = c.in_ok-walked.ensures.followers ∙ ap follow key in
-    let accepted : c.in_ok-walked.walked.accepted.items ≡ accept kept = c.in_ok-walked.ensures.accepted ∙ ap accept key in
+    let next : followers ≡ follow kept = c.in_ok-walked.ensures.followers in
+    let accepted : c.in_ok-walked.walked.accepted.items ≡ accept kept = c.in_ok-walked.ensures.accepted in
     let empty : c.is_empty.result ≡ (length followers == 0) = search rules in
     let some : not (length followers == 0) ≡ not (is_empty followers) = some_is followers in
     let goes : not c.is_empty.result ≡ goes_by follow kept = ap not empty ∙ some ∙ ap (λ l. not (is_empty l)) next in

@@ -1,6 +1,8 @@
 use Rattle.std.proofs.Common.{◌≡◌, ℕ, false, ◌-◌, ◌<◌, ◌^◌, List, length, map, sym, ap, subst, ◌∙◌, arith}
 use Rattle.lex_semantics.specs.ByteSets.{ByteSet, has, empty_set}
-use Rattle.std.specs.Prelude.{slice_index_or}
+use Rattle.std.specs.Prelude.{slice_index, slice_index_or}
+use Rattle.lex_semantics.specs.Text.{flag}
+use Rattle.lexauto.specs.Sets.{marked_by}
 use Rattle.lex_semantics.specs.Subsets.{all_positions}
 use Rattle.lexauto_positions.specs.Letters.{reads_at}
 use Rattle.lexspec.specs.Views.{spec_of}
@@ -10,7 +12,7 @@ use Rattle.lexauto_positions.specs.RuleFlow.{rules_enter, rules_left, rules_read
 use Rattle.lexauto_positions.specs.declared.rules.LaidRule.{LaidRule}
 use Rattle.lexauto_positions.proofs.LaidLaws.{NextAll, LeftAll, Letters}
 use Rattle.lexauto.proofs.StepLemmas.{tested_rules, few_rules}
-use Rattle.lexauto.specs.Moving.{AreChanges, masks_in, mask_at}
+use Rattle.lexauto.specs.Moving.{AreChanges, first_at, marks_at}
 use Rattle.lexauto.proofs.Alphabets.{reads_by_place, changes_by_place}
 use Rattle.lexauto_positions.proofs.Mapped.{length_map}
 use Rattle.lexauto.proofs.stepping.RuleMoves.new.Goals as goal
@@ -24,8 +26,8 @@ owners_of-requires-clause-rules c =
     let few : length (spec_of c.args.spec.now).rules < 2 ^ 32 = few_rules (spec_of c.args.spec.now) c.rules.ensures.sound in
     omega (arith, number, few)
 
-pub masks_of-requires : goal.masks_of-requires
-masks_of-requires c = λ q b some low not.
+pub kinds_of-requires : goal.kinds_of-requires
+kinds_of-requires c = λ q b some low not.
     let same : c.deref-4.result.now ≡ c.deref-5.result.now = c.deref-4.ensures.value ∙ sym c.deref-5.ensures.value in
     let told = subst (λ (sets : List ByteSet). has (slice_index_or sets q empty_set) b ≡ false) c.deref-6.ensures.value not in
     subst (λ (ls : List ByteSet). reads_at ls (b - 1) q 0 ≡ reads_at ls b q 0) same (c.in_ok-changes.ensures.changes q b some low told)
@@ -53,14 +55,30 @@ pub invariant_of-result-clause-left : goal.invariant_of-result-clause-left
 invariant_of-result-clause-left c = λ last. ap (λ (f : LeftAll). f last 0 0) (c.in_ok-rules.ensures.alike.left ∙ ap rules_left c.rules.ensures.rules)
 
 pub invariant_of-result-clause-each : goal.invariant_of-result-clause-each
-invariant_of-result-clause-each c = λ b q low.
+invariant_of-result-clause-each c =
     let alphabet = c.in_ok-alphabet.alphabet in
-    reads_by_place c.deref-3.result.now alphabet.letters.items alphabet.places.items c.in_ok-alphabet.ensures b (mask_at (masks_in c.in_ok-masks.masks.items) b) low
-    (λ k. c.in_ok-masks.ensures.each b k low ∙ ap (λ (ls : List ByteSet). reads_at ls b k 0) c.deref-5.ensures.value) q
+    let kinds = c.in_ok-kinds.kinds.kinds.items in
+    let places = c.in_ok-kinds.kinds.places.items in
+    let are = c.in_ok-kinds.ensures.are in
+    let within : (b : ℕ) → b < 256 → b < length places = λ b low. (let all = c.in_ok-kinds.ensures.all in omega (arith, low, all)) in
+    let read = λ (b q : ℕ). rules_read (spec_of c.args.spec.now).rules b q 0 in
+    let told : (i b : ℕ) → b < 256 → ((k : ℕ) → flag (marks_at kinds i) k ≡ reads_at c.deref-5.result.now b k 0) → (q : ℕ) → marked_by alphabet.places.items (marks_at kinds i) q ≡ read b q = λ i b low marks q.
+    reads_by_place c.deref-3.result.now alphabet.letters.items alphabet.places.items c.in_ok-alphabet.ensures b (marks_at kinds i) low
+    (λ k. marks k ∙ ap (λ (ls : List ByteSet). reads_at ls b k 0) c.deref-5.ensures.value) q
     ∙ ap (λ (ls : List ByteSet). reads_at ls b q 0) c.deref-3.ensures.value
     ∙ c.in_ok-read.ensures b q
     ∙ ap (λ (rs : List LaidRule). rules_read (map shape_of rs) b q 0) c.deref-2.ensures.value
-    ∙ ap (λ (f : Letters). f b q 0) (c.in_ok-rules.ensures.alike.letters ∙ ap rules_read c.rules.ensures.rules)
+    ∙ ap (λ (f : Letters). f b q 0) (c.in_ok-rules.ensures.alike.letters ∙ ap rules_read c.rules.ensures.rules) in
+    let each : (b q : ℕ) → b < 256 → marked_by alphabet.places.items (marks_at kinds (slice_index places b)) q ≡ read b q = λ b q low.
+    told (slice_index places b) b low (λ k. are.each b k (within b low)) q in
+    record {
+      low = λ b low. are.low b (within b low);
+      each = each;
+      first = λ b low. are.first b (within b low);
+      same = λ b q low. (let i = slice_index places b in
+          let first = are.first b (within b low) in
+          sym (told i (first_at kinds i) (omega (arith, first, low)) (λ k. are.same i k (are.low b (within b low))) q) ∙ each b q low);
+    }
 
 pub invariant_of-result-clause-changing : goal.invariant_of-result-clause-changing
 invariant_of-result-clause-changing c = λ q b some low not.

@@ -1,16 +1,15 @@
-use Rattle.std.proofs.Common.{◌≡◌, ◌<◌, ℕ, Bool, List, map, ap, ◌∙◌, arith}
+use Rattle.std.proofs.Common.{◌≡◌, ℕ, Bool, List, map, ap, ◌∙◌}
 use Rattle.lexauto_positions.specs.RuleFlow.{rules_read}
 use Rattle.lexspec.specs.RuleViews.{rule_of}
 use Rattle.lexauto.specs.Sets.{marked_by}
-use Rattle.lexauto.proofs.StepLemmas.{reading_is, mask_tells}
+use Rattle.lexauto.proofs.StepLemmas.{reading_is}
 use Rattle.lexauto.proofs.stepping.RuleMovesMoves.is_reading.Goals as goal
 
 pub returns : goal.returns
 returns c = λ yes.
     let moves = c.args.self.now in
     let rules = map rule_of moves.spec.now.rules.items in
-    let small : c.args.byte < 256 = omega arith in
     let same : (q : ℕ) → marked_by c.deref.result.now c.deref-2.result.now q ≡ rules_read rules c.args.byte q 0 =
     λ q. ap (λ (ps : List ℕ). marked_by ps c.deref-2.result.now q) c.deref.ensures.value ∙ ap (λ (m : List Bool). marked_by moves.places.items m q) c.deref-2.ensures.value
-    ∙ mask_tells moves.masks.items moves.places.items rules moves.all moves.each c.args.byte small c.index.result.now c.index.ensures q in
+    ∙ c.kind.ensures.marks q in
     c.keeps_marked.ensures yes ∙ reading_is rules c.args.followers.now c.args.byte (marked_by c.deref.result.now c.deref-2.result.now) same

@@ -3,7 +3,7 @@ use Rattle.std.proofs.lemmas.List.{append-nil, append_assoc}
 use Rattle.lex_semantics.specs.Text.{listed}
 use Rattle.lexauto.specs.KeyPacking.{bit_at, word_bits}
 use Rattle.lexauto.proofs.KeyBits.{word_more, none_left}
-use Rattle.lexauto.proofs.key_packing.key_of_bits.Goals as goal
+use Rattle.lexauto.proofs.key_packing.add_words.Goals as goal
 
 pub loop-at-preserved : goal.loop-at-preserved
 loop-at-preserved c =
