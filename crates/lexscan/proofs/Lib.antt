@@ -1,3 +1,4 @@
+pub mod BeginExampled
 pub mod Lasting
 pub mod Leaving
 pub mod Lifting

@@ -18,6 +18,7 @@ pub mod Ties
 pub mod Scanners
 pub mod Pushes
 pub mod AskingExamples
+pub mod BeginExamples
 pub mod Attempts
 pub mod Steps
 pub mod Scans

@@ -6,6 +6,7 @@ ghost use Rattle.lex_semantics.specs.Sound.{IsSound};
 ghost use Rattle.lex_semantics.specs.Spec.{Spec};
 ghost use Rattle.lex_semantics.specs.TableFor.{TableFor};
 ghost use Rattle.lexscan.specs.AskingExamples.{Asking, AskingTogether, Given, Known, Order};
+ghost use Rattle.lexscan.specs.BeginExamples.{BeginExamples};
 ghost use Rattle.lexscan.specs.SeriesExamples.{DrawnOut};
 ghost use Rattle.lexscan.specs.Tokens.{SameTokens};
 
@@ -29,4 +30,9 @@ pub fn examples_of_asking()
 /// Worked examples of tokens of which few bytes are kept.
 pub fn examples_of_series()
     ensures { DrawnOut }
+{}
+
+/// A worked example: of a machine of two rules, which states set a condition and do yymore.
+pub fn examples_of_begins()
+    ensures { BeginExamples }
 {}

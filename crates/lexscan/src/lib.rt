@@ -69,7 +69,7 @@ mod token;
 mod turn;
 mod whole;
 
-pub use laws::{examples_of_asking, examples_of_series, table_tokens};
+pub use laws::{examples_of_asking, examples_of_begins, examples_of_series, table_tokens};
 pub use lex_io::{ByteReader, FromBytes, FromRead, MemorySource, ReadFault, Source};
 pub use lexscan_matching::{accepted, longest};
 pub use lexscan_window::{Candidate, Match, MatchedRule, RunError, Window};
