@@ -10,8 +10,8 @@ use lex_machine::Machine;
 use lexscan_matching::{begun_match, do_plan, plan_of};
 use lexscan_window::{Outlet, TextPlace};
 
-/// One turn over a text, where the walk of its match ends there, and the machine tells that it sets a start condition and
-/// does yymore, or it is planned what it does. Otherwise none.
+/// One turn over a text, where the walk of its match ends there, and the machine tells that it sets a start condition
+/// and does yymore, or it is planned what it does. Otherwise none.
 #[inline(always)]
 pub fn turn_apart<M: Machine, K: Sink>(
     machine: &M,

@@ -1,5 +1,5 @@
-//! A match whose rule sets a start condition and does yymore, and no more, where the machine tells that: for turns over
-//! bytes in memory.
+//! A match whose rule sets a start condition and does yymore, and no more, where the machine tells that: for turns
+//! over bytes in memory.
 ghost use Rattle.std.specs.Prelude.{◌≡◌, ℕ, ◌<◌, ◌≤◌, List, drop, IfSome};
 ghost use Rattle.lex_machine.specs.Glances.{Leads};
 ghost use Rattle.lexscan_window.specs.declared.state.TextPlace.{TextPlace};
@@ -16,8 +16,8 @@ pub struct BegunMatch {
     pub condition: u8,
 }
 
-/// The first match of so many bytes, where the first rule that the state after them accepts is told to be such a one, and
-/// leaves few of them.
+/// The first match of so many bytes, where the first rule that the state after them accepts is told to be such a one,
+/// and leaves few of them.
 #[inline(always)]
 fn begun_at<M: Machine>(machine: &M, state: u32, len: usize) -> Option<BegunMatch>
     requires known { state < M.states machine.now }
@@ -36,8 +36,8 @@ fn begun_at<M: Machine>(machine: &M, state: u32, len: usize) -> Option<BegunMatc
     })
 }
 
-/// The match of a walk, where the last state accepts a rule or the one before it, and the first of these rules is told to
-/// be such a one.
+/// The match of a walk, where the last state accepts a rule or the one before it, and the first of these rules is
+/// told to be such a one.
 #[inline(always)]
 pub fn begun_match<M: Machine>(machine: &M, way: Way<'_>) -> Option<BegunMatch>
     requires known { way.state < M.states machine.now }

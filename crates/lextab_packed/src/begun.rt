@@ -21,7 +21,8 @@ fn begun_by(statements: &[Statement]) -> Option<u8>
     }
 }
 
-/// What the first rule that the state accepts keeps of a match, and the condition that it sets, where it does yymore then.
+/// What the first rule that the state accepts keeps of a match, and the condition that it sets, where it does yymore
+/// then, and no more.
 fn begun_at(tables: &Tables, state: u32) -> Option<BegunMore>
     requires { state < table_states tables.now }
     ensures { IfSome result (λ begun. FirstIsBegun (table_machine tables.now)

@@ -409,8 +409,8 @@ impl Machine for Flat {
         self.mores[state as usize]
     }
 
-    /// What the first rule that the state accepts keeps of a match, and the condition that it sets, where it was seen that
-    /// it does yymore then, and no more.
+    /// What the first rule that the state accepts keeps of a match, and the condition that it sets, where it was seen
+    /// that it does yymore then, and no more.
     #[inline(always)]
     fn begins_more(&self, state: u32) -> Option<BegunMore> {
         match self.begun.get(state as usize) {
