@@ -26,7 +26,9 @@ pub fn read_specification(rt: &HostRuntime, files: &[String]) -> Result<Vec<u8>,
     Ok(text)
 }
 
-/// The bytes of a table file. One of more than 268,435,456 bytes cannot be read.
+/// The bytes of a table file. One of more than 268,435,456 bytes cannot be read. It stands by itself, so that the loops of a
+/// scan, which the compiler puts after it, begin where their jumps are cheap.
+#[inline(never)]
 pub fn read_table_file(rt: &HostRuntime, name: String) -> Result<Vec<u8>, Failure>
     ensures { IfErr result (λ failure. (failure ≡ out_of_memory) ⊎ (failure ≡ Failure.File name)) }
 {
