@@ -1,6 +1,6 @@
 #!/usr/bin/env python3
 """Draws docs/speed.svg of the first table of docs/SPEED.md's chapter on scanning: for each specification a bar for each program,
-the median of the seconds, as a part of those of flex's default scanner. `--check` says whether the picture is up to date.
+the seconds, as a part of those of flex's default scanner. `--check` says whether the picture is up to date.
 
     scripts/pages/chart.py [--check]
 """
@@ -24,7 +24,7 @@ def cells(line):
 
 
 def table():
-    """The rows of the table: the specification, and the median of each column, or None where a program refuses."""
+    """The rows of the table: the specification, and the seconds of each column, or None where a program refuses."""
     lines = PAGE.read_text().split(CHAPTER, 1)[1].splitlines()
     first = next(at for at, line in enumerate(lines) if cells(line)[:2] == FIRST_COLUMNS)
     names = cells(lines[first])
@@ -33,22 +33,22 @@ def table():
         if not line.startswith("|"):
             return rows
         row = cells(line)
-        medians = [None if cell == "refused" else float(cell.split()[0]) for cell in row[1:]]
-        rows.append((row[0], dict(zip(names[1:], medians))))
+        times = [None if cell == "refused" else float(cell.split()[0]) for cell in row[1:]]
+        rows.append((row[0], dict(zip(names[1:], times))))
     return rows
 
 
-def bars(name, medians, top):
+def bars(name, times, top):
     """The bars of a specification, and its name beside them."""
     height = len(PROGRAMS) * BAR
     yield f'<text x="{LEFT - 8}" y="{top + height / 2 + 4:g}" text-anchor="end">{name.removesuffix(".l")}</text>'
     for place, (column, label, colour) in enumerate(PROGRAMS):
-        seconds = medians[column]
+        seconds = times[column]
         at = top + place * BAR
         if seconds is None:
             yield f'<text class="small" x="{LEFT + 4}" y="{at + BAR - 1}">{label}: refused</text>'
             continue
-        part = seconds / medians["flex"]
+        part = seconds / times["flex"]
         yield f'<rect x="{LEFT}" y="{at}" width="{part * WIDTH:.1f}" height="{BAR - 1}" fill="{colour}"/>'
         yield f'<text class="small" x="{LEFT + part * WIDTH + 4:.1f}" y="{at + BAR - 2}">{seconds:.3f}</text>'
 
@@ -67,8 +67,8 @@ def picture(rows):
         parts.append(f'<rect x="{at}" y="10" width="12" height="12" fill="{colour}"/><text x="{at + 17}" y="20">{label}</text>')
         at += 90
     parts.append(f'<text class="small" x="{at}" y="20">seconds for 20 MB; bars are parts of flex\'s time</text>')
-    for place, (name, medians) in enumerate(rows):
-        parts.extend(bars(name, medians, HEAD + place * step))
+    for place, (name, times) in enumerate(rows):
+        parts.extend(bars(name, times, HEAD + place * step))
     parts.append("</svg>")
     return "\n".join(parts) + "\n"
 
